@@ -1,0 +1,72 @@
+-- What a journal answers to each transaction, and what it leaves in each memory.
+use Rattle.std.specs.Prelude.{ℕ, ◌^◌, Bool, ◌&&◌, ◌==◌, not, List, [], ◌∷◌, map, filter_map, flat_map, fold, max, replicate, Option, Some, None, bytes_eq, if◌then◌else◌}
+use Rattle.sb_word.specs.Words.{opcode_of}
+use Rattle.sb_word.specs.declared.command.Op.{Op}
+use Rattle.sb_word.specs.declared.command.Op.TheVariants.{ReqRd, ReqWr, ReqWrPosted, ReqAtomic, RespRd, RespWr}
+use Rattle.sb_packet.specs.Accesses.{Access}
+use Rattle.sb_packet.specs.Memories.{MemoryState, access_step, access_answer, memory_after, answers_in, reply}
+use Rattle.sb_packet.specs.Networks.{NetHost, Network, device_at, opening_memory}
+use Rattle.sb_packet.specs.Scripts.{transaction_accesses, script_accesses}
+use Rattle.sb_packet.specs.Journals.{journal_accesses, flow_part}
+use Rattle.sb_packet.specs.declared.entry.Entry.{Entry}
+use Rattle.sb_packet.specs.declared.transaction.Txn.{Txn}
+
+abbrev pub same_bool : Bool → Bool → Bool
+same_bool a b = if a then b else not b
+
+-- two accesses are equal in every field
+abbrev pub same_access : Access → Access → Bool
+same_access a b =
+    (a.src == b.src) && (a.dst == b.dst) && (opcode_of a.op == opcode_of b.op) && (a.atomic == b.atomic)
+    && (a.size == b.size) && (a.host == b.host) && bytes_eq a.bytes b.bytes && same_bool a.last b.last
+    && (a.qos == b.qos) && (a.prot == b.prot) && same_bool a.eof b.eof && same_bool a.ex b.ex && (a.tail == b.tail)
+
+-- what a run of accesses does to a device from its opening memory: its last memory, and an answer for each access
+pub record DeviceRun : Type 0 where
+  pub memory : MemoryState
+  pub answers : List (Option Access)
+
+abbrev pub access_run : Network → ℕ → List Access → DeviceRun
+access_run network d list = record { memory = memory_after (opening_memory network d) list; answers = answers_in (opening_memory network d) list }
+
+-- the answer that an access has in such a run, at the first place where it stands
+abbrev pub answer_at_first : MemoryState → List Access → Access → Option Access
+answer_at_first m [] a = None
+answer_at_first m (x ∷ rest) a = if same_access x a then access_answer m x else answer_at_first (access_step m x) rest a
+
+-- the answer to a request at no device: code 3, and zeros where bytes were asked for
+abbrev pub unreached_by : Op → Access → Option Access
+unreached_by ReqRd a = Some (reply a RespRd 3 (replicate (2 ^ a.size) 0))
+unreached_by ReqWr a = Some (reply a RespWr 3 [])
+unreached_by ReqWrPosted a = None
+unreached_by ReqAtomic a = Some (reply a RespRd 3 (replicate (2 ^ a.size) 0))
+unreached_by RespRd a = None
+unreached_by RespWr a = None
+
+abbrev pub answer_from : Network → List Entry → Access → Option ℕ → Option Access
+answer_from network journal a None = unreached_by a.op a
+answer_from network journal a (Some d) = answer_at_first (opening_memory network d) (journal_accesses journal d) a
+
+-- The answer to a word of a script: the one that its device gave where the journal has it, or that of no device.
+abbrev pub access_reply : Network → List Entry → Access → Option Access
+access_reply network journal a = answer_from network journal a (device_at network a.dst)
+
+-- the answers to the words of transaction i of a host, in order
+abbrev pub transaction_answers : Network → List Entry → NetHost → ℕ → Txn → List Access
+transaction_answers network journal host i t = filter_map (access_reply network journal) (transaction_accesses host i t)
+
+-- the answers to all words of a host at a device, in order
+abbrev pub flow_answers : Network → List Entry → NetHost → ℕ → List Access
+flow_answers network journal host d = filter_map (access_reply network journal) (flow_part network host d (script_accesses host))
+
+-- The code of an answered transaction is the greatest code of its words.
+abbrev pub answer_code : List Access → ℕ
+answer_code answers = fold max 0 (map (λ a. a.tail) answers)
+
+-- Its body is the bytes of its words, one after another.
+abbrev pub answer_body : List Access → List ℕ
+answer_body answers = flat_map (λ a. a.bytes) answers
+
+-- A device's memory in the end.
+abbrev pub final_memory : Network → List Entry → ℕ → MemoryState
+final_memory network journal d = (access_run network d (journal_accesses journal d)).memory

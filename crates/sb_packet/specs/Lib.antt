@@ -1,0 +1,16 @@
+pub mod Spans
+pub mod Ledger
+pub mod Names
+pub mod Padded
+pub mod Messages
+pub mod Accesses
+pub mod Memories
+pub mod Networks
+pub mod Scripts
+pub mod Cuts
+pub mod Journals
+pub mod Answers
+pub mod Outcomes
+pub mod Reports
+pub mod Solo
+pub mod SoloRuns

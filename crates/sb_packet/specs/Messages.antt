@@ -1,0 +1,58 @@
+-- What a packet says. A packet, a part of one and a whole transaction are all messages: words of one size that lie one after another.
+use Rattle.std.specs.Prelude.{ℕ, ◌*◌, ◌^◌, Bool, List, take}
+use Rattle.sb_word.specs.declared.command.Op.{Op}
+use Rattle.sb_word.specs.declared.command.Op.TheVariants.{ReqAtomic}
+use Rattle.sb_packet.specs.Spans.{word_count_of, carried_of}
+use Rattle.sb_packet.specs.declared.packet.Packet.{Packet}
+
+pub record Message : Type 0 where
+  pub op : Op
+  -- the type of an atomic, and 0 for all else
+  pub atomic : ℕ
+  -- a word has 2 ^ size bytes
+  pub size : ℕ
+  -- the id of the host that asked
+  pub host : ℕ
+  -- the first word's addresses: where it goes, and where it comes from
+  pub dst : ℕ
+  pub src : ℕ
+  -- the number of words
+  pub count : ℕ
+  -- the bytes that it carries, all words' one after another
+  pub bytes : List ℕ
+  -- it ends its transaction
+  pub eom : Bool
+  -- fields that are carried unchanged, and the code of an answer
+  pub qos : ℕ
+  pub prot : ℕ
+  pub eof : Bool
+  pub ex : Bool
+  pub tail : ℕ
+
+-- how many bytes a message speaks of
+abbrev pub message_span : Message → ℕ
+message_span m = m.count * 2 ^ m.size
+
+-- the type of an atomic stands in its `len`
+abbrev pub atomic_type_of : Op → ℕ → ℕ
+atomic_type_of ReqAtomic len = len
+atomic_type_of _ len = 0
+
+-- what a packet says
+abbrev pub message_of : Packet → Message
+message_of p = record {
+  op = p.cmd.op;
+  atomic = atomic_type_of p.cmd.op p.cmd.len;
+  size = p.cmd.size;
+  host = p.cmd.host;
+  dst = p.dst;
+  src = p.src;
+  count = word_count_of p.cmd;
+  bytes = take (carried_of p.cmd) p.body;
+  eom = p.cmd.eom;
+  qos = p.cmd.qos;
+  prot = p.cmd.prot;
+  eof = p.cmd.eof;
+  ex = p.cmd.ex;
+  tail = p.cmd.tail;
+}

@@ -1,0 +1,25 @@
+//! Packets, transactions and journals, and the definitions that every contract above cites (in `specs/`).
+#![tactic(auto)]
+
+mod bytes;
+mod entry;
+mod item;
+mod journal;
+mod name;
+mod packet;
+mod padding;
+mod path;
+mod script;
+mod transaction;
+
+pub use bytes::Bytes;
+pub use entry::Entry;
+pub use item::Item;
+pub use journal::Journal;
+pub use name::Name;
+pub use packet::Packet;
+pub use padding::padded;
+pub use path::Path;
+pub use sb_word::{Cmd, Op};
+pub use script::Script;
+pub use transaction::{Code, Kind, Txn, TxnState};
