@@ -27,24 +27,27 @@ atomic_type_of_kind (Atomic type) = type
 abbrev pub reply_address : ℕ → ℕ → ℕ
 reply_address id i = id * 2 ^ 40 + i * 2 ^ 11
 
--- transaction i of a host, as one message
-abbrev pub transaction_message : NetHost → ℕ → Txn → Message
-transaction_message host i t = record {
+-- transaction i of the host with that id, qos and prot, as one message
+abbrev pub request_message : ℕ → ℕ → ℕ → ℕ → Txn → Message
+request_message id qos prot i t = record {
   op = request_of t.kind;
   atomic = atomic_type_of_kind t.kind;
   size = t.size;
-  host = host.id;
+  host = id;
   dst = t.addr;
-  src = reply_address host.id i;
+  src = reply_address id i;
   count = t.count;
   bytes = t.body;
   eom = true;
-  qos = host.qos;
-  prot = host.prot;
+  qos = qos;
+  prot = prot;
   eof = false;
   ex = false;
   tail = 0;
 }
+
+abbrev pub transaction_message : NetHost → ℕ → Txn → Message
+transaction_message host i t = request_message host.id host.qos host.prot i t
 
 -- the words of transaction i of a host, in order
 abbrev pub transaction_accesses : NetHost → ℕ → Txn → List Access

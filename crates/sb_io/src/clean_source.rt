@@ -1,0 +1,63 @@
+//! A source in memory that never fails.
+
+ghost use Rattle.std.specs.Prelude.{◌≡◌, ◌≢◌, ◌<◌, Some, length, IfOk};
+ghost use Rattle.sb_io.specs.Sources.{CountsReadFaults, Reads};
+ghost use Rattle.sb_io.specs.declared.source.Got.TheVariants as got;
+
+use crate::source::{Got, Source};
+use std::alloc::{AllocError, Global};
+use std::marker::Model;
+
+/// Gives its bytes in pieces, and never fails. It tells what is left.
+#[derive(Drop)]
+pub struct CleanSource {
+    bytes: Vec<u8>,
+    place: usize,
+    piece: usize,
+}
+
+impl Model for CleanSource {
+    ghost use Rattle.std.specs.Prelude.{ℕ, List, ◌<◌, ◌≤◌, drop, vec_len};
+
+    ghost Value = { List ℕ };
+
+    ghost view = { λ s. drop s.place s.bytes.items };
+
+    ghost invariant = { λ s. (s.place ≤ vec_len s.bytes) × (0 < s.piece) };
+}
+
+impl CleanSource {
+    /// A source of these bytes, of which one call gives at most `piece`.
+    pub fn new(alloc: Global, bytes: &[u8], piece: usize) -> Result<CleanSource, AllocError>
+        requires { 0 < piece }
+        ensures { IfOk result (λ s. s ≡ bytes.now) }
+    {
+        Ok(CleanSource {
+            bytes: Vec::from_slice(alloc, bytes)?,
+            place: 0,
+            piece,
+        })
+    }
+}
+
+impl Source for CleanSource {
+    ghost left = { λ s. Some s };
+
+    ghost faults = { λ _. 0 };
+
+    fn read(&mut self, buf: &mut [u8]) -> Got
+        requires { 0 < length buf.old }
+        ensures bytes { Reads (Some self.old) (Some self.new) result buf.new }
+        ensures cause { CountsReadFaults 0 0 result }
+        ensures clean { result ≢ got.Failed }
+    {
+        let rest = &self.bytes[self.place..];
+        if rest.is_empty() {
+            return Got::End;
+        }
+        let count = rest.len().min(self.piece).min(buf.len());
+        buf[..count].copy_from_slice(&rest[..count]);
+        self.place += count;
+        Got::Bytes(count)
+    }
+}

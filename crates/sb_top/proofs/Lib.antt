@@ -1,0 +1,6 @@
+pub mod HexLemmas
+pub mod IndexedLemmas
+pub mod InputLemmas
+pub mod OutputLemmas
+pub mod PrintLemmas
+pub mod RowLemmas

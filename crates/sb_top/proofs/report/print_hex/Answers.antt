@@ -1,0 +1,23 @@
+use Rattle.std.proofs.Common.{◌≤◌, ◌+◌, ◌∙◌, length, arith, refl}
+use Rattle.sb_top.proofs.OutputLemmas.{on_err}
+use Rattle.sb_top.proofs.PrintLemmas.{hex_nothing, hex_more, hex_part}
+use Rattle.sb_top.proofs.report.print_hex.Goals as goal
+
+pub loop-at-init : goal.loop-at-init
+loop-at-init g c = record {
+  within = omega arith;
+  printed = hex_nothing (g.K.Sink.held c.args.sink.now) c.args.waiting.now c.args.bytes.now;
+  clean = refl;
+}
+
+pub returns-in_err-print_digits-clause-part : goal.returns-in_err-print_digits-clause-part
+returns-in_err-print_digits-clause-part g c =
+    let within : c.loop-at.at + c.min-count.result ≤ length c.args.bytes.now = omega arith in
+    on_err _ _ (hex_part _ _ _ _ _ c.args.bytes.now c.loop-at.at c.min-count.result within c.loop-at.invariant.printed c.in_err-print_digits.ensures.part)
+
+pub loop-at-preserved : goal.loop-at-preserved
+loop-at-preserved g c = record {
+  within = omega arith;
+  printed = hex_more _ _ _ _ _ _ c.args.bytes.now c.loop-at.at c.min-count.result c.loop-at.invariant.printed c.in_ok-print_digits.ensures.done;
+  clean = c.in_ok-print_digits.ensures.clean ∙ c.loop-at.invariant.clean;
+}

@@ -1,0 +1,39 @@
+use Rattle.std.proofs.Common.{◌≡◌, ◌≤◌, ◌<◌, ◌+◌, ◌-◌, ◌*◌, ◌/◌, ◌∙◌, ℕ, List, [], ap, sym, length, take, drop, get_or, arith}
+use Rattle.sb_packet.specs.Reports.{row_line, image_rows}
+use Rattle.sb_top.proofs.IndexedLemmas.{line_more, line_part, lines_all, length-image_rows, image_row_at}
+use Rattle.sb_top.proofs.OutputLemmas.{on_err}
+use Rattle.sb_top.proofs.report.print_image.Goals as goal
+
+-- the slice of a row is the row
+row_is : (n k : ℕ) (bytes : List ℕ) → k < n → row_line k (take (k * 32 + 32 - k * 32) (drop (k * 32) bytes)) ≡ row_line k (get_or (image_rows n bytes) k [])
+row_is n k bytes below =
+    let wide : k * 32 + 32 - k * 32 ≡ 32 = omega arith in
+    ap (row_line k) (ap (λ (m : ℕ). take m (drop (k * 32) bytes)) wide ∙ sym (image_row_at n k bytes below))
+
+pub returns-in_err-print_row-clause-part : goal.returns-in_err-print_row-clause-part
+returns-in_err-print_row-clause-part g c =
+    let bytes = c.args.bytes.now in
+    let n = length bytes / 32 in
+    let k = c.loop-k.k in
+    let inside : k < n = omega arith in
+    let below : k < length (image_rows n bytes) = rw length-image_rows inside in
+    on_err _ _ (line_part row_line _ _ _ _ _ _ (image_rows n bytes) k [] below (row_is n k bytes inside) c.loop-k.invariant.printed c.in_err-print_row.ensures.part)
+
+pub loop-k-preserved : goal.loop-k-preserved
+loop-k-preserved g c =
+    let bytes = c.args.bytes.now in
+    let n = length bytes / 32 in
+    let k = c.loop-k.k in
+    let inside : k < n = omega arith in
+    let below : k < length (image_rows n bytes) = rw length-image_rows inside in
+    record {
+      printed = line_more row_line _ _ _ _ _ _ _ (image_rows n bytes) k [] below (row_is n k bytes inside) c.loop-k.invariant.printed c.in_ok-print_row.ensures.done;
+      clean = c.in_ok-print_row.ensures.clean ∙ c.loop-k.invariant.clean;
+    }
+
+pub returns-clause-done : goal.returns-clause-done
+returns-clause-done g c =
+    let bytes = c.args.bytes.now in
+    let n = length bytes / 32 in
+    let all : length (image_rows n bytes) ≤ c.loop-k.k = rw length-image_rows (omega arith) in
+    lines_all row_line _ _ _ _ (image_rows n bytes) c.loop-k.k all c.loop-k.invariant.printed

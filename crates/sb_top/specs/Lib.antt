@@ -1,0 +1,5 @@
+pub mod Inputs
+pub mod Outputs
+pub mod Collected
+pub mod Rows
+pub mod Texts

@@ -1,0 +1,13 @@
+-- Where the bodies of outcomes stand among the bytes that were answered.
+use Rattle.std.specs.Prelude.{ℕ, ◌≤◌, ◌-◌, List, take, drop}
+use Rattle.sb_packet.specs.Outcomes.{Outcome}
+use Rattle.sb_top.specs.declared.outcomes.Row.{Row}
+
+-- the outcome of a row
+abbrev pub outcome_in : List ℕ → Row → Outcome
+outcome_in bytes row = record { state = row.state; body = take (row.end - row.start) (drop row.start bytes) }
+
+-- a row's body ends at that place or before it
+pub record EndsBy (place : ℕ) (row : Row) : Type 0 where
+  pub starts : row.start ≤ row.end
+  pub ends : row.end ≤ place

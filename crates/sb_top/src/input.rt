@@ -1,0 +1,59 @@
+//! Reading the whole input.
+
+ghost use Rattle.std.specs.Prelude.{◌≡◌, ◌≤◌, ◌<◌, ◌^◌, ◌+◌, IfOk, IsErrOf, IfSome, length, drop, option_map, vec_len};
+ghost use Rattle.sb_io.specs.Counts.{Rose};
+ghost use Rattle.sb_top.specs.Inputs.{IsWholeInput};
+ghost use Rattle.sb_top.specs.declared.input.ReadFault.TheVariants as faults;
+
+use sb_io::{Got, Source};
+use std::alloc::Global;
+
+/// The most bytes that an input may have.
+pub const LIMIT: usize = 1 << 26;
+
+const CHUNK: usize = 1 << 16;
+
+/// Why an input was not read to its end.
+#[derive(Clone, Copy, Debug, PartialEq, Eq)]
+pub enum ReadFault {
+    /// The source failed.
+    Failed,
+    /// There are more than `LIMIT` bytes.
+    TooLong,
+    /// Memory is missing.
+    Memory,
+}
+
+/// Reads a source to its end, or to one byte past the limit.
+pub fn read_all<S: Source>(alloc: Global, source: &mut S) -> Result<Vec<u8>, ReadFault>
+    ensures limit { IfOk result (λ v. vec_len v ≤ 2 ^ 26) }
+    ensures whole { IfOk result (λ v. IsWholeInput (S.left source.old) (S.left source.new) v.items) }
+    ensures failed { IsErrOf result faults.Failed → Rose (S.faults source.old) (S.faults source.new) }
+    ensures long { IsErrOf result faults.TooLong → IfSome (S.left source.old) (λ left. 2 ^ 26 < length left) }
+    ensures taken { IsErrOf result faults.TooLong → S.left source.new ≡ option_map (drop (2 ^ 26 + 1)) (S.left source.old) }
+    ensures count { S.faults source.old ≤ S.faults source.new }
+{
+    let mut bytes = Vec::new(alloc);
+    let mut buf = [0u8; CHUNK];
+    for turn in 0..LIMIT + 1 {
+        let want = (LIMIT + 1 - bytes.len()).min(CHUNK);
+        if want == 0 {
+            return Err(ReadFault::TooLong);
+        }
+        match source.read(&mut buf[..want]) {
+            Got::Bytes(count) => {
+                if bytes.extend_from_slice(&buf[..count]).is_err() {
+                    return Err(ReadFault::Memory);
+                }
+            }
+            Got::End => {
+                if bytes.len() > LIMIT {
+                    return Err(ReadFault::TooLong);
+                }
+                return Ok(bytes);
+            }
+            Got::Failed => return Err(ReadFault::Failed),
+        }
+    }
+    Err(ReadFault::TooLong)
+}

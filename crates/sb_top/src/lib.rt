@@ -1,0 +1,9 @@
+//! The top call of `sb`.
+#![tactic(auto)]
+
+mod input;
+mod lines;
+mod outcomes;
+mod output;
+mod report;
+mod waiting;
