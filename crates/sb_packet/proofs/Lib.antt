@@ -1,0 +1,5 @@
+pub mod Ranges
+pub mod CutWords
+pub mod RisingReplies
+pub mod FoundAnswers
+pub mod Examples

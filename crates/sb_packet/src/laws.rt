@@ -1,0 +1,21 @@
+//! Laws over the definitions: what any two of them have to do with each other, whatever the code does.
+
+ghost use Rattle.std.specs.Prelude.{◌≡◌, ◌<◌, ℕ, List, ◌++◌, flat_map, map, AllPairs};
+ghost use Rattle.sb_packet.specs.Accesses.{Access, message_accesses};
+ghost use Rattle.sb_packet.specs.Answers.{answer_at_first};
+ghost use Rattle.sb_packet.specs.Cuts.{cut_parts};
+ghost use Rattle.sb_packet.specs.Memories.{MemoryState, answers_in, memory_after};
+ghost use Rattle.sb_packet.specs.Messages.{Message};
+
+/// Cutting keeps the words: those of all parts of a message, one part after another, are the message's own.
+pub fn packets_keep_the_words()
+    ensures { (width : ℕ) (m : Message) → flat_map message_accesses (cut_parts width m) ≡ message_accesses m }
+{}
+
+/// An access is found by its reply address: where these rise, the first place at which an access stands is its own.
+/// A run over two lists is the run over the first and then over the second.
+pub fn answers_are_found()
+    ensures found { (m : MemoryState) (list : List Access) → AllPairs (λ a b. a.src < b.src) list → map (answer_at_first m list) list ≡ answers_in m list }
+    ensures answers { (m : MemoryState) (xs ys : List Access) → answers_in m (xs ++ ys) ≡ answers_in m xs ++ answers_in (memory_after m xs) ys }
+    ensures memory { (m : MemoryState) (xs ys : List Access) → memory_after m (xs ++ ys) ≡ memory_after (memory_after m xs) ys }
+{}
