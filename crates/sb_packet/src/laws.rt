@@ -1,15 +1,24 @@
 //! Laws over the definitions: what any two of them have to do with each other, whatever the code does.
 
-ghost use Rattle.std.specs.Prelude.{◌≡◌, ◌<◌, ℕ, List, ◌++◌, flat_map, map, AllPairs};
+ghost use Rattle.std.specs.Prelude.{◌≡◌, ◌≤◌, ◌<◌, ◌/◌, ◌^◌, ℕ, List, ◌++◌, length, flat_map, map, All, AllPairs};
 ghost use Rattle.sb_packet.specs.Accesses.{Access, message_accesses};
 ghost use Rattle.sb_packet.specs.Answers.{answer_at_first};
 ghost use Rattle.sb_packet.specs.Cuts.{cut_parts};
 ghost use Rattle.sb_packet.specs.Memories.{MemoryState, answers_in, memory_after};
 ghost use Rattle.sb_packet.specs.Messages.{Message};
+ghost use Rattle.sb_packet.specs.Networks.{NetHost};
+ghost use Rattle.sb_packet.specs.Scripts.{IsTransaction, script_accesses};
 
 /// Cutting keeps the words: those of all parts of a message, one part after another, are the message's own.
 pub fn packets_keep_the_words()
     ensures { (width : ℕ) (m : Message) → flat_map message_accesses (cut_parts width m) ≡ message_accesses m }
+{}
+
+/// No two words of a script are answered at one address: each reply address is below those of all later words. The
+/// bits from 40 on tell the host.
+pub fn reply_addresses_differ()
+    ensures rise { (host : NetHost) → All IsTransaction host.script → AllPairs (λ a b. a.src < b.src) (script_accesses host) }
+    ensures host { (host : NetHost) → All IsTransaction host.script → length host.script ≤ 65536 → All (λ a. a.src / 2 ^ 40 ≡ host.id) (script_accesses host) }
 {}
 
 /// An access is found by its reply address: where these rise, the first place at which an access stands is its own.
