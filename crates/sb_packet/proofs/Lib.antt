@@ -6,3 +6,6 @@ pub mod Examples
 pub mod Lists
 pub mod ReplyAddresses
 pub mod Pages
+pub mod SoloWords
+pub mod SoloLawful
+pub mod SoloResults

@@ -20,6 +20,11 @@ module _ {X : Type 0} (P : X → Type 0) where
       let inside : k < n = rw length-map-range_with_len at below in
       subst P (sym (get_or-map-range_with_len f 0 n k k d inside (omega arith))) (each k inside)
 
+  -- what holds of all pieces one after another holds of each piece
+  pub All-pieces : {Y : Type 0} (f : Y → List X) (ys : List Y) → All P (flat_map f ys) → All (λ y. All P (f y)) ys
+  All-pieces f [] h = All-nil (λ y. All P (f y))
+  All-pieces f (y ∷ ys) h = All-cons (λ y. All P (f y)) y ys (All-left (f y) (flat_map f ys) h) (All-pieces f ys (All-right (f y) (flat_map f ys) h))
+
 module _ {X : Type 0} (test : X → Bool) where
   -- what passes is kept
   pub filter_all : (xs : List X) → All (λ x. test x ≡ true) xs → filter test xs ≡ xs

@@ -8,6 +8,10 @@ ghost use Rattle.sb_packet.specs.Memories.{MemoryState, answers_in, memory_after
 ghost use Rattle.sb_packet.specs.Messages.{Message};
 ghost use Rattle.sb_packet.specs.Networks.{NetHost};
 ghost use Rattle.sb_packet.specs.Scripts.{IsTransaction, script_accesses};
+ghost use Rattle.sb_packet.specs.Journals.{IsLawful};
+ghost use Rattle.sb_packet.specs.Solo.{solo_network, IsSoloJournal};
+ghost use Rattle.sb_packet.specs.declared.entry.Entry.{Entry};
+ghost use Rattle.sb_packet.specs.declared.transaction.Txn.{Txn};
 
 /// Cutting keeps the words: those of all parts of a message, one part after another, are the message's own.
 pub fn packets_keep_the_words()
@@ -27,4 +31,9 @@ pub fn answers_are_found()
     ensures found { (m : MemoryState) (list : List Access) → AllPairs (λ a b. a.src < b.src) list → map (answer_at_first m list) list ≡ answers_in m list }
     ensures answers { (m : MemoryState) (xs ys : List Access) → answers_in m (xs ++ ys) ≡ answers_in m xs ++ answers_in (memory_after m xs) ys }
     ensures memory { (m : MemoryState) (xs ys : List Access) → memory_after m (xs ++ ys) ≡ memory_after (memory_after m xs) ys }
+{}
+
+/// A solo journal is one legal history of its script.
+pub fn solo_journals_are_lawful()
+    ensures { (script : List Txn) (journal : List Entry) → All IsTransaction script → IsSoloJournal script journal → IsLawful (solo_network script) journal }
 {}
