@@ -9,3 +9,4 @@ pub mod Pages
 pub mod SoloWords
 pub mod SoloLawful
 pub mod SoloResults
+pub mod SoloCounts

@@ -1,6 +1,6 @@
 //! Laws over the definitions: what any two of them have to do with each other, whatever the code does.
 
-ghost use Rattle.std.specs.Prelude.{◌≡◌, ◌≤◌, ◌<◌, ◌/◌, ◌^◌, ℕ, List, ◌++◌, length, flat_map, map, All, AllPairs};
+ghost use Rattle.std.specs.Prelude.{◌≡◌, ◌≤◌, ◌<◌, ◌/◌, ◌^◌, ℕ, List, ◌++◌, length, flat_map, map, sum_by, All, AllPairs};
 ghost use Rattle.sb_packet.specs.Accesses.{Access, message_accesses};
 ghost use Rattle.sb_packet.specs.Answers.{answer_at_first};
 ghost use Rattle.sb_packet.specs.Cuts.{cut_parts};
@@ -9,7 +9,9 @@ ghost use Rattle.sb_packet.specs.Messages.{Message};
 ghost use Rattle.sb_packet.specs.Networks.{NetHost};
 ghost use Rattle.sb_packet.specs.Scripts.{IsTransaction, script_accesses};
 ghost use Rattle.sb_packet.specs.Journals.{IsLawful};
-ghost use Rattle.sb_packet.specs.Solo.{solo_network, IsSoloJournal};
+ghost use Rattle.sb_packet.specs.Solo.{solo_network, solo_packets, IsSoloJournal};
+ghost use Rattle.sb_packet.specs.Outcomes.{run_results};
+ghost use Rattle.sb_packet.specs.SoloRuns.{solo_outcomes_from, solo_results};
 ghost use Rattle.sb_packet.specs.declared.entry.Entry.{Entry};
 ghost use Rattle.sb_packet.specs.declared.transaction.Txn.{Txn};
 
@@ -36,4 +38,19 @@ pub fn answers_are_found()
 /// A solo journal is one legal history of its script.
 pub fn solo_journals_are_lawful()
     ensures { (script : List Txn) (journal : List Entry) → All IsTransaction script → IsSoloJournal script journal → IsLawful (solo_network script) journal }
+{}
+
+/// What a solo journal comes to is what its script comes to, transaction by transaction.
+pub fn solo_results_are_the_journals()
+    ensures { (script : List Txn) (journal : List Entry) → All IsTransaction script → IsSoloJournal script journal → run_results (solo_network script) journal ≡ solo_results script }
+{}
+
+/// A script has no more packets than words.
+pub fn solo_packets_are_few()
+    ensures { (script : List Txn) → All IsTransaction script → length (solo_packets script) ≤ sum_by (λ t. t.count) script }
+{}
+
+/// Each transaction has an outcome.
+pub fn outcomes_are_many()
+    ensures { (script : List Txn) (i : ℕ) (m : MemoryState) (txns : List Txn) → length (solo_outcomes_from script i m txns) ≡ length txns }
 {}
