@@ -5,7 +5,7 @@ use Rattle.std.specs.List.{range_with_len}
 use Rattle.std.proofs.Math.Nat.{mul-le-mul_right, div-mul-le_self}
 use Rattle.std.proofs.lemmas.List.{drop-take, take-take, drop-drop, append-nil}
 use Rattle.std.proofs.lemmas.Bool.Decides.{nat_tests}
-use Rattle.sb_packet.specs.Accesses.{Access, share, access_at, message_accesses}
+use Rattle.sb_packet.specs.Accesses.{share, access_at, message_accesses}
 use Rattle.sb_packet.specs.Messages.{Message, message_span}
 use Rattle.sb_packet.specs.Cuts.{part_of, first_part, other_parts, words_in, is_one_part, is_indivisible, cut_parts, parts_in}
 use Rattle.sb_packet.proofs.Ranges.{range_agrees, range_split}

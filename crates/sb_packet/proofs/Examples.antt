@@ -1,19 +1,19 @@
--- The definitions computed on small cases.
-use Rattle.std.proofs.Common.{◌≡◌, lit≤, replicate, refl, [], ◌∷◌, ◌++◌, List, ℕ, false, true, Some, None, ◌+◌, ◌*◌, ◌^◌}
-use Rattle.std.specs.Prelude.{Bool, Option, codes}
-use Rattle.std.specs.Fmt.{digits}
-use Rattle.hex.specs.Hex.{encode_with}
+-- The definitions of accesses, memories and packets computed on small cases.
+use Rattle.std.proofs.Common.{◌≡◌, replicate, refl, [], ◌∷◌, ◌++◌, List, ℕ, false, true, Some, None}
+use Rattle.std.specs.Prelude.{codes}
+use Rattle.std.specs.List.{range_with_len}
 use Rattle.sb_packet.specs.Accesses.{Access}
-use Rattle.sb_packet.specs.Memories.{MemoryState, access_step, access_answer, memory_after, answers_in, combined, reply}
-use Rattle.sb_packet.specs.Networks.{NetHost, NetDevice, Network}
+use Rattle.sb_packet.specs.Memories.{MemoryState, access_step, access_answer, memory_after, answers_in, combined}
+use Rattle.sb_packet.specs.Networks.{NetHost}
 use Rattle.sb_packet.specs.Scripts.{script_accesses}
-use Rattle.sb_packet.specs.Reports.{run_report, entry_line}
-use Rattle.sb_packet.specs.Solo.{solo_network}
-use Rattle.sb_packet.specs.declared.entry.Entry.{Entry}
-use Rattle.sb_packet.specs.declared.packet.Packet.{Packet}
+use Rattle.sb_packet.specs.Cuts.{transaction_packets}
+use Rattle.sb_packet.specs.Outcomes.{host_outcomes}
+use Rattle.sb_packet.specs.Solo.{solo_network, solo_host, solo_packets}
 use Rattle.sb_packet.specs.declared.transaction.Txn.{Txn}
-use Rattle.sb_packet.specs.declared.transaction.Kind.TheVariants.{Read, Write, Posted, Atomic}
-use Rattle.sb_word.specs.declared.command.Cmd.{Cmd}
+use Rattle.sb_packet.specs.declared.transaction.Kind.TheVariants.{Read, Write, Posted}
+use Rattle.sb_packet.specs.declared.transaction.Code.TheVariants as the_codes
+use Rattle.sb_packet.specs.declared.transaction.TxnState.TheVariants as the_states
+use Rattle.sb_packet.specs.declared.transaction.TxnState.TheVariants.{Answered}
 use Rattle.sb_word.specs.declared.command.Op.TheVariants.{ReqRd, ReqWr, ReqWrPosted, ReqAtomic, RespRd, RespWr}
 
 -- Host 2 writes two words of two bytes at 16, and then reads one word of eight bytes at 4,096.
@@ -120,38 +120,28 @@ refused = refl
 pub unchanged : memory_after refusing (the_write ∷ record the_write { op = ReqWrPosted } ∷ record the_write { op = ReqAtomic; atomic = 8 } ∷ the_read ∷ []) ≡ refusing
 unchanged = refl
 
--- the network of `solo`, with a memory of one page
-abbrev one_page : List Txn → Network
-one_page script = record (solo_network script) { devices = record { name = codes "mem"; base = 0; pages = 1; readonly = false; image = [] } ∷ [] }
+-- a script whose read and posted write lie behind the memory of `solo`, which ends at 65,536
+abbrev behind_the_memory : List Txn
+behind_the_memory =
+    record { kind = Read; size = 1; addr = 65536; count = 2; body = [] }
+    ∷ record { kind = Posted; size = 0; addr = 65540; count = 1; body = 9 ∷ [] } ∷ []
 
--- The text of a script that asks for nothing.
-pub text_of_nothing : run_report (one_page []) [] false None ≡ codes "sb 1\nhost host 0\ndevice mem 1\nend\n"
-unfolding digits
-text_of_nothing = refl
+-- No device has the addresses, so the read is answered with code 3 and zeros, and the journal may be empty.
+pub lost_outcomes : host_outcomes (solo_network behind_the_memory) [] (solo_host behind_the_memory) ≡
+    record { state = Answered the_codes.NetErr; body = 0 ∷ 0 ∷ 0 ∷ 0 ∷ [] } ∷ record { state = the_states.Posted; body = [] } ∷ []
+lost_outcomes = refl
 
--- a write of 01 to 08 at 0x10, and a read of the same word
-abbrev write_and_read : List Txn
-write_and_read =
-    record { kind = Write; size = 3; addr = 16; count = 1; body = 1 ∷ 2 ∷ 3 ∷ 4 ∷ 5 ∷ 6 ∷ 7 ∷ 8 ∷ [] }
-    ∷ record { kind = Read; size = 3; addr = 16; count = 1; body = [] } ∷ []
+-- No packet of it is aimed at the memory.
+pub lost_packets : solo_packets behind_the_memory ≡ []
+lost_packets = refl
 
--- a request of host 0 for one word of eight bytes that ends its transaction
-abbrev plain_write : Cmd
-plain_write = record { op = ReqWr; size = 3; len = 0; qos = 0; prot = 0; eom = true; eof = false; ex = false; tail = 0; host = 0; size_fits = lit≤ tt; qos_fits = lit≤ tt; prot_fits = lit≤ tt; tail_fits = lit≤ tt; host_fits = lit≤ tt; atomic_type_fits = λ h. lit≤ tt }
+-- the words of `count` from 1 on, of one byte each
+abbrev counted : ℕ → ℕ → List ℕ
+counted a n = range_with_len a n
 
-abbrev plain_read : Cmd
-plain_read = record { op = ReqRd; size = 3; len = 0; qos = 0; prot = 0; eom = true; eof = false; ex = false; tail = 0; host = 0; size_fits = lit≤ tt; qos_fits = lit≤ tt; prot_fits = lit≤ tt; tail_fits = lit≤ tt; host_fits = lit≤ tt; atomic_type_fits = λ h. lit≤ tt }
-
--- the packets of these transactions
-abbrev write_packet : Packet
-write_packet = record { cmd = plain_write; dst = 16; src = 0; body = 1 ∷ 2 ∷ 3 ∷ 4 ∷ 5 ∷ 6 ∷ 7 ∷ 8 ∷ replicate 24 0; whole = refl; fits = lit≤ tt; dst_aligned = refl; src_aligned = refl; dst_in_range = lit≤ tt; src_in_range = lit≤ tt; padding = refl }
-
-abbrev read_packet : Packet
-read_packet = record { cmd = plain_read; dst = 16; src = 2048; body = replicate 32 0; whole = refl; fits = lit≤ tt; dst_aligned = refl; src_aligned = refl; dst_in_range = lit≤ tt; src_in_range = lit≤ tt; padding = refl }
-
--- The text of that script: the write is answered with no bytes, the read with the bytes, and the memory has one row that isn't zeros.
-pub text_of_a_write_and_a_read :
-    run_report (one_page write_and_read) (record { round = 0; device = 0; packet = write_packet } ∷ record { round = 0; device = 0; packet = read_packet } ∷ []) false None
-    ≡ codes "sb 1\nhost host 2\nt 0 ok -\nt 1 ok 0102030405060708\ndevice mem 1\nm 00000 0000000000000000000000000000000001020304050607080000000000000000\nend\n"
-unfolding digits encode_with
-text_of_a_write_and_a_read = refl
+-- Transaction 3 of host 1: a write of five words of eight bytes at 512. At most 32 bytes go into a packet, so the first
+-- one has four words and doesn't end the transaction, and the second lies 32 bytes further at both addresses, and does.
+pub cut_in_two : transaction_packets (record two_asks { id = 1 }) 3 (record { kind = Write; size = 3; addr = 512; count = 5; body = counted 1 40 }) ≡
+    record { op = ReqWr; atomic = 0; size = 3; host = 1; dst = 512; src = 1099511633920; count = 4; bytes = counted 1 32; eom = false; qos = 3; prot = 1; eof = false; ex = false; tail = 0 }
+    ∷ record { op = ReqWr; atomic = 0; size = 3; host = 1; dst = 544; src = 1099511633952; count = 1; bytes = counted 33 8; eom = true; qos = 3; prot = 1; eof = false; ex = false; tail = 0 } ∷ []
+cut_in_two = refl

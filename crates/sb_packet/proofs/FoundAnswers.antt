@@ -1,5 +1,5 @@
 -- Where reply addresses rise, the answer at the first place of an access is its answer in the run.
-use Rattle.std.proofs.Common.{◌≡◌, ◌≤◌, ◌<◌, ℕ, zero, suc, ◌+◌, List, [], ◌∷◌, ◌++◌, ap, sym, ◌∙◌, refl, arith, append_assoc, subst, Bool, true, false, cond, length}
+use Rattle.std.proofs.Common.{◌≡◌, ◌<◌, ℕ, suc, ◌+◌, List, [], ◌∷◌, ◌++◌, ap, sym, ◌∙◌, refl, arith, append_assoc, subst, Bool, true, false, cond, length}
 use Rattle.std.specs.Prelude.{◌==◌, Option, map, bytes_eq, AllPairs}
 use Rattle.std.proofs.lemmas.Bool.Decides.{nat_tests}
 use Rattle.sb_packet.specs.Accesses.{Access}

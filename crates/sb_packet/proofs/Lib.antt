@@ -1,12 +1,13 @@
 pub mod Ranges
+pub mod Lists
 pub mod CutWords
 pub mod RisingReplies
 pub mod FoundAnswers
-pub mod Examples
-pub mod Lists
 pub mod ReplyAddresses
 pub mod Pages
 pub mod SoloWords
 pub mod SoloLawful
 pub mod SoloResults
 pub mod SoloCounts
+pub mod Examples
+pub mod ReportExamples

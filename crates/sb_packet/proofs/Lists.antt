@@ -1,6 +1,6 @@
 -- Facts about all elements of a list, and lists that are filtered or joined.
-use Rattle.std.proofs.Common.{◌≡◌, ◌<◌, ℕ, zero, suc, ◌+◌, List, [], ◌∷◌, ◌++◌, ap, ◌∙◌, sym, refl, arith, subst, Bool, true, false, cond, length}
-use Rattle.std.specs.Prelude.{map, filter, flat_map, All, get_or}
+use Rattle.std.proofs.Common.{◌≡◌, ◌<◌, ℕ, List, [], ◌∷◌, ◌++◌, ap, ◌∙◌, sym, refl, arith, subst, Bool, true, false, cond, length}
+use Rattle.std.specs.Prelude.{map, filter, flat_map, All}
 use Rattle.std.specs.List.{range_with_len}
 use Rattle.std.proofs.lemmas.List.Elements.{All-nil, All-cons, All-head, All-tail}
 use Rattle.std.proofs.lemmas.List.FromFn.{get_or-map-range_with_len, length-map-range_with_len}

@@ -1,13 +1,12 @@
 -- How many packets and outcomes a script has.
-use Rattle.std.proofs.Common.{◌≡◌, ◌≤◌, ◌<◌, ℕ, zero, suc, ◌+◌, ◌-◌, ◌*◌, ◌/◌, ◌^◌, List, [], ◌∷◌, ◌++◌, ap, sym, ◌∙◌, refl, arith, Bool, true, false, length, length-append}
-use Rattle.std.specs.Prelude.{flat_map, sum_by, All, if◌then◌else◌}
-use Rattle.std.specs.List.{enumerate_from}
+use Rattle.std.proofs.Common.{◌≡◌, ◌≤◌, ◌<◌, ℕ, zero, suc, ◌+◌, ◌-◌, ◌/◌, ◌^◌, List, [], ◌∷◌, ◌++◌, ap, refl, arith, true, false, length, length-append}
+use Rattle.std.specs.Prelude.{sum_by, All, if◌then◌else◌}
 use Rattle.std.proofs.lemmas.List.Elements.{All-head, All-tail}
 use Rattle.std.proofs.lemmas.List.Sums.{sum_by-cons}
 use Rattle.sb_packet.specs.Messages.{Message}
 use Rattle.sb_packet.specs.Memories.{MemoryState}
 use Rattle.sb_packet.specs.Networks.{has_address}
-use Rattle.sb_packet.specs.Cuts.{first_part, other_parts, words_in, is_one_part, parts_in, cut_parts, transaction_packets}
+use Rattle.sb_packet.specs.Cuts.{first_part, other_parts, words_in, is_one_part, parts_in, transaction_packets}
 use Rattle.sb_packet.specs.Scripts.{IsTransaction, transaction_message}
 use Rattle.sb_packet.specs.Solo.{solo_host, solo_device, solo_packets_from, solo_packets}
 use Rattle.sb_packet.specs.SoloRuns.{solo_step, solo_outcomes_from}

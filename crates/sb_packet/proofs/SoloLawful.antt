@@ -1,17 +1,16 @@
 -- A solo journal is a lawful history of its script.
-use Rattle.std.proofs.Common.{◌≡◌, ◌≤◌, ◌<◌, ℕ, zero, suc, ◌+◌, ◌*◌, List, [], ◌∷◌, ◌++◌, ap, sym, ◌∙◌, refl, arith, subst, Bool, true, false, cond, length}
-use Rattle.std.specs.Prelude.{◌==◌, ◌&&◌, map, filter, flat_map, All, Contains, IsTrue, get_or}
+use Rattle.std.proofs.Common.{◌≡◌, ◌<◌, ℕ, zero, suc, List, [], ◌∷◌, ap, sym, ◌∙◌, refl, arith, subst, Bool, true, false, length}
+use Rattle.std.specs.Prelude.{◌==◌, ◌&&◌, filter, flat_map, All, get_or}
 use Rattle.std.proofs.lemmas.List.Elements.{All-nil, All-cons, All-tail, All-weaker}
 use Rattle.sb_word.specs.declared.command.Op.{Op}
 use Rattle.sb_word.specs.declared.command.Op.TheVariants.{ReqRd, ReqWr, ReqWrPosted, ReqAtomic, RespRd, RespWr}
-use Rattle.sb_packet.specs.Spans.{word_count_of, word_count_by}
+use Rattle.sb_packet.specs.Spans.{word_count_by}
 use Rattle.sb_packet.specs.Accesses.{Access, access_at, accesses_of, message_accesses}
 use Rattle.sb_packet.specs.Messages.{Message, message_of}
 use Rattle.sb_packet.specs.Scripts.{IsTransaction, script_accesses}
 use Rattle.sb_packet.specs.Journals.{journal_accesses, flow_part, is_at, is_in_round_order, IsPlaced, IsLawful}
 use Rattle.sb_packet.specs.Solo.{solo_network, solo_host, IsSoloJournal}
 use Rattle.sb_packet.specs.declared.entry.Entry.{Entry}
-use Rattle.sb_packet.specs.declared.packet.Packet.{Packet}
 use Rattle.sb_packet.specs.declared.transaction.Txn.{Txn}
 use Rattle.sb_packet.proofs.Lists.{All-pieces, filter_all, filter_none}
 use Rattle.sb_packet.specs.Networks.{NetHost}

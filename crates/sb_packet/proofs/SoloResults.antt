@@ -1,5 +1,5 @@
 -- What a solo journal comes to is what its script comes to, transaction by transaction.
-use Rattle.std.proofs.Common.{◌≡◌, ◌≤◌, ◌<◌, ℕ, zero, suc, ◌+◌, ◌*◌, List, [], ◌∷◌, ◌++◌, ap, sym, ◌∙◌, refl, arith, subst, Bool, true, false, cond, length}
+use Rattle.std.proofs.Common.{◌≡◌, ◌≤◌, ◌<◌, ℕ, zero, suc, ◌+◌, List, [], ◌∷◌, ◌++◌, ap, sym, ◌∙◌, refl, arith, subst, Bool, true, false, cond, length}
 use Rattle.std.specs.Prelude.{Option, Some, None, map, filter_map, All, AllPairs, if◌then◌else◌}
 use Rattle.std.specs.List.{range_with_len, enumerate_from}
 use Rattle.std.proofs.lemmas.List.{map-append, length-map}
@@ -7,13 +7,13 @@ use Rattle.std.proofs.lemmas.List.Kept.{AllPairs-filter}
 use Rattle.std.proofs.lemmas.List.Elements.{All-head, All-tail}
 use Rattle.sb_packet.specs.Accesses.{Access, access_at}
 use Rattle.sb_packet.specs.Memories.{MemoryState, memory_after, answers_in}
-use Rattle.sb_packet.specs.Networks.{device_at, opening_memory, has_address}
+use Rattle.sb_packet.specs.Networks.{opening_memory, has_address}
 use Rattle.sb_packet.specs.Scripts.{IsTransaction, transaction_message, transaction_accesses, script_accesses}
 use Rattle.sb_packet.specs.Journals.{journal_accesses}
 use Rattle.sb_packet.specs.Answers.{answer_at_first, answer_from, access_reply, transaction_answers, unreached_by, final_memory}
 use Rattle.sb_packet.specs.Outcomes.{Outcome, RunResults, outcome_of, host_outcomes, run_results}
 use Rattle.sb_packet.specs.Solo.{solo_network, solo_host, solo_device, IsSoloJournal}
-use Rattle.sb_packet.specs.SoloRuns.{solo_opening, solo_answers, solo_step, solo_outcomes_from, solo_memory_from, solo_results}
+use Rattle.sb_packet.specs.SoloRuns.{solo_opening, solo_outcomes_from, solo_memory_from, solo_results}
 use Rattle.sb_packet.specs.declared.entry.Entry.{Entry}
 use Rattle.sb_packet.specs.declared.transaction.Txn.{Txn}
 use Rattle.sb_packet.proofs.FoundAnswers.{answers_found, answers_in-append, memory_after-append, length-answers_in}

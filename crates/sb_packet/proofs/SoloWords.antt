@@ -1,6 +1,6 @@
 -- The words of a solo journal, and those of its script that are aimed at the memory.
-use Rattle.std.proofs.Common.{◌≡◌, ◌≤◌, ◌<◌, ℕ, zero, suc, ◌+◌, ◌*◌, ◌%◌, ◌^◌, List, [], ◌∷◌, ◌++◌, ap, sym, ◌∙◌, refl, arith, subst, Bool, true, false, cond, length}
-use Rattle.std.specs.Prelude.{◌==◌, ◌&&◌, Option, Some, None, map, filter, flat_map, All, if◌then◌else◌}
+use Rattle.std.proofs.Common.{◌≡◌, ◌<◌, ℕ, suc, ◌+◌, ◌*◌, ◌^◌, List, [], ◌∷◌, ◌++◌, ap, sym, ◌∙◌, refl, arith, Bool, true, false, cond}
+use Rattle.std.specs.Prelude.{◌==◌, ◌&&◌, Option, Some, None, filter, flat_map, All, if◌then◌else◌}
 use Rattle.std.specs.List.{enumerate_from}
 use Rattle.std.specs.Option.{option_map_or}
 use Rattle.std.proofs.Math.Pow.{pow_pos}
@@ -8,12 +8,12 @@ use Rattle.std.proofs.lemmas.Grind.{flat_map-append}
 use Rattle.std.proofs.lemmas.List.Folds.{flat_map-map}
 use Rattle.std.proofs.lemmas.List.Elements.{All-nil, All-append, All-head, All-tail, All-weaker, filter-append}
 use Rattle.sb_packet.specs.Accesses.{Access, access_at, accesses_of, message_accesses}
-use Rattle.sb_packet.specs.Messages.{Message, message_of}
+use Rattle.sb_packet.specs.Messages.{message_of}
 use Rattle.sb_packet.specs.Cuts.{transaction_packets}
-use Rattle.sb_packet.specs.Networks.{NetHost, Network, has_address, device_at}
-use Rattle.sb_packet.specs.Scripts.{IsTransaction, request_of, transaction_message, transaction_accesses, script_accesses}
-use Rattle.sb_packet.specs.Journals.{journal_accesses, flow_part, is_at, is_request, device_address}
-use Rattle.sb_packet.specs.Solo.{solo_network, solo_host, solo_device, solo_packets, solo_packets_from, IsSoloJournal}
+use Rattle.sb_packet.specs.Networks.{has_address, device_at}
+use Rattle.sb_packet.specs.Scripts.{IsTransaction, request_of, transaction_message, transaction_accesses}
+use Rattle.sb_packet.specs.Journals.{journal_accesses, is_at, is_request}
+use Rattle.sb_packet.specs.Solo.{solo_network, solo_host, solo_device, solo_packets_from, IsSoloJournal}
 use Rattle.sb_packet.specs.declared.entry.Entry.{Entry}
 use Rattle.sb_packet.specs.declared.transaction.Kind.{Kind}
 use Rattle.sb_packet.specs.declared.transaction.Kind.TheVariants.{Read, Write, Posted, Atomic}
