@@ -1,9 +1,9 @@
 //! Laws over the definitions: what any two of them have to do with each other, whatever the code does.
 
-ghost use Rattle.std.specs.Prelude.{◌≡◌, ◌≤◌, ◌<◌, ◌/◌, ◌^◌, ℕ, List, ◌++◌, length, flat_map, map, sum_by, All, AllPairs};
+ghost use Rattle.std.specs.Prelude.{◌≡◌, ◌≤◌, ◌<◌, ◌/◌, ◌^◌, ℕ, true, false, List, [], ◌∷◌, ◌++◌, length, flat_map, map, sum_by, All, AllPairs};
 ghost use Rattle.sb_packet.specs.Accesses.{Access, message_accesses};
 ghost use Rattle.sb_packet.specs.Answers.{answer_at_first};
-ghost use Rattle.sb_packet.specs.Cuts.{cut_parts};
+ghost use Rattle.sb_packet.specs.Cuts.{cut_parts, first_part, is_one_part, other_parts, words_in};
 ghost use Rattle.sb_packet.specs.Memories.{MemoryState, answers_in, memory_after};
 ghost use Rattle.sb_packet.specs.Messages.{Message};
 ghost use Rattle.sb_packet.specs.Networks.{NetHost};
@@ -18,6 +18,13 @@ ghost use Rattle.sb_packet.specs.declared.transaction.Txn.{Txn};
 /// Cutting keeps the words: those of all parts of a message, one part after another, are the message's own.
 pub fn packets_keep_the_words()
     ensures { (width : ℕ) (m : Message) → flat_map message_accesses (cut_parts width m) ≡ message_accesses m }
+{}
+
+/// Cutting goes on part by part: a message that is one part is its only one, and any other has its first part and then
+/// the parts of what is left behind it, where a word fits the width.
+pub fn cuts_go_on()
+    ensures one { (width : ℕ) (m : Message) → is_one_part width m ≡ true → cut_parts width m ≡ m ∷ [] }
+    ensures more { (width : ℕ) (m : Message) → 0 < words_in width m → is_one_part width m ≡ false → cut_parts width m ≡ first_part width m ∷ cut_parts width (other_parts width m) }
 {}
 
 /// No two words of a script are answered at one address: each reply address is below those of all later words. The
