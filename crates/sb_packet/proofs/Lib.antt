@@ -5,6 +5,7 @@ pub mod CutSteps
 pub mod RisingReplies
 pub mod FoundAnswers
 pub mod ReplyAddresses
+pub mod LawfulReplies
 pub mod Pages
 pub mod SoloWords
 pub mod SoloLawful

@@ -11,11 +11,6 @@ abbrev pub Rises : ℕ → List Access → Type 0
 Rises n [] = Unit {0}
 Rises n (a ∷ rest) = (n ≤ a.src) × Rises (a.src + 1) rest
 
--- what comes later has a higher reply address
-pub rises_below : (n : ℕ) (xs : List Access) (a : Access) (ys : List Access) → Rises n (xs ++ a ∷ ys) → n ≤ a.src
-rises_below n [] a ys h = h.0
-rises_below n (x ∷ xs) a ys h = let later : x.src + 1 ≤ a.src = rises_below (x.src + 1) xs a ys h.1 in omega (arith, h.0)
-
 -- what rises from n rises from less
 pub rises_less : (n k : ℕ) (xs : List Access) → n ≤ k → Rises k xs → Rises n xs
 rises_less n k [] le h = tt
@@ -34,19 +29,9 @@ all_above : (n : ℕ) (xs : List Access) → Rises n xs → All (λ b. n ≤ b.s
 all_above n [] h = λ i d below. absurd (omega arith)
 all_above n (x ∷ xs) h = All-cons (λ b. n ≤ b.src) x xs h.0 (all_above n xs (rises_less n (x.src + 1) xs (omega (arith, h.0)) h.1))
 
--- rising by steps is the same as each access being below all later ones
+-- where they rise, each access is below all later ones
 pub pairs_from_rises : (n : ℕ) (xs : List Access) → Rises n xs → AllPairs (λ a b. a.src < b.src) xs
 pairs_from_rises n [] h = λ i j d below inside. absurd (omega arith)
 pairs_from_rises n (x ∷ xs) h =
     let above : All (λ b. x.src < b.src) xs = λ i d below. let least = all_above (x.src + 1) xs h.1 i d below in omega (arith, least) in
     AllPairs-cons (λ a b. a.src < b.src) x xs above (pairs_from_rises (x.src + 1) xs h.1)
-
-rises_from_bound : (n : ℕ) (xs : List Access) → All (λ b. n ≤ b.src) xs → AllPairs (λ a b. a.src < b.src) xs → Rises n xs
-rises_from_bound n [] least pairs = tt
-rises_from_bound n (x ∷ xs) least pairs =
-    let later : All (λ b. x.src + 1 ≤ b.src) xs = λ i d below. let p = pairs 0 (suc i) d (omega arith) (omega arith) in omega (arith, p) in
-    let others : AllPairs (λ a b. a.src < b.src) xs = λ i j d below inside. pairs (suc i) (suc j) d (omega arith) (omega arith) in
-    (least 0 x (omega arith), rises_from_bound (x.src + 1) xs later others)
-
-pub rises_from_pairs : (xs : List Access) → AllPairs (λ a b. a.src < b.src) xs → Rises 0 xs
-rises_from_pairs xs pairs = rises_from_bound 0 xs (λ i d below. omega arith) pairs

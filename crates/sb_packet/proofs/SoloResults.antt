@@ -16,7 +16,7 @@ use Rattle.sb_packet.specs.Solo.{solo_network, solo_host, solo_device, IsSoloJou
 use Rattle.sb_packet.specs.SoloRuns.{solo_opening, solo_outcomes_from, solo_memory_from, solo_results}
 use Rattle.sb_packet.specs.declared.entry.Entry.{Entry}
 use Rattle.sb_packet.specs.declared.transaction.Txn.{Txn}
-use Rattle.sb_packet.proofs.FoundAnswers.{answers_found, answers_in-append, memory_after-append, length-answers_in}
+use Rattle.sb_packet.proofs.FoundAnswers.{answers_found, apart_from_rising, answers_in-append, memory_after-append, length-answers_in}
 use Rattle.sb_packet.proofs.Lists.{split_alike}
 use Rattle.sb_packet.proofs.ReplyAddresses.{reply_addresses_rise}
 use Rattle.sb_packet.proofs.SoloWords.{aimed_words, is_in_flow, words_of_journal, flow_of_script, word_place}
@@ -119,7 +119,7 @@ solo_results_are script journal all is =
     let words = aimed_words script 0 script in
     let outcomes : host_outcomes (solo_network script) journal (solo_host script) ≡ solo_outcomes_from script 0 solo_opening script =
     outcomes_of_journal script journal 0 script is all
-    ∙ outcomes_one_by_one script (found_in words) 0 solo_opening script (answers_found solo_opening words (aimed_words_rise script all)) in
+    ∙ outcomes_one_by_one script (found_in words) 0 solo_opening script (answers_found solo_opening words (apart_from_rising words (aimed_words_rise script all))) in
     let memory : final_memory (solo_network script) journal 0 ≡ solo_memory_from script 0 solo_opening script =
     ap (λ (m : MemoryState). memory_after m (journal_accesses journal 0)) (opening_is script)
     ∙ ap (memory_after solo_opening) (words_of_journal script journal is)

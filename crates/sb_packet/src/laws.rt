@@ -1,14 +1,14 @@
 //! Laws over the definitions: what any two of them have to do with each other, whatever the code does.
 
-ghost use Rattle.std.specs.Prelude.{◌≡◌, ◌≤◌, ◌<◌, ◌/◌, ◌^◌, ℕ, true, false, List, [], ◌∷◌, ◌++◌, length, flat_map, map, sum_by, All, AllPairs};
+ghost use Rattle.std.specs.Prelude.{◌≡◌, ◌≢◌, ◌≤◌, ◌<◌, ◌/◌, ◌^◌, ℕ, true, false, List, [], ◌∷◌, ◌++◌, length, flat_map, map, sum_by, All, AllPairs};
 ghost use Rattle.sb_packet.specs.Accesses.{Access, message_accesses};
-ghost use Rattle.sb_packet.specs.Answers.{answer_at_first};
+ghost use Rattle.sb_packet.specs.Answers.{access_run, answer_at_first};
 ghost use Rattle.sb_packet.specs.Cuts.{cut_parts, first_part, is_one_part, other_parts, words_in};
 ghost use Rattle.sb_packet.specs.Memories.{MemoryState, answers_in, memory_after};
 ghost use Rattle.sb_packet.specs.Messages.{Message};
-ghost use Rattle.sb_packet.specs.Networks.{NetHost};
+ghost use Rattle.sb_packet.specs.Networks.{NetHost, Network, opening_memory};
 ghost use Rattle.sb_packet.specs.Scripts.{IsTransaction, script_accesses};
-ghost use Rattle.sb_packet.specs.Journals.{IsLawful};
+ghost use Rattle.sb_packet.specs.Journals.{journal_accesses, IsLawful};
 ghost use Rattle.sb_packet.specs.Solo.{solo_network, solo_packets, IsSoloJournal};
 ghost use Rattle.sb_packet.specs.Outcomes.{run_results};
 ghost use Rattle.sb_packet.specs.SoloRuns.{solo_outcomes_from, solo_results};
@@ -34,12 +34,27 @@ pub fn reply_addresses_differ()
     ensures host { (host : NetHost) → All IsTransaction host.script → length host.script ≤ 65536 → All (λ a. a.src / 2 ^ 40 ≡ host.id) (script_accesses host) }
 {}
 
-/// An access is found by its reply address: where these rise, the first place at which an access stands is its own.
-/// A run over two lists is the run over the first and then over the second.
+/// An access is found by its reply address: where no two are answered at one address, the first place at which an
+/// access stands is its own. So it is where they rise. A run over two lists is the run over the first and then over
+/// the second.
 pub fn answers_are_found()
-    ensures found { (m : MemoryState) (list : List Access) → AllPairs (λ a b. a.src < b.src) list → map (answer_at_first m list) list ≡ answers_in m list }
+    ensures found { (m : MemoryState) (list : List Access) → AllPairs (λ a b. a.src ≢ b.src) list → map (answer_at_first m list) list ≡ answers_in m list }
+    ensures rising { (m : MemoryState) (list : List Access) → AllPairs (λ a b. a.src < b.src) list → map (answer_at_first m list) list ≡ answers_in m list }
     ensures answers { (m : MemoryState) (xs ys : List Access) → answers_in m (xs ++ ys) ≡ answers_in m xs ++ answers_in (memory_after m xs) ys }
     ensures memory { (m : MemoryState) (xs ys : List Access) → memory_after m (xs ++ ys) ≡ memory_after (memory_after m xs) ys }
+{}
+
+/// In a lawful journal no two words that a device stepped are answered at one address, whichever hosts they are of.
+/// So each of them is answered by what the device gave at its own place.
+pub fn lawful_answers_are_found()
+    ensures differ { (network : Network) (journal : List Entry)
+        → All (λ host. All IsTransaction host.script) network.hosts → All (λ host. length host.script ≤ 65536) network.hosts
+        → IsLawful network journal → (d : ℕ) → AllPairs (λ a b. a.src ≢ b.src) (journal_accesses journal d) }
+    ensures found { (network : Network) (journal : List Entry)
+        → All (λ host. All IsTransaction host.script) network.hosts → All (λ host. length host.script ≤ 65536) network.hosts
+        → IsLawful network journal → (d : ℕ)
+        → map (answer_at_first (opening_memory network d) (journal_accesses journal d)) (journal_accesses journal d)
+        ≡ (access_run network d (journal_accesses journal d)).answers }
 {}
 
 /// A solo journal is one legal history of its script.
