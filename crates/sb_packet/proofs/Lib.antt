@@ -13,3 +13,4 @@ pub mod SoloResults
 pub mod SoloCounts
 pub mod Examples
 pub mod ReportExamples
+pub mod JournalExamples
