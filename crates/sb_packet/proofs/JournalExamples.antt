@@ -1,5 +1,5 @@
 -- Journals that are lawful histories, and journals that are not.
-use Rattle.std.proofs.Common.{◌≡◌, ◌<◌, lit≤, refl, ap, arith, [], ◌∷◌, List, ℕ, zero, suc, true, false}
+use Rattle.std.proofs.Common.{◌≡◌, ◌<◌, refl, ap, arith, [], ◌∷◌, List, ℕ, zero, suc, true, false}
 use Rattle.std.specs.Prelude.{All, map, IsTrue, slice_index, length}
 use Rattle.std.specs.List.{AllByRecursion}
 use Rattle.std.proofs.lemmas.List.Elements.{All-from_recursion}
@@ -7,7 +7,7 @@ use Rattle.sb_word.specs.Words.{opcode_of}
 use Rattle.sb_packet.specs.Accesses.{Access, accesses_of}
 use Rattle.sb_packet.specs.Networks.{NetHost}
 use Rattle.sb_packet.specs.Scripts.{script_accesses}
-use Rattle.sb_packet.specs.Journals.{journal_accesses, flow_part, is_at, is_in_round_order, IsPlaced, IsLawful}
+use Rattle.sb_packet.specs.Journals.{journal_accesses, flow_part, is_at, IsPlaced, IsLawful}
 use Rattle.sb_packet.specs.Solo.{solo_host}
 use Rattle.sb_packet.specs.declared.entry.Entry.{Entry}
 use Rattle.sb_packet.specs.declared.packet.Packet.{Packet}

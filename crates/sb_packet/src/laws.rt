@@ -17,62 +17,84 @@ ghost use Rattle.sb_packet.specs.declared.transaction.Txn.{Txn};
 
 /// Cutting keeps the words: those of all parts of a message, one part after another, are the message's own.
 pub fn packets_keep_the_words()
-    ensures { (width : ℕ) (m : Message) → flat_map message_accesses (cut_parts width m) ≡ message_accesses m }
+    ensures words { (width : ℕ) (m : Message)
+        → flat_map message_accesses (cut_parts width m) ≡ message_accesses m }
 {}
 
 /// Cutting goes on part by part: a message that is one part is its only one, and any other has its first part and then
 /// the parts of what is left behind it, where a word fits the width.
 pub fn cuts_go_on()
-    ensures one { (width : ℕ) (m : Message) → is_one_part width m ≡ true → cut_parts width m ≡ m ∷ [] }
-    ensures more { (width : ℕ) (m : Message) → 0 < words_in width m → is_one_part width m ≡ false → cut_parts width m ≡ first_part width m ∷ cut_parts width (other_parts width m) }
+    ensures one { (width : ℕ) (m : Message)
+        → is_one_part width m ≡ true → cut_parts width m ≡ m ∷ [] }
+    ensures more { (width : ℕ) (m : Message)
+        → 0 < words_in width m → is_one_part width m ≡ false
+        → cut_parts width m ≡ first_part width m ∷ cut_parts width (other_parts width m) }
 {}
 
 /// No two words of a script are answered at one address: each reply address is below those of all later words. The
 /// bits from 40 on tell the host.
 pub fn reply_addresses_differ()
-    ensures rise { (host : NetHost) → All IsTransaction host.script → AllPairs (λ a b. a.src < b.src) (script_accesses host) }
-    ensures host { (host : NetHost) → All IsTransaction host.script → length host.script ≤ 65536 → All (λ a. a.src / 2 ^ 40 ≡ host.id) (script_accesses host) }
+    ensures rise { (host : NetHost)
+        → All IsTransaction host.script → AllPairs (λ a b. a.src < b.src) (script_accesses host) }
+    ensures host { (host : NetHost)
+        → All IsTransaction host.script → length host.script ≤ 65536
+        → All (λ a. a.src / 2 ^ 40 ≡ host.id) (script_accesses host) }
 {}
 
 /// An access is found by its reply address: where no two are answered at one address, the first place at which an
 /// access stands is its own. So it is where they rise. A run over two lists is the run over the first and then over
 /// the second.
 pub fn answers_are_found()
-    ensures found { (m : MemoryState) (list : List Access) → AllPairs (λ a b. a.src ≢ b.src) list → map (answer_at_first m list) list ≡ answers_in m list }
-    ensures rising { (m : MemoryState) (list : List Access) → AllPairs (λ a b. a.src < b.src) list → map (answer_at_first m list) list ≡ answers_in m list }
-    ensures answers { (m : MemoryState) (xs ys : List Access) → answers_in m (xs ++ ys) ≡ answers_in m xs ++ answers_in (memory_after m xs) ys }
-    ensures memory { (m : MemoryState) (xs ys : List Access) → memory_after m (xs ++ ys) ≡ memory_after (memory_after m xs) ys }
+    ensures found { (m : MemoryState) (list : List Access)
+        → AllPairs (λ a b. a.src ≢ b.src) list
+        → map (answer_at_first m list) list ≡ answers_in m list }
+    ensures rising { (m : MemoryState) (list : List Access)
+        → AllPairs (λ a b. a.src < b.src) list
+        → map (answer_at_first m list) list ≡ answers_in m list }
+    ensures answers { (m : MemoryState) (xs ys : List Access)
+        → answers_in m (xs ++ ys) ≡ answers_in m xs ++ answers_in (memory_after m xs) ys }
+    ensures memory { (m : MemoryState) (xs ys : List Access)
+        → memory_after m (xs ++ ys) ≡ memory_after (memory_after m xs) ys }
 {}
 
 /// In a lawful journal no two words that a device stepped are answered at one address, whichever hosts they are of.
-/// So each of them is answered by what the device gave at its own place.
+/// So each of them finds the answer that the device gave at its place.
 pub fn lawful_answers_are_found()
     ensures differ { (network : Network) (journal : List Entry)
-        → All (λ host. All IsTransaction host.script) network.hosts → All (λ host. length host.script ≤ 65536) network.hosts
-        → IsLawful network journal → (d : ℕ) → AllPairs (λ a b. a.src ≢ b.src) (journal_accesses journal d) }
+        → All (λ host. All IsTransaction host.script) network.hosts
+        → All (λ host. length host.script ≤ 65536) network.hosts
+        → IsLawful network journal
+        → (d : ℕ) → AllPairs (λ a b. a.src ≢ b.src) (journal_accesses journal d) }
     ensures found { (network : Network) (journal : List Entry)
-        → All (λ host. All IsTransaction host.script) network.hosts → All (λ host. length host.script ≤ 65536) network.hosts
-        → IsLawful network journal → (d : ℕ)
-        → map (answer_at_first (opening_memory network d) (journal_accesses journal d)) (journal_accesses journal d)
-        ≡ (access_run network d (journal_accesses journal d)).answers }
+        → All (λ host. All IsTransaction host.script) network.hosts
+        → All (λ host. length host.script ≤ 65536) network.hosts
+        → IsLawful network journal
+        → (d : ℕ) → let list = journal_accesses journal d in
+        map (answer_at_first (opening_memory network d) list) list ≡ (access_run network d list).answers }
 {}
 
 /// A solo journal is one legal history of its script.
 pub fn solo_journals_are_lawful()
-    ensures { (script : List Txn) (journal : List Entry) → All IsTransaction script → IsSoloJournal script journal → IsLawful (solo_network script) journal }
+    ensures lawful { (script : List Txn) (journal : List Entry)
+        → All IsTransaction script → IsSoloJournal script journal
+        → IsLawful (solo_network script) journal }
 {}
 
 /// What a solo journal comes to is what its script comes to, transaction by transaction.
 pub fn solo_results_are_the_journals()
-    ensures { (script : List Txn) (journal : List Entry) → All IsTransaction script → IsSoloJournal script journal → run_results (solo_network script) journal ≡ solo_results script }
+    ensures results { (script : List Txn) (journal : List Entry)
+        → All IsTransaction script → IsSoloJournal script journal
+        → run_results (solo_network script) journal ≡ solo_results script }
 {}
 
 /// A script has no more packets than words.
 pub fn solo_packets_are_few()
-    ensures { (script : List Txn) → All IsTransaction script → length (solo_packets script) ≤ sum_by (λ t. t.count) script }
+    ensures few { (script : List Txn)
+        → All IsTransaction script → length (solo_packets script) ≤ sum_by (λ t. t.count) script }
 {}
 
 /// Each transaction has an outcome.
 pub fn outcomes_are_many()
-    ensures { (script : List Txn) (i : ℕ) (m : MemoryState) (txns : List Txn) → length (solo_outcomes_from script i m txns) ≡ length txns }
+    ensures one_each { (script : List Txn) (i : ℕ) (m : MemoryState) (txns : List Txn)
+        → length (solo_outcomes_from script i m txns) ≡ length txns }
 {}

@@ -2,4 +2,4 @@ use Rattle.sb_packet.proofs.CutWords.{words_of_cut}
 use Rattle.sb_packet.proofs.laws.packets_keep_the_words.Goals as goal
 
 pub returns : goal.returns
-returns c = λ width m. words_of_cut width m
+returns c = record { words = λ width m. words_of_cut width m }

@@ -2,4 +2,4 @@ use Rattle.sb_packet.proofs.SoloCounts.{solo_packets_few}
 use Rattle.sb_packet.proofs.laws.solo_packets_are_few.Goals as goal
 
 pub returns : goal.returns
-returns c = λ script all. solo_packets_few script all
+returns c = record { few = λ script all. solo_packets_few script all }
