@@ -7,6 +7,8 @@ pub mod FoundAnswers
 pub mod ReplyAddresses
 pub mod LawfulReplies
 pub mod Pages
+pub mod Places
+pub mod JoinedAnswers
 pub mod SoloWords
 pub mod SoloLawful
 pub mod SoloResults

@@ -1,16 +1,16 @@
 //! Laws over the definitions: what any two of them have to do with each other, whatever the code does.
 
-ghost use Rattle.std.specs.Prelude.{◌≡◌, ◌≢◌, ◌≤◌, ◌<◌, ◌/◌, ◌^◌, ℕ, true, false, List, [], ◌∷◌, ◌++◌, length, flat_map, map, sum_by, All, AllPairs};
+ghost use Rattle.std.specs.Prelude.{◌≡◌, ◌≢◌, ◌≤◌, ◌<◌, ◌+◌, ◌*◌, ◌/◌, ◌%◌, ◌^◌, max, take, ℕ, true, false, List, [], ◌∷◌, ◌++◌, length, flat_map, map, sum_by, All, AllPairs};
 ghost use Rattle.sb_packet.specs.Accesses.{Access, message_accesses};
-ghost use Rattle.sb_packet.specs.Answers.{access_run, answer_at_first};
-ghost use Rattle.sb_packet.specs.Cuts.{cut_parts, first_part, is_one_part, other_parts, words_in};
+ghost use Rattle.sb_packet.specs.Messages.{Message, message_span};
 ghost use Rattle.sb_packet.specs.Memories.{MemoryState, answers_in, memory_after};
-ghost use Rattle.sb_packet.specs.Messages.{Message};
 ghost use Rattle.sb_packet.specs.Networks.{NetHost, Network, opening_memory};
-ghost use Rattle.sb_packet.specs.Scripts.{IsTransaction, script_accesses};
+ghost use Rattle.sb_packet.specs.Scripts.{IsTransaction, reply_address, script_accesses};
+ghost use Rattle.sb_packet.specs.Cuts.{cut_parts, first_part, is_one_part, other_parts, words_in};
 ghost use Rattle.sb_packet.specs.Journals.{journal_accesses, IsLawful};
-ghost use Rattle.sb_packet.specs.Solo.{solo_network, solo_packets, IsSoloJournal};
+ghost use Rattle.sb_packet.specs.Answers.{access_run, answer_at_first, answer_body, answer_code};
 ghost use Rattle.sb_packet.specs.Outcomes.{run_results};
+ghost use Rattle.sb_packet.specs.Solo.{solo_network, solo_packets, IsSoloJournal};
 ghost use Rattle.sb_packet.specs.SoloRuns.{solo_outcomes_from, solo_results};
 ghost use Rattle.sb_packet.specs.declared.entry.Entry.{Entry};
 ghost use Rattle.sb_packet.specs.declared.transaction.Txn.{Txn};
@@ -41,6 +41,17 @@ pub fn reply_addresses_differ()
         → All (λ a. a.src / 2 ^ 40 ≡ host.id) (script_accesses host) }
 {}
 
+/// A transaction and its answers lie within 56 bits, at multiples of the word.
+pub fn transactions_are_placed()
+    ensures end { (t : Txn) → IsTransaction t → t.addr + t.count * 2 ^ t.size ≤ 2 ^ 56 }
+    ensures reply_end { (id i : ℕ) (t : Txn)
+        → id ≤ 31 → i < 65536 → IsTransaction t
+        → reply_address id i + t.count * 2 ^ t.size ≤ 2 ^ 56 }
+    ensures reply_aligned { (id i size : ℕ) → size ≤ 3 → reply_address id i % 2 ^ size ≡ 0 }
+    ensures words_aligned { (address j size : ℕ)
+        → address % 2 ^ size ≡ 0 → (address + j * 2 ^ size) % 2 ^ size ≡ 0 }
+{}
+
 /// An access is found by its reply address: where no two are answered at one address, the first place at which an
 /// access stands is its own. So it is where they rise. A run over two lists is the run over the first and then over
 /// the second.
@@ -55,6 +66,18 @@ pub fn answers_are_found()
         → answers_in m (xs ++ ys) ≡ answers_in m xs ++ answers_in (memory_after m xs) ys }
     ensures memory { (m : MemoryState) (xs ys : List Access)
         → memory_after m (xs ++ ys) ≡ memory_after (memory_after m xs) ys }
+{}
+
+/// The words of a message have its code, and its bytes one after another. Of answers one list after another the code
+/// is the greater of both codes, and the body one body and then the other.
+pub fn answers_are_joined()
+    ensures code { (m : Message) → 0 < m.count → answer_code (message_accesses m) ≡ m.tail }
+    ensures body { (m : Message)
+        → answer_body (message_accesses m) ≡ take (message_span m) m.bytes }
+    ensures codes { (xs ys : List Access)
+        → answer_code (xs ++ ys) ≡ max (answer_code xs) (answer_code ys) }
+    ensures bodies { (xs ys : List Access)
+        → answer_body (xs ++ ys) ≡ answer_body xs ++ answer_body ys }
 {}
 
 /// In a lawful journal no two words that a device stepped are answered at one address, whichever hosts they are of.
