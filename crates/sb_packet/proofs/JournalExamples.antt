@@ -8,7 +8,7 @@ use Rattle.sb_packet.specs.Accesses.{Access, accesses_of}
 use Rattle.sb_packet.specs.Networks.{NetHost}
 use Rattle.sb_packet.specs.Scripts.{script_accesses}
 use Rattle.sb_packet.specs.Journals.{journal_accesses, flow_part, is_at, IsPlaced, IsLawful}
-use Rattle.sb_packet.specs.Solo.{solo_host}
+use Rattle.sb_packet.specs.Solo.{solo_host, IsSoloJournal}
 use Rattle.sb_packet.specs.declared.entry.Entry.{Entry}
 use Rattle.sb_packet.specs.declared.packet.Packet.{Packet}
 use Rattle.sb_packet.proofs.FoundAnswers.{eq_below}
@@ -48,6 +48,14 @@ two_rounds_are_lawful =
       at_target = All-from_recursion (IsPlaced two_hosts) two_rounds (first, (second, (third, (fourth, tt))));
       in_round_order = refl;
     }
+
+-- The journal of a write and a read at the memory of `solo` has a packet for each, in round 0 at device 0.
+pub journal_of_a_write_and_a_read : IsSoloJournal write_and_read (record { round = 0; device = 0; packet = write_packet } ∷ record { round = 0; device = 0; packet = read_packet } ∷ [])
+journal_of_a_write_and_a_read = record {
+  packets = refl;
+  first_round = All-from_recursion (λ e. e.round ≡ 0) (record { round = 0; device = 0; packet = write_packet } ∷ record { round = 0; device = 0; packet = read_packet } ∷ []) (refl, (refl, tt));
+  one_device = All-from_recursion (λ e. e.device ≡ 0) (record { round = 0; device = 0; packet = write_packet } ∷ record { round = 0; device = 0; packet = read_packet } ∷ []) (refl, (refl, tt));
+}
 
 -- the opcodes of accesses, in order
 abbrev opcodes : List Access → List ℕ
