@@ -5,6 +5,7 @@ mod bytes;
 mod entry;
 mod item;
 mod journal;
+pub mod laws;
 mod name;
 mod packet;
 mod padding;
