@@ -1,0 +1,8 @@
+//! The byte memory of a device.
+#![tactic(auto)]
+
+mod memory;
+mod reply;
+mod span;
+
+pub use memory::Memory;
