@@ -1,6 +1,7 @@
 //! The byte memory of a device.
 #![tactic(auto)]
 
+mod atomic;
 mod memory;
 mod reply;
 mod span;
