@@ -1,1 +1,3 @@
 pub mod Requests
+pub mod TwosComplement
+pub mod WordBytes
