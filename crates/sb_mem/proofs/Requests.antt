@@ -1,12 +1,12 @@
 -- What a packet's words do to a memory and how they are answered, for each kind of request but atomics.
-use Rattle.std.proofs.Common.{◌≡◌, ◌≤◌, ◌<◌, ◌⊎◌, inl, inr, ℕ, ◌+◌, ◌-◌, ◌*◌, ◌^◌, List, [], ◌++◌, refl, ap, sym, ◌∙◌, arith, take, drop, length, false, true, cond, zero-mul}
-use Rattle.std.specs.Prelude.{map, flat_map, Some, None, Option}
+use Rattle.std.proofs.Common.{◌≡◌, ◌≤◌, ◌<◌, ◌⊎◌, inl, inr, ℕ, ◌+◌, ◌-◌, ◌*◌, ◌^◌, List, ◌++◌, refl, ap, sym, ◌∙◌, arith, take, drop, length, false, true, cond, zero-mul}
+use Rattle.std.specs.Prelude.{map, flat_map, Some, None}
 use Rattle.std.specs.List.{range_with_len}
 use Rattle.std.proofs.lemmas.List.{take-take, take_at, length-take}
 use Rattle.std.proofs.Math.Seq.{drop-nil, take-nil}
 use Rattle.sb_word.specs.declared.command.Op.{Op}
 use Rattle.sb_word.specs.declared.command.Op.TheVariants.{ReqRd, ReqWr, ReqWrPosted}
-use Rattle.sb_packet.specs.Spans.{span_of, carried_of, carried_by, word_count_of, word_count_by}
+use Rattle.sb_packet.specs.Spans.{span_of, carried_of, carried_by, word_count_of}
 use Rattle.sb_packet.specs.Messages.{message_of}
 use Rattle.sb_packet.specs.Accesses.{Access, share, access_at, accesses_of}
 use Rattle.sb_packet.specs.Memories.{MemoryState, loaded, stored, written, write_code, access_step, access_answer, memory_after, answers_in}
@@ -66,7 +66,7 @@ write_memory m p op writable within =
     let carried : carried_of p.cmd ≡ n * s = carried_by_write p.cmd.op op (span_of p.cmd) in
     let whole : n * s ≤ length bytes = simp length-take (omega (arith, p.whole, p.fits)) in
     let writes : (m : MemoryState) (j : ℕ) → m.readonly ≡ false → access_step m (access_at (message_of p) j) ≡ stored m (p.dst + j * s) (share p.cmd.size j bytes) = λ m j w. access_step_taken m (access_at (message_of p) j) w ∙ written_by_write p.cmd.op op m (access_at (message_of p) j)
-        ∙ ap (λ (k : ℕ). stored m (p.dst + j * s) (share p.cmd.size j (take k p.body))) carried in
+    ∙ ap (λ (k : ℕ). stored m (p.dst + j * s) (share p.cmd.size j (take k p.body))) carried in
     let none : p.dst + 0 * s ≡ p.dst = omega arith in
     let joined : flat_map (λ j. share p.cmd.size j bytes) (range_with_len 0 n) ≡ bytes = shares_joined p.cmd.size bytes 0 n ∙ rw zero-mul (take-take (n * s) (n * s) p.body (omega arith)) in
     memory_after_stores (access_at (message_of p)) (λ j. share p.cmd.size j bytes) n p.dst s writes (λ j h. length-share p.cmd.size j n bytes whole h) m 0 n (omega arith) writable within.low (omega (arith, within.high, within.low))

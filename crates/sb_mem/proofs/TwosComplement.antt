@@ -1,12 +1,11 @@
 -- Words by their size, sums that wrap, and the order of two's complement.
-use Rattle.std.proofs.Common.{◌≡◌, ◌≤◌, ◌<◌, ℕ, zero, suc, ◌+◌, ◌-◌, ◌*◌, ◌/◌, ◌%◌, ◌^◌, ℤ, pos, negsuc, ◌-ℤ◌, Bool, true, false, cond, leb, ltb, ◌⊎◌, inl, inr, refl, ap, sym, ◌∙◌, arith}
+use Rattle.std.proofs.Common.{◌≡◌, ◌≤◌, ◌<◌, ℕ, zero, suc, ◌+◌, ◌-◌, ◌*◌, ◌/◌, ◌%◌, ◌^◌, ℤ, pos, negsuc, leb, inl, inr, refl, ap, sym, ◌∙◌, arith}
 use Rattle.std.specs.Prelude.{bit_and, bit_xor, int_le}
 use Rattle.std.specs.Int.Bits.{xor_zero_r}
 use Rattle.std.proofs.Math.Pow.{mod-mod-pow}
 use Rattle.std.proofs.lemmas.Nat.{and_mask, xor_block}
 use Rattle.std.proofs.lemmas.Bool.{le-leb, lt-leb, cases_lt}
-use Rattle.std.proofs.lemmas.Bool.Decides.{nat_tests, leb_tells}
-use Rattle.std.proofs.lemmas.Int.{ints}
+use Rattle.std.proofs.lemmas.Bool.Decides.{nat_tests}
 use Rattle.sb_packet.specs.Memories.{twos_complement, signed_le}
 
 -- a fact of each of the four sizes of a word
@@ -30,7 +29,7 @@ masked j k n g whole greatest =
 pub wrapped : (size n g : ℕ) → size ≤ 3 → g + 1 ≡ 256 ^ 2 ^ size → bit_and (n % 18446744073709551616) g ≡ n % 256 ^ 2 ^ size
 wrapped size n g fits greatest =
     each_size (λ s. g + 1 ≡ 256 ^ 2 ^ s → bit_and (n % 18446744073709551616) g ≡ n % 256 ^ 2 ^ s)
-        (λ h. masked 56 8 n g refl h) (λ h. masked 48 16 n g refl h) (λ h. masked 32 32 n g refl h) (λ h. masked 0 64 n g refl h) size fits greatest
+    (λ h. masked 56 8 n g refl h) (λ h. masked 48 16 n g refl h) (λ h. masked 32 32 n g refl h) (λ h. masked 0 64 n g refl h) size fits greatest
 
 -- to turn the bit over that is worth 2 ^ k, in a number below 2 ^ k
 flipped_low : (k a : ℕ) → a < 2 ^ k → bit_xor a (2 ^ k) ≡ a + 2 ^ k
@@ -76,16 +75,19 @@ flipped_order k modulus a b e below_a below_b =
     let s = 2 ^ k in
     let half : modulus / 2 ≡ s = omega arith in
     elim (cases_lt a s) [
-        inl low_a ↦ elim (cases_lt b s) [
-            inl low_b ↦ compared s modulus a b (a + s) (b + s) (pos a) (pos b) (flipped_low k a low_a) (flipped_low k b low_b) (low_word modulus a (omega arith)) (low_word modulus b (omega arith))
-                (same_test (a + s) (b + s) a b (λ h. omega arith) (λ h. omega arith))
-            | inr high_b ↦ compared s modulus a b (a + s) (b - s) (pos a) (negsuc (modulus - 1 - b)) (flipped_low k a low_a) (flipped_high k b high_b (omega arith)) (low_word modulus a (omega arith)) (high_word modulus b (omega arith) below_b)
-                (lt-leb (a + s) (b - s) (omega arith)) ]
-        | inr high_a ↦ elim (cases_lt b s) [
-            inl low_b ↦ compared s modulus a b (a - s) (b + s) (negsuc (modulus - 1 - a)) (pos b) (flipped_high k a high_a (omega arith)) (flipped_low k b low_b) (high_word modulus a (omega arith) below_a) (low_word modulus b (omega arith))
-                (le-leb (a - s) (b + s) (omega arith))
-            | inr high_b ↦ compared s modulus a b (a - s) (b - s) (negsuc (modulus - 1 - a)) (negsuc (modulus - 1 - b)) (flipped_high k a high_a (omega arith)) (flipped_high k b high_b (omega arith)) (high_word modulus a (omega arith) below_a) (high_word modulus b (omega arith) below_b)
-                (same_test (a - s) (b - s) (modulus - 1 - b) (modulus - 1 - a) (λ h. omega arith) (λ h. omega arith)) ] ]
+      | inl low_a ↦ elim (cases_lt b s) [
+        | inl low_b ↦ compared s modulus a b (a + s) (b + s) (pos a) (pos b) (flipped_low k a low_a) (flipped_low k b low_b) (low_word modulus a (omega arith)) (low_word modulus b (omega arith))
+            (same_test (a + s) (b + s) a b (λ h. omega arith) (λ h. omega arith))
+        | inr high_b ↦ compared s modulus a b (a + s) (b - s) (pos a) (negsuc (modulus - 1 - b)) (flipped_low k a low_a) (flipped_high k b high_b (omega arith)) (low_word modulus a (omega arith)) (high_word modulus b (omega arith) below_b)
+            (lt-leb (a + s) (b - s) (omega arith))
+      ]
+      | inr high_a ↦ elim (cases_lt b s) [
+        | inl low_b ↦ compared s modulus a b (a - s) (b + s) (negsuc (modulus - 1 - a)) (pos b) (flipped_high k a high_a (omega arith)) (flipped_low k b low_b) (high_word modulus a (omega arith) below_a) (low_word modulus b (omega arith))
+            (le-leb (a - s) (b + s) (omega arith))
+        | inr high_b ↦ compared s modulus a b (a - s) (b - s) (negsuc (modulus - 1 - a)) (negsuc (modulus - 1 - b)) (flipped_high k a high_a (omega arith)) (flipped_high k b high_b (omega arith)) (high_word modulus a (omega arith) below_a) (high_word modulus b (omega arith) below_b)
+            (same_test (a - s) (b - s) (modulus - 1 - b) (modulus - 1 - a) (λ h. omega arith) (λ h. omega arith))
+      ]
+    ]
 
 -- the same for a word of that size, by its sign bit
 order_at : (k modulus a b sign : ℕ) → modulus ≡ 2 * 2 ^ k → sign * 2 ≡ modulus → a < modulus → b < modulus → leb (bit_xor a sign) (bit_xor b sign) ≡ signed_le modulus a b
@@ -96,4 +98,4 @@ order_at k modulus a b sign e half below_a below_b =
 pub signed_order : (size a b sign : ℕ) → size ≤ 3 → sign * 2 ≡ 256 ^ 2 ^ size → a < 256 ^ 2 ^ size → b < 256 ^ 2 ^ size → leb (bit_xor a sign) (bit_xor b sign) ≡ signed_le (256 ^ 2 ^ size) a b
 signed_order size a b sign fits half below_a below_b =
     each_size (λ s. sign * 2 ≡ 256 ^ 2 ^ s → a < 256 ^ 2 ^ s → b < 256 ^ 2 ^ s → leb (bit_xor a sign) (bit_xor b sign) ≡ signed_le (256 ^ 2 ^ s) a b)
-        (order_at 7 256 a b sign refl) (order_at 15 65536 a b sign refl) (order_at 31 4294967296 a b sign refl) (order_at 63 18446744073709551616 a b sign refl) size fits half below_a below_b
+    (order_at 7 256 a b sign refl) (order_at 15 65536 a b sign refl) (order_at 31 4294967296 a b sign refl) (order_at 63 18446744073709551616 a b sign refl) size fits half below_a below_b

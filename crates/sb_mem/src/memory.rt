@@ -8,10 +8,10 @@ ghost use Rattle.sb_packet.specs.Journals.{is_request};
 ghost use Rattle.sb_packet.specs.Memories.{memory_after, answers_in, overwritten, stored, loaded, write_code};
 ghost use Rattle.sb_mem.specs.Replies.{IsInRange, IsAnswerTo, response_code, response_bytes, body_of};
 
-use crate::atomic::{combined_word, number};
+use crate::atomic::combined_bytes;
 use crate::reply::reply;
 use crate::span::span;
-use sb_packet::{padded, Op, Packet};
+use sb_packet::{Op, Packet, padded};
 use std::alloc::{AllocError, Global};
 use std::marker::Model;
 
@@ -80,7 +80,7 @@ impl Memory {
         ensures code { IfSome result (λ a. a.cmd.tail ≡ response_code self.old p.now.cmd.op) }
         ensures body { IfSome result
             (λ a. a.body
-                ≡ body_of (response_bytes self.old p.now.cmd.op p.now.dst (span_of p.now.cmd))) }
+            ≡ body_of (response_bytes self.old p.now.cmd.op p.now.dst (span_of p.now.cmd))) }
         ensures memory { self.new ≡ memory_after self.old (accesses_of p.now) }
         ensures base { self.new.base ≡ self.old.base }
         ensures size { length self.new.bytes ≡ length self.old.bytes }
@@ -146,8 +146,7 @@ impl Memory {
         }
         let size = span(&p.cmd);
         let old = padded(self.held(p));
-        let word = combined_word(p.cmd.len, p.cmd.size, number(&old[..size]), number(&p.body[..size]));
-        self.store(p.dst, &word.to_le_bytes()[..size]);
+        self.store(p.dst, &combined_bytes(p, &old[..size])[..size]);
         reply(p, 0, old)
     }
 
@@ -155,11 +154,7 @@ impl Memory {
     fn write_code(&self) -> u8
         ensures { result ≡ write_code self.now }
     {
-        if self.readonly {
-            2
-        } else {
-            0
-        }
+        if self.readonly { 2 } else { 0 }
     }
 
     /// The bytes that a packet speaks of.

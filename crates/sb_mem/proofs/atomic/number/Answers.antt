@@ -1,4 +1,4 @@
-use Rattle.std.proofs.Common.{◌≡◌, ◌∙◌, ap, List, ℕ, ◌<◌, ◌^◌, length}
+use Rattle.std.proofs.Common.{◌≡◌, ◌∙◌, ap, List, ℕ}
 use Rattle.std.specs.Int.{from_le_bytes, w64}
 use Rattle.sb_packet.specs.Memories.{number_of}
 use Rattle.sb_mem.proofs.WordBytes.{number_of_padded, number_of-below}

@@ -1,4 +1,4 @@
-use Rattle.std.proofs.Common.{◌≡◌, ◌∙◌}
+use Rattle.std.proofs.Common.{◌∙◌}
 use Rattle.sb_packet.specs.Spans.{span_of}
 use Rattle.sb_mem.proofs.Requests.{read_answers, padded_front}
 use Rattle.sb_mem.proofs.memory.Memory.read.Goals as goal

@@ -1,4 +1,4 @@
-use Rattle.std.proofs.Common.{◌≡◌, ◌∙◌, ap, sym, Bool}
+use Rattle.std.proofs.Common.{◌∙◌, ap, sym, Bool}
 use Rattle.std.specs.Prelude.{if◌then◌else◌}
 use Rattle.sb_mem.proofs.Requests.{read_memory, write_answers, posted_answers}
 use Rattle.sb_mem.proofs.memory.Memory.step.Goals as goal
