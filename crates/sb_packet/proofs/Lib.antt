@@ -16,3 +16,5 @@ pub mod SoloCounts
 pub mod Examples
 pub mod ReportExamples
 pub mod JournalExamples
+pub mod Overwrites
+pub mod Shares
