@@ -9,6 +9,7 @@ pub mod LawfulReplies
 pub mod Pages
 pub mod Places
 pub mod JoinedAnswers
+pub mod PacketWords
 pub mod SoloWords
 pub mod SoloLawful
 pub mod SoloResults

@@ -11,6 +11,7 @@ mod packet;
 mod padding;
 mod path;
 mod script;
+mod spans;
 mod transaction;
 
 pub use bytes::Bytes;
@@ -23,4 +24,5 @@ pub use padding::padded;
 pub use path::Path;
 pub use sb_word::{Cmd, Op};
 pub use script::Script;
+pub use spans::{carried, span};
 pub use transaction::{Code, Kind, Txn, TxnState};

@@ -4,3 +4,5 @@ pub mod InputLemmas
 pub mod OutputLemmas
 pub mod PrintLemmas
 pub mod RowLemmas
+pub mod StepLemmas
+pub mod UnreachedLemmas

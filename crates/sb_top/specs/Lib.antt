@@ -3,3 +3,4 @@ pub mod Outputs
 pub mod Collected
 pub mod Rows
 pub mod Texts
+pub mod Steps

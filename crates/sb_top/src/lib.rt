@@ -6,4 +6,5 @@ mod lines;
 mod outcomes;
 mod output;
 mod report;
+mod solo;
 mod waiting;
