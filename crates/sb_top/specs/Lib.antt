@@ -4,3 +4,5 @@ pub mod Collected
 pub mod Rows
 pub mod Texts
 pub mod Steps
+pub mod Refusals
+pub mod TopCall

@@ -1,18 +1,21 @@
 //! The run of a script against one memory.
 
-ghost use Rattle.std.specs.Prelude.{◌≡◌, ◌≤◌, ◌<◌, ◌+◌, ◌-◌, ◌*◌, ◌^◌, ◌++◌, [], ◌∷◌, IsTrue, length, true};
+ghost use Rattle.std.specs.Prelude.{◌≡◌, ◌≤◌, ◌<◌, ◌+◌, ◌-◌, ◌*◌, ◌^◌, ◌++◌, [], ◌∷◌, All, IfOk, IsTrue, OnErr, OnOk, length, true};
 ghost use Rattle.sb_packet.specs.Accesses.{accesses_of};
 ghost use Rattle.sb_packet.specs.Answers.{answer_body, answer_code};
 ghost use Rattle.sb_packet.specs.Journals.{is_request};
 ghost use Rattle.sb_packet.specs.Memories.{memory_after};
 ghost use Rattle.sb_packet.specs.Networks.{has_address};
-ghost use Rattle.sb_packet.specs.Solo.{solo_device};
+ghost use Rattle.sb_packet.specs.Scripts.{IsTransaction};
+ghost use Rattle.sb_packet.specs.Solo.{IsSoloJournal, solo_device};
+ghost use Rattle.sb_packet.specs.SoloRuns.{solo_memory_from, solo_opening, solo_outcomes_from};
 ghost use Rattle.sb_mem.specs.Replies.{IsInRange};
 ghost use Rattle.sb_top.specs.Steps.{lost_outcome, packet_answers};
 
 use crate::outcomes::Outcomes;
 use sb_mem::Memory;
 use sb_packet::{Code, Entry, Journal, Kind, Packet, Txn, TxnState, carried};
+use std::alloc::{AllocError, Global};
 
 /// Whether a transaction is aimed at the memory.
 fn is_aimed(txn: &Txn) -> bool
@@ -79,4 +82,26 @@ fn lose(outcomes: &mut Outcomes, txn: &Txn)
             outcomes.finish(lost);
         }
     }
+}
+
+/// What the run of a script comes to.
+#[derive(Drop)]
+pub struct Run {
+    pub outcomes: Outcomes,
+    pub memory: Memory,
+}
+
+/// Runs a script against a new memory. It takes all its memory before the first step; where some is missing, the journal
+/// has no entry.
+pub fn run_script(alloc: Global, script: &[Txn], journal: &mut Journal) -> Result<Run, AllocError>
+    requires transactions { All IsTransaction script.now }
+    requires few { length script.now ≤ 65536 }
+    requires empty { journal.old.entries ≡ [] }
+    ensures journal { OnOk result (IsSoloJournal script.now journal.new.entries) }
+    ensures outcomes { IfOk result (λ run. run.outcomes.outcomes ≡ solo_outcomes_from script.now 0 solo_opening script.now) }
+    ensures memory { IfOk result (λ run. run.memory ≡ solo_memory_from script.now 0 solo_opening script.now) }
+    ensures size { IfOk result (λ run. length run.memory.bytes ≡ 65536) }
+    ensures err { OnErr result (journal.new.entries ≡ []) }
+{
+    Err(AllocError)
 }
