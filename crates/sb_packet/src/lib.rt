@@ -10,6 +10,7 @@ mod name;
 mod packet;
 mod padding;
 mod path;
+mod request;
 mod script;
 mod transaction;
 
@@ -21,6 +22,7 @@ pub use name::Name;
 pub use packet::Packet;
 pub use padding::padded;
 pub use path::Path;
+pub use request::{packet_of, packets};
 pub use sb_word::{Cmd, Op};
 pub use script::Script;
 pub use transaction::{Code, Kind, Txn, TxnState};
