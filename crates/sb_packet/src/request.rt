@@ -12,7 +12,8 @@ use crate::padding::padded;
 use crate::transaction::{Kind, Txn};
 use sb_word::{Cmd, Op};
 
-/// How many packets a transaction is, cut to `limit` bytes. It takes no memory.
+/// How many packets a transaction is, 1 to 64, where none speaks of more than `limit` bytes, which is 32. It takes no
+/// memory.
 pub fn packets(txn: &Txn, limit: u8) -> u32
     requires limit { limit ≡ 32 }
     requires txn { IsTransaction txn.now }
@@ -24,8 +25,9 @@ pub fn packets(txn: &Txn, limit: u8) -> u32
     (txn.count as u32).div_ceil(words)
 }
 
-/// Packet k of a transaction, counted from 0: number `index` in the script of the host with this id, qos and prot.
-/// It takes no memory.
+/// Packet k of a transaction, counted from 0: the transaction is number `index`, below 65,536, in the script of the host
+/// with this id, 0 to 31, qos, 0 to 15, and prot, 0 to 3. No packet speaks of more than `limit` bytes, which is 32, and
+/// only the last ends the transaction. It takes no memory.
 #[tactic(auto, using(crate::proofs::PacketsOfTransactions::packet_begins))]
 pub fn packet_of(id: u8, qos: u8, prot: u8, index: u32, txn: &Txn, limit: u8, k: u32) -> Packet
     requires limit { limit ≡ 32 }
@@ -213,5 +215,66 @@ fn request(cmd: Cmd, dst: u64, src: u64, bytes: &[u8]) -> Packet
         dst,
         src,
         body,
+    }
+}
+
+#[cfg(test)]
+mod tests {
+    use super::*;
+    use crate::bytes::Bytes;
+    use std::alloc::{AllocError, Global};
+    use std::test::Fail;
+
+    /// Where each packet goes, where its answer does, its `len`, and whether it ends the transaction, which is number 3
+    /// of host 1.
+    fn shapes(alloc: Global, txn: &Txn) -> Result<Vec<(u64, u64, u8, bool)>, AllocError>
+        requires { IsTransaction txn.now }
+    {
+        let mut shapes = Vec::new(alloc);
+        for k in 0..packets(txn, 32) {
+            let p = packet_of(1, 0, 0, 3, txn, 32, k);
+            shapes.push((p.dst, p.src, p.cmd.len, p.cmd.eom))?;
+        }
+        Ok(shapes)
+    }
+
+    #[test]
+    fn cuts_transactions(rt: HostRuntime) -> Result<(), Fail> {
+        let alloc = rt.alloc();
+        let answers = 0x100_0000_1800;
+
+        let write = Txn {
+            kind: Kind::Write,
+            size: 3,
+            addr: 0x1000,
+            count: 256,
+            body: Bytes::new(vec![in alloc; 7; 2048]?),
+        };
+        let mut full = Vec::new(alloc);
+        for k in 0..64 {
+            full.push((0x1000 + 32 * k, answers + 32 * k, 3, k == 63))?;
+        }
+        assert_eq!(rt; shapes(alloc, &write)?, full);
+
+        let read = Txn {
+            kind: Kind::Read,
+            size: 3,
+            addr: 0x100,
+            count: 5,
+            body: Bytes::new(Vec::new(alloc)),
+        };
+        let two = [(0x100, answers, 3, false), (0x120, answers + 32, 0, true)];
+        assert_eq!(rt; shapes(alloc, &read)?.as_slice(), two.as_slice());
+
+        let swap = Txn {
+            kind: Kind::Atomic(8),
+            size: 2,
+            addr: 0x1004,
+            count: 1,
+            body: Bytes::new(vec![in alloc; 7; 4]?),
+        };
+        let one = [(0x1004, answers, 8, true)];
+        assert_eq!(rt; shapes(alloc, &swap)?.as_slice(), one.as_slice());
+        Ok(())
     }
 }
