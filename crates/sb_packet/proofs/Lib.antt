@@ -2,6 +2,7 @@ pub mod Ranges
 pub mod Lists
 pub mod CutWords
 pub mod CutSteps
+pub mod PacketsOfTransactions
 pub mod RisingReplies
 pub mod FoundAnswers
 pub mod ReplyAddresses
