@@ -1,5 +1,6 @@
 pub mod HexLemmas
 pub mod IndexedLemmas
+pub mod IssueLemmas
 pub mod InputLemmas
 pub mod OutputLemmas
 pub mod PrintLemmas

@@ -1,10 +1,11 @@
 -- What a packet does to a memory and a journal.
 use Rattle.std.specs.Prelude.{ℕ, ◌≡◌, ◌+◌, ◌*◌, ◌^◌, List, [], ◌∷◌, filter_map, length, replicate, if◌then◌else◌}
+use Rattle.sb_packet.specs.Messages.{Message}
 use Rattle.sb_packet.specs.Accesses.{Access, accesses_of}
 use Rattle.sb_packet.specs.Memories.{MemoryState, answers_in}
 use Rattle.sb_packet.specs.Networks.{has_address}
 use Rattle.sb_packet.specs.Answers.{unreached_by}
-use Rattle.sb_packet.specs.Outcomes.{Outcome}
+use Rattle.sb_packet.specs.Outcomes.{Outcome, code_numbered}
 use Rattle.sb_packet.specs.Cuts.{transaction_packets}
 use Rattle.sb_packet.specs.Solo.{solo_device, solo_host}
 use Rattle.sb_packet.specs.declared.entry.Entry.{Entry}
@@ -13,11 +14,16 @@ use Rattle.sb_packet.specs.declared.transaction.Code.TheVariants.{NetErr}
 use Rattle.sb_packet.specs.declared.transaction.Kind.{Kind}
 use Rattle.sb_packet.specs.declared.transaction.Kind.TheVariants as kinds
 use Rattle.sb_packet.specs.declared.transaction.Txn.{Txn}
+use Rattle.sb_packet.specs.declared.transaction.TxnState.{TxnState}
 use Rattle.sb_packet.specs.declared.transaction.TxnState.TheVariants.{Posted, Answered}
+
+-- the answers that there are to some accesses, in order
+abbrev pub found : MemoryState → List Access → List Access
+found m list = filter_map (λ a. a) (answers_in m list)
 
 -- the answers to the words of a packet, in order
 abbrev pub packet_answers : MemoryState → Packet → List Access
-packet_answers m p = filter_map (λ a. a) (answers_in m (accesses_of p))
+packet_answers m p = found m (accesses_of p)
 
 -- the answers that no device gives to some accesses
 abbrev pub unreached : List Access → List Access
@@ -28,7 +34,11 @@ pub record IsFirstRound (e : Entry) : Type 0 where
   pub round : e.round ≡ 0
   pub device : e.device ≡ 0
 
--- how many packets of a transaction the memory steps
+-- the packets of a transaction that the memory steps
+abbrev pub packets_at : ℕ → Txn → List Message
+packets_at i t = if has_address t.addr solo_device then transaction_packets (solo_host []) i t else []
+
+-- how many there are
 abbrev pub entries_of : Txn → ℕ
 entries_of t = if has_address t.addr solo_device then length (transaction_packets (solo_host []) 0 t) else 0
 
@@ -44,6 +54,13 @@ entries_in (t ∷ txns) = entries_of t + entries_in txns
 abbrev pub answer_room_in : List Txn → ℕ
 answer_room_in [] = 0
 answer_room_in (t ∷ txns) = answer_room_of t + answer_room_in txns
+
+-- the state of a transaction whose words were answered with that code at most
+abbrev pub state_by : Kind → ℕ → TxnState
+state_by kinds.Read code = Answered (code_numbered code)
+state_by kinds.Write code = Answered (code_numbered code)
+state_by kinds.Posted code = Posted
+state_by (kinds.Atomic type) code = Answered (code_numbered code)
 
 -- what becomes of a transaction at no device, by what it asks for and how many bytes it speaks of
 abbrev pub lost_outcome : Kind → ℕ → Outcome

@@ -74,4 +74,4 @@ pub record WrotePart (IsText : List ℕ → Type 0) (before after : Option (List
 -- a text that the call writes, whatever its status
 abbrev pub IsAnyText : List (List ℕ) → Option (List ℕ) → Option (List ℕ) → List Entry → List ℕ → Type 0
 IsAnyText words before after journal text =
-    IsSoloRun before after journal text ⊎ IsUsage words before after journal text ⊎ IsRefusal before after journal text ⊎ IsTooLong before after journal text
+    IsSoloRun before after journal text ⊎ (IsUsage words before after journal text ⊎ (IsRefusal before after journal text ⊎ IsTooLong before after journal text))

@@ -14,9 +14,7 @@ use crate::output::{WriteFailed, write_all};
 use crate::refusal::refusal;
 use crate::report::print_report;
 use crate::solo::run_script;
-use crate::status::{
-    DONE, OUT_OF_MEMORY, READ_FAILED, REFUSED, TOO_LONG, USAGE, WRITE_FAILED,
-};
+use crate::status::{DONE, OUT_OF_MEMORY, READ_FAILED, REFUSED, TOO_LONG, USAGE, WRITE_FAILED};
 use sb_io::{Sink, Source};
 use sb_packet::{Journal, Txn};
 use sb_text::{ScriptFault, read_script};
@@ -88,10 +86,7 @@ fn run<K: Sink>(alloc: Global, script: &[Txn], sink: &mut K, journal: &mut Journ
     ensures others { (result ≡ 0) ⊎ (result ≡ 5) ⊎ (result ≡ 6) }
 {
     match run_script(alloc, script, journal) {
-        Ok(run) => status_of(
-            print_report(sink, &run.outcomes, run.memory.image()),
-            DONE,
-        ),
+        Ok(run) => status_of(print_report(sink, &run.outcomes, run.memory.image()), DONE),
         Err(AllocError) => OUT_OF_MEMORY,
     }
 }

@@ -11,3 +11,7 @@ mod report;
 mod solo;
 mod status;
 mod waiting;
+
+pub use command::top;
+pub use sb_io::{ReaderSource, WriterSink};
+pub use sb_packet::Journal;

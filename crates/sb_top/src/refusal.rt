@@ -34,7 +34,10 @@ pub fn refusal(fault: ScriptFault) -> Waiting
             line.push(b"refused lines ");
             push_number(&mut line, count as usize);
         }
-        ScriptFault::Line { line: number, fault } => {
+        ScriptFault::Line {
+            line: number,
+            fault,
+        } => {
             line.push(b"refused line ");
             push_number(&mut line, number as usize);
             line.push(b" ");

@@ -1,20 +1,23 @@
 //! The run of a script against one memory.
 
-ghost use Rattle.std.specs.Prelude.{◌≡◌, ◌≤◌, ◌<◌, ◌+◌, ◌-◌, ◌*◌, ◌^◌, ◌++◌, [], ◌∷◌, All, IfOk, IsTrue, OnErr, OnOk, length, true};
+ghost use Rattle.std.specs.Prelude.{◌≡◌, ◌≤◌, ◌<◌, ◌+◌, ◌-◌, ◌*◌, ◌^◌, ◌++◌, [], ◌∷◌, All, IfOk, IsTrue, OnErr, OnOk, length, map, true};
+ghost use Rattle.sb_packet.specs.Messages.{message_of};
 ghost use Rattle.sb_packet.specs.Accesses.{accesses_of};
 ghost use Rattle.sb_packet.specs.Answers.{answer_body, answer_code};
+ghost use Rattle.sb_packet.specs.Cuts.{transaction_packets};
 ghost use Rattle.sb_packet.specs.Journals.{is_request};
 ghost use Rattle.sb_packet.specs.Memories.{memory_after};
 ghost use Rattle.sb_packet.specs.Networks.{has_address};
-ghost use Rattle.sb_packet.specs.Scripts.{IsTransaction};
-ghost use Rattle.sb_packet.specs.Solo.{IsSoloJournal, solo_device};
-ghost use Rattle.sb_packet.specs.SoloRuns.{solo_memory_from, solo_opening, solo_outcomes_from};
+ghost use Rattle.sb_packet.specs.Outcomes.{code_numbered, outcome_of};
+ghost use Rattle.sb_packet.specs.Scripts.{transaction_accesses, IsTransaction};
+ghost use Rattle.sb_packet.specs.Solo.{IsSoloJournal, solo_device, solo_host};
+ghost use Rattle.sb_packet.specs.SoloRuns.{solo_answers, solo_memory_from, solo_opening, solo_outcomes_from, solo_step};
 ghost use Rattle.sb_mem.specs.Replies.{IsInRange};
-ghost use Rattle.sb_top.specs.Steps.{lost_outcome, packet_answers};
+ghost use Rattle.sb_top.specs.Steps.{answer_room_in, answer_room_of, entries_in, entries_of, found, lost_outcome, packet_answers, packets_at, state_by, IsFirstRound};
 
 use crate::outcomes::Outcomes;
 use sb_mem::Memory;
-use sb_packet::{Code, Entry, Journal, Kind, Packet, Txn, TxnState, carried};
+use sb_packet::{Code, Entry, Journal, Kind, Packet, Txn, TxnState, carried, packet_of, packets};
 use std::alloc::{AllocError, Global};
 
 /// Whether a transaction is aimed at the memory.
@@ -25,24 +28,21 @@ fn is_aimed(txn: &Txn) -> bool
 }
 
 /// Steps the memory by a packet, and keeps the bytes of its answer. It gives the answer's code, and 0 where there is none.
-fn step(
-    memory: &mut Memory,
-    journal: &mut Journal,
-    outcomes: &mut Outcomes,
-    packet: &Packet,
-) -> u8
+fn step(memory: &mut Memory, journal: &mut Journal, outcomes: &mut Outcomes, packet: &Packet) -> u8
     requires request { IsTrue (is_request packet.now.cmd.op) }
     requires within { IsInRange memory.old packet.now }
     requires spare { 0 < journal.old.spare }
     requires room { 32 ≤ outcomes.old.spare_bytes }
     ensures code { result ≡ answer_code (packet_answers memory.old packet.now) }
     ensures body { outcomes.new ≡ record outcomes.old {
-        next = outcomes.old.next ++ answer_body (packet_answers memory.old packet.now);
-        spare_bytes = outcomes.old.spare_bytes - length (answer_body (packet_answers memory.old packet.now)) } }
+      next = outcomes.old.next ++ answer_body (packet_answers memory.old packet.now);
+      spare_bytes = outcomes.old.spare_bytes - length (answer_body (packet_answers memory.old packet.now));
+    } }
     ensures short { length (answer_body (packet_answers memory.old packet.now)) ≤ 32 }
     ensures journal { journal.new ≡ record {
-        entries = journal.old.entries ++ record { round = 0; device = 0; packet = packet.now } ∷ [];
-        spare = journal.old.spare - 1 } }
+      entries = journal.old.entries ++ record { round = 0; device = 0; packet = packet.now } ∷ [];
+      spare = journal.old.spare - 1;
+    } }
     ensures memory { memory.new ≡ memory_after memory.old (accesses_of packet.now) }
     ensures base { memory.new.base ≡ memory.old.base }
     ensures size { length memory.new.bytes ≡ length memory.old.bytes }
@@ -62,11 +62,20 @@ fn step(
     }
 }
 
+/// How many bytes a transaction speaks of.
+fn span_of(txn: &Txn) -> usize
+    requires { IsTransaction txn.now }
+    ensures span { result ≡ txn.now.count * 2 ^ txn.now.size }
+    ensures short { result ≤ 2048 }
+{
+    (txn.count as usize) << txn.size
+}
+
 /// A transaction that is aimed at no device is answered with zeros, or dropped where it is posted.
 fn lose(outcomes: &mut Outcomes, txn: &Txn)
     requires rows { 0 < outcomes.old.spare_rows }
     requires room { txn.now.count * 2 ^ txn.now.size ≤ outcomes.old.spare_bytes }
-    requires size { txn.now.size ≤ 3 }
+    requires txn { IsTransaction txn.now }
     requires next { outcomes.old.next ≡ [] }
     ensures outcomes { outcomes.new.outcomes ≡ outcomes.old.outcomes ++ lost_outcome txn.now.kind (txn.now.count * 2 ^ txn.now.size) ∷ [] }
     ensures next { outcomes.new.next ≡ [] }
@@ -78,10 +87,149 @@ fn lose(outcomes: &mut Outcomes, txn: &Txn)
         Kind::Posted => outcomes.finish(TxnState::Posted),
         Kind::Write => outcomes.finish(lost),
         Kind::Read | Kind::Atomic(_) => {
-            outcomes.add_zeros((txn.count as usize) << txn.size);
+            outcomes.add_zeros(span_of(txn));
             outcomes.finish(lost);
         }
     }
+}
+
+fn code_of(number: u8) -> Code
+    ensures { result ≡ code_numbered number }
+{
+    match number {
+        0 => Code::Ok,
+        1 => Code::ExOk,
+        2 => Code::DevErr,
+        _ => Code::NetErr,
+    }
+}
+
+fn state_of(kind: Kind, code: u8) -> TxnState
+    ensures { result ≡ state_by kind code }
+{
+    match kind {
+        Kind::Posted => TxnState::Posted,
+        Kind::Read | Kind::Write | Kind::Atomic(_) => TxnState::Answered {
+            code: code_of(code),
+        },
+    }
+}
+
+/// Steps the memory by each packet of a transaction that is aimed at it.
+fn issue(memory: &mut Memory, journal: &mut Journal, outcomes: &mut Outcomes, index: u32, txn: &Txn)
+    requires txn { IsTransaction txn.now }
+    requires inside { txn.now.addr + txn.now.count * 2 ^ txn.now.size ≤ 65536 }
+    requires index { index < 65536 }
+    requires base { memory.old.base ≡ 0 }
+    requires size { length memory.old.bytes ≡ 65536 }
+    requires first { All IsFirstRound journal.old.entries }
+    requires spare { length (transaction_packets (solo_host []) 0 txn.now) ≤ journal.old.spare }
+    requires rows { 0 < outcomes.old.spare_rows }
+    requires room { 32 * length (transaction_packets (solo_host []) 0 txn.now) ≤ outcomes.old.spare_bytes }
+    requires next { outcomes.old.next ≡ [] }
+    ensures memory { memory.new ≡ memory_after memory.old (transaction_accesses (solo_host []) index txn.now) }
+    ensures base { memory.new.base ≡ 0 }
+    ensures size { length memory.new.bytes ≡ 65536 }
+    ensures packets { map (λ e. message_of e.packet) journal.new.entries ≡ map (λ e. message_of e.packet) journal.old.entries ++ transaction_packets (solo_host []) index txn.now }
+    ensures first { All IsFirstRound journal.new.entries }
+    ensures spare { journal.old.spare ≡ journal.new.spare + length (transaction_packets (solo_host []) 0 txn.now) }
+    ensures outcomes { outcomes.new.outcomes ≡ outcomes.old.outcomes ++ outcome_of txn.now.kind (found memory.old (transaction_accesses (solo_host []) index txn.now)) ∷ [] }
+    ensures next { outcomes.new.next ≡ [] }
+    ensures rows { outcomes.new.spare_rows ≡ outcomes.old.spare_rows - 1 }
+    ensures room { outcomes.old.spare_bytes ≤ outcomes.new.spare_bytes + 32 * length (transaction_packets (solo_host []) 0 txn.now) }
+{
+    let count = packets(txn, 32);
+    let mut code = 0;
+    for k in 0..count {
+        let packet = packet_of(0, 0, 0, index, txn, 32, k);
+        code = step(memory, journal, outcomes, &packet).max(code);
+    }
+    outcomes.finish(state_of(txn.kind, code));
+}
+
+/// Does one transaction of a script.
+fn perform(
+    memory: &mut Memory,
+    journal: &mut Journal,
+    outcomes: &mut Outcomes,
+    index: u32,
+    txn: &Txn,
+)
+    requires txn { IsTransaction txn.now }
+    requires index { index < 65536 }
+    requires base { memory.old.base ≡ 0 }
+    requires size { length memory.old.bytes ≡ 65536 }
+    requires first { All IsFirstRound journal.old.entries }
+    requires spare { entries_of txn.now ≤ journal.old.spare }
+    requires rows { 0 < outcomes.old.spare_rows }
+    requires room { answer_room_of txn.now ≤ outcomes.old.spare_bytes }
+    requires next { outcomes.old.next ≡ [] }
+    ensures memory { memory.new ≡ solo_step [] index memory.old txn.now }
+    ensures base { memory.new.base ≡ 0 }
+    ensures size { length memory.new.bytes ≡ 65536 }
+    ensures packets { map (λ e. message_of e.packet) journal.new.entries ≡ map (λ e. message_of e.packet) journal.old.entries ++ packets_at index txn.now }
+    ensures first { All IsFirstRound journal.new.entries }
+    ensures spare { journal.old.spare ≡ journal.new.spare + entries_of txn.now }
+    ensures outcomes { outcomes.new.outcomes ≡ outcomes.old.outcomes ++ outcome_of txn.now.kind (solo_answers [] index memory.old txn.now) ∷ [] }
+    ensures next { outcomes.new.next ≡ [] }
+    ensures rows { outcomes.new.spare_rows ≡ outcomes.old.spare_rows - 1 }
+    ensures room { outcomes.old.spare_bytes ≤ outcomes.new.spare_bytes + answer_room_of txn.now }
+{
+    if is_aimed(txn) {
+        issue(memory, journal, outcomes, index, txn);
+    } else {
+        lose(outcomes, txn);
+    }
+}
+
+/// The room that a script needs.
+#[derive(Clone, Copy, Debug, PartialEq, Eq)]
+struct Room {
+    /// Entries of the journal.
+    entries: u32,
+    /// Bytes of answers.
+    bytes: usize,
+}
+
+/// The room that one transaction needs.
+fn room_of(txn: &Txn) -> Room
+    requires { IsTransaction txn.now }
+    ensures entries { result.entries ≡ entries_of txn.now }
+    ensures bytes { result.bytes ≡ answer_room_of txn.now }
+    ensures few { result.entries ≤ 64 }
+    ensures short { result.bytes ≤ 2048 }
+{
+    if is_aimed(txn) {
+        let entries = packets(txn, 32);
+        Room {
+            entries,
+            bytes: 32 * entries as usize,
+        }
+    } else {
+        Room {
+            entries: 0,
+            bytes: span_of(txn),
+        }
+    }
+}
+
+/// The room that all transactions need.
+fn room_in(script: &[Txn]) -> Room
+    requires transactions { All IsTransaction script.now }
+    requires few { length script.now ≤ 65536 }
+    ensures entries { result.entries ≡ entries_in script.now }
+    ensures bytes { result.bytes ≡ answer_room_in script.now }
+{
+    let mut room = Room {
+        entries: 0,
+        bytes: 0,
+    };
+    for txn in script {
+        let more = room_of(txn);
+        room.entries += more.entries;
+        room.bytes += more.bytes;
+    }
+    room
 }
 
 /// What the run of a script comes to.
@@ -89,6 +237,15 @@ fn lose(outcomes: &mut Outcomes, txn: &Txn)
 pub struct Run {
     pub outcomes: Outcomes,
     pub memory: Memory,
+}
+
+#[tactic(auto, unfolding(sb_packet::specs::SoloRuns::solo_opening))]
+fn new_memory(alloc: Global) -> Result<Memory, AllocError>
+    ensures opening { IfOk result (λ m. m ≡ solo_opening) }
+    ensures base { IfOk result (λ m. m.base ≡ 0) }
+    ensures size { IfOk result (λ m. length m.bytes ≡ 65536) }
+{
+    Memory::new(alloc, 0, 16, false, &[])
 }
 
 /// Runs a script against a new memory. It takes all its memory before the first step; where some is missing, the journal
@@ -103,5 +260,12 @@ pub fn run_script(alloc: Global, script: &[Txn], journal: &mut Journal) -> Resul
     ensures size { IfOk result (λ run. length run.memory.bytes ≡ 65536) }
     ensures err { OnErr result (journal.new.entries ≡ []) }
 {
-    Err(AllocError)
+    let room = room_in(script);
+    let mut memory = new_memory(alloc)?;
+    let mut outcomes = Outcomes::new(alloc, script.len(), room.bytes)?;
+    journal.reserve(room.entries)?;
+    for (index, txn) in script.iter().enumerate() {
+        perform(&mut memory, journal, &mut outcomes, index as u32, txn);
+    }
+    Ok(Run { outcomes, memory })
 }

@@ -1,0 +1,32 @@
+//! The program `sb`: it hands its words, its standard input and its standard output to the top call.
+#![tactic(auto)]
+
+use sb_top::{Journal, ReaderSource, WriterSink, top};
+use std::process::ExitCode;
+use std::{env, io};
+
+/// The status where memory is missing before the top call.
+const OUT_OF_MEMORY: u8 = 6;
+
+fn main(rt: HostRuntime) -> ExitCode {
+    let alloc = rt.alloc();
+    let mut words = Vec::new(alloc);
+    // Words that are not all text count as none, which are not taken.
+    if let Ok(args) = env::args(&rt) {
+        for word in args.skip(1) {
+            if words.push(word).is_err() {
+                return ExitCode::from(OUT_OF_MEMORY);
+            }
+        }
+    }
+    let mut source = ReaderSource::new(rt.reader());
+    let mut sink = WriterSink::new(io::writer(&rt));
+    let mut journal = Journal::new(alloc);
+    ExitCode::from(top(
+        alloc,
+        words.as_slice(),
+        &mut source,
+        &mut sink,
+        &mut journal,
+    ))
+}

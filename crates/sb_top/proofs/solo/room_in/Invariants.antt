@@ -1,0 +1,11 @@
+use Rattle.std.proofs.Common.{◌≡◌, ◌≤◌, ◌+◌, ◌*◌, drop}
+use Rattle.sb_top.specs.Steps.{entries_in, answer_room_in}
+use Rattle.sb_top.proofs.solo.room_in.Given as goal
+
+abbrev pub invariant-loop-txn : goal.invariant-loop-txn
+invariant-loop-txn l = record {
+  entries : l.room.entries + entries_in (drop l.txn-index l.script) ≡ entries_in l.script;
+  bytes : l.room.bytes + answer_room_in (drop l.txn-index l.script) ≡ answer_room_in l.script;
+  few : l.room.entries ≤ 64 * l.txn-index;
+  short : l.room.bytes ≤ 2048 * l.txn-index;
+}
