@@ -143,7 +143,7 @@ impl Memory {
             return reply(p, 2, [0; 32]);
         }
         let size = span(&p.cmd);
-        let old = padded(self.held(p));
+        let old: [u8; 32] = padded(self.held(p));
         self.store(p.dst, &combined_bytes(p, &old[..size])[..size]);
         reply(p, 0, old)
     }

@@ -41,13 +41,14 @@ invariant_of-result c =
     let long : length bytes ≡ carried_of cmd = c.requires.carried in
     let padding : drop (carried_of cmd) (bytes ++ replicate (32 - length bytes) 0) ≡ replicate (32 - carried_of cmd) 0 = drop_at bytes (replicate (32 - length bytes) 0) (carried_of cmd) long ∙ rw long refl in
     record {
-        whole = rw c.padded.ensures (simp (length-append, length-replicate) (omega arith));
-        fits = omega arith;
-        dst_aligned = aligned_at c.args.address cmd.size cmd.size_fits c.requires.aligned;
-        src_aligned = aligned_at 0 cmd.size cmd.size_fits refl;
-        dst_in_range = omega arith;
-        src_in_range = omega arith;
-        padding = rw c.padded.ensures padding }
+      whole = rw c.padded.ensures (simp (length-append, length-replicate) (omega arith));
+      fits = omega arith;
+      dst_aligned = aligned_at c.args.address cmd.size cmd.size_fits c.requires.aligned;
+      src_aligned = aligned_at 0 cmd.size cmd.size_fits refl;
+      dst_in_range = omega arith;
+      src_in_range = omega arith;
+      padding = rw c.padded.ensures padding;
+    }
 
 pub returns-clause-short : goal.returns-clause-short
 returns-clause-short c = short_span c.args.cmd c.requires.one
