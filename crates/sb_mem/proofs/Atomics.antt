@@ -1,5 +1,5 @@
 -- What an atomic does to a memory and how it is answered.
-use Rattle.std.proofs.Common.{◌≡◌, ◌≤◌, ℕ, ◌+◌, ◌-◌, ◌*◌, ◌^◌, List, [], ◌∷◌, refl, ap, sym, ◌∙◌, arith, take, length, replicate, false, add-zero}
+use Rattle.std.proofs.Common.{◌≡◌, ◌≤◌, ℕ, ◌+◌, ◌-◌, ◌*◌, ◌^◌, List, [], ◌∷◌, refl, ap, sym, ◌∙◌, arith, take, length, replicate, Bool, false, true, add-zero}
 use Rattle.std.specs.Prelude.{map, Some, Option, if◌then◌else◌}
 use Rattle.std.specs.List.{range_with_len}
 use Rattle.std.proofs.lemmas.List.{take-take, length-replicate, replicate-append-replicate}
@@ -11,7 +11,7 @@ use Rattle.sb_packet.specs.Accesses.{Access, share, access_at, accesses_of}
 use Rattle.sb_packet.specs.Memories.{MemoryState, loaded, stored, written, write_code, old_bytes, number_of, combined, combined_bytes, access_answer, memory_after, answers_in}
 use Rattle.sb_packet.specs.declared.packet.Packet.{Packet}
 use Rattle.sb_packet.proofs.Overwrites.{access_step_taken}
-use Rattle.sb_mem.specs.Replies.{IsAnswerTo, body_of}
+use Rattle.sb_mem.specs.Replies.{IsAnswerTo, body_of, response_body, response_bytes}
 
 -- an atomic speaks of one word
 pub atomic_span : (p : Packet) → p.cmd.op ≡ ReqAtomic → span_of p.cmd ≡ 2 ^ p.cmd.size
@@ -61,8 +61,11 @@ combined_at p old op long =
     let bytes : a.bytes ≡ take (length old) p.body = rw (op, long, none, one) (take-take s s p.body (omega arith)) in
     sym (ap (λ (t : ℕ). combined t modulus (number_of old) (number_of a.bytes)) type ∙ ap (λ (operand : List ℕ). combined p.cmd.len modulus (number_of old) (number_of operand)) bytes)
 
--- a body of zeros is what a refused atomic carries
-pub body_of_zeros : (n : ℕ) → n ≤ 32 → replicate 32 0 ≡ body_of (replicate n 0)
-body_of_zeros n fits =
+-- zeros are the whole body of the answer to a refused atomic
+pub refused_body : (m : MemoryState) (p : Packet) → p.cmd.op ≡ ReqAtomic → m.readonly ≡ true → replicate 32 0 ≡ response_body m p
+refused_body m p op refuses =
+    let n = span_of p.cmd in
+    let fits : n ≤ 32 = p.fits in
     let whole : n + (32 - n) ≡ 32 = omega arith in
-    rw length-replicate (sym (replicate-append-replicate n (32 - n) 0 ∙ ap (λ (k : ℕ). replicate k 0) whole))
+    let zeros : body_of (replicate n 0) ≡ replicate 32 0 = rw length-replicate (replicate-append-replicate n (32 - n) 0 ∙ ap (λ (k : ℕ). replicate k 0) whole) in
+    sym (ap (λ (o : Op). body_of (response_bytes m o p.dst n)) op ∙ ap (λ (r : Bool). body_of (if r then replicate n 0 else loaded m p.dst n)) refuses ∙ zeros)

@@ -5,15 +5,15 @@ use Rattle.std.specs.List.{range_with_len}
 use Rattle.std.proofs.lemmas.List.{take-take, take_at, length-take}
 use Rattle.std.proofs.Math.Seq.{drop-nil, take-nil}
 use Rattle.sb_word.specs.declared.command.Op.{Op}
-use Rattle.sb_word.specs.declared.command.Op.TheVariants.{ReqRd, ReqWr, ReqWrPosted}
-use Rattle.sb_packet.specs.Spans.{span_of, carried_of, carried_by, word_count_of}
+use Rattle.sb_word.specs.declared.command.Op.TheVariants.{ReqRd, ReqWr, ReqWrPosted, ReqAtomic, RespRd, RespWr}
+use Rattle.sb_packet.specs.Spans.{span_of, carried_of, carried_by, word_count_of, word_count_by}
 use Rattle.sb_packet.specs.Messages.{message_of}
 use Rattle.sb_packet.specs.Accesses.{Access, share, access_at, accesses_of}
 use Rattle.sb_packet.specs.Memories.{MemoryState, loaded, stored, written, write_code, access_step, access_answer, memory_after, answers_in}
 use Rattle.sb_packet.specs.declared.packet.Packet.{Packet}
 use Rattle.sb_packet.proofs.Shares.{shares_joined, share-take, share-drop, length-share}
 use Rattle.sb_packet.proofs.Overwrites.{access_step_taken, memory_after_unchanged, memory_after_stores, answers_in_unchanged, answers_in_alike}
-use Rattle.sb_mem.specs.Replies.{IsInRange, IsAnswerTo}
+use Rattle.sb_mem.specs.Replies.{IsInRange, IsAnswerTo, response_op, response_len}
 
 -- a word of a read leaves the memory as it is
 read_stays : (m : MemoryState) (p : Packet) (j : ℕ) → p.cmd.op ≡ ReqRd → access_step m (access_at (message_of p) j) ≡ m
@@ -87,3 +87,19 @@ write_answers m p a op answers code =
 -- nothing answers a posted write
 pub posted_answers : (m : MemoryState) (p : Packet) → p.cmd.op ≡ ReqWrPosted → answers_in m (accesses_of p) ≡ map (λ _. None) (accesses_of p)
 posted_answers m p op = answers_in_alike m.readonly (access_at (message_of p)) (access_at (message_of p)) (λ _. None) (λ n j h. rw op refl) m 0 (word_count_of p.cmd) refl
+
+-- an answer speaks of as many words as its request
+word_count_of_answer : (op : Op) (len : ℕ) → word_count_by (response_op op) (response_len op len) ≡ word_count_by op len
+word_count_of_answer ReqRd len = refl
+word_count_of_answer ReqWr len = refl
+word_count_of_answer ReqWrPosted len = refl
+word_count_of_answer ReqAtomic len = refl
+word_count_of_answer RespRd len = refl
+word_count_of_answer RespWr len = refl
+
+-- and of as many bytes
+pub span_of_answer : (p a : Packet) → IsAnswerTo p a → span_of a.cmd ≡ span_of p.cmd
+span_of_answer p a answers =
+    ap (λ (o : Op). word_count_by o a.cmd.len * 2 ^ a.cmd.size) answers.op ∙ ap (λ (len : ℕ). word_count_by (response_op p.cmd.op) len * 2 ^ a.cmd.size) answers.len
+    ∙ ap (λ (size : ℕ). word_count_by (response_op p.cmd.op) (response_len p.cmd.op p.cmd.len) * 2 ^ size) answers.size
+    ∙ ap (λ (n : ℕ). n * 2 ^ p.cmd.size) (word_count_of_answer p.cmd.op p.cmd.len)

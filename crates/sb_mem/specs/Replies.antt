@@ -49,3 +49,7 @@ response_bytes m _ address count = []
 -- bytes as the body of a packet, with zeros behind them
 abbrev pub body_of : List ℕ → List ℕ
 body_of bytes = bytes ++ replicate (32 - length bytes) 0
+
+-- the body of the answer to a packet
+abbrev pub response_body : MemoryState → Packet → List ℕ
+response_body m p = body_of (response_bytes m p.cmd.op p.dst (span_of p.cmd))

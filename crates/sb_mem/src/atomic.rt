@@ -1,5 +1,4 @@
-//! What an atomic makes of the old value of a word and its operand: after UMI, whose types 0 to 8 this project's
-//! profile numbers so.
+//! What an atomic makes of the old value of a word and its operand, by its type: after UMI, this project's profile.
 
 ghost use Rattle.std.specs.Prelude.{◌≡◌, ◌≤◌, ◌<◌, ◌+◌, ◌*◌, ◌^◌, ◌%◌, length, take, if◌then◌else◌};
 ghost use Rattle.sb_word.specs.declared.command.Op.TheVariants.{ReqAtomic};
@@ -8,6 +7,22 @@ ghost use Rattle.sb_packet.specs.Accesses.{access_at};
 ghost use Rattle.sb_packet.specs.Memories.{combined, combined_bytes as bytes_combined, number_of, signed_le};
 
 use sb_packet::{Packet, padded};
+
+const ADD: u8 = 0;
+
+const AND: u8 = 1;
+
+const OR: u8 = 2;
+
+const XOR: u8 = 3;
+
+const MAX: u8 = 4;
+
+const MIN: u8 = 5;
+
+const MAXU: u8 = 6;
+
+const MINU: u8 = 7;
 
 /// The bytes that an atomic leaves of a word, at the front.
 pub fn combined_bytes(p: &Packet, old: &[u8]) -> [u8; 8]
@@ -39,14 +54,15 @@ fn combined_word(kind: u8, size: u8, old: u64, operand: u64) -> u64
     ensures { result ≡ combined kind (256 ^ 2 ^ size) old operand }
 {
     match kind {
-        0 => wrapped_sum(size, old, operand),
-        1 => old & operand,
-        2 => old | operand,
-        3 => old ^ operand,
-        4 => signed_max(size, old, operand),
-        5 => signed_min(size, old, operand),
-        6 => old.max(operand),
-        7 => old.min(operand),
+        ADD => wrapped_sum(size, old, operand),
+        AND => old & operand,
+        OR => old | operand,
+        XOR => old ^ operand,
+        MAX => signed_max(size, old, operand),
+        MIN => signed_min(size, old, operand),
+        MAXU => old.max(operand),
+        MINU => old.min(operand),
+        // SWAP
         _ => operand,
     }
 }

@@ -6,7 +6,7 @@ ghost use Rattle.sb_packet.specs.Spans.{span_of};
 ghost use Rattle.sb_packet.specs.Accesses.{accesses_of};
 ghost use Rattle.sb_packet.specs.Journals.{is_request};
 ghost use Rattle.sb_packet.specs.Memories.{memory_after, answers_in, overwritten, stored, loaded, write_code};
-ghost use Rattle.sb_mem.specs.Replies.{IsInRange, IsAnswerTo, response_code, response_bytes, body_of};
+ghost use Rattle.sb_mem.specs.Replies.{IsInRange, IsAnswerTo, response_body, response_code};
 
 use crate::atomic::combined_bytes;
 use crate::reply::reply;
@@ -33,6 +33,7 @@ impl Model for Memory {
 
 impl Memory {
     /// A memory of so many pages of 4,096 bytes, 1 to 256, from a page's address on: the image, and zeros behind it.
+    /// It fails only where memory is missing.
     pub fn new(
         alloc: Global,
         base: u64,
@@ -76,11 +77,9 @@ impl Memory {
             (λ a. answers_in self.old (accesses_of p.now) ≡ map Some (accesses_of a)) }
         ensures no_answers { IfNone result
             (answers_in self.old (accesses_of p.now) ≡ map (λ _. None) (accesses_of p.now)) }
-        ensures fields { IfSome result (λ a. IsAnswerTo p.now a) }
+        ensures fields { IfSome result (IsAnswerTo p.now) }
         ensures code { IfSome result (λ a. a.cmd.tail ≡ response_code self.old p.now.cmd.op) }
-        ensures body { IfSome result
-            (λ a. a.body
-            ≡ body_of (response_bytes self.old p.now.cmd.op p.now.dst (span_of p.now.cmd))) }
+        ensures body { IfSome result (λ a. a.body ≡ response_body self.old p.now) }
         ensures memory { self.new ≡ memory_after self.old (accesses_of p.now) }
         ensures base { self.new.base ≡ self.old.base }
         ensures size { length self.new.bytes ≡ length self.old.bytes }
@@ -108,7 +107,7 @@ impl Memory {
         ensures answers { answers_in self.now (accesses_of p.now) ≡ map Some (accesses_of result) }
         ensures fields { IsAnswerTo p.now result }
         ensures code { result.cmd.tail ≡ 0 }
-        ensures body { result.body ≡ body_of (loaded self.now p.now.dst (span_of p.now.cmd)) }
+        ensures body { result.body ≡ response_body self.now p.now }
     {
         reply(p, 0, padded(self.held(p)))
     }
@@ -134,8 +133,7 @@ impl Memory {
         ensures answers { answers_in self.old (accesses_of p.now) ≡ map Some (accesses_of result) }
         ensures fields { IsAnswerTo p.now result }
         ensures code { result.cmd.tail ≡ write_code self.old }
-        ensures body { result.body
-            ≡ body_of (response_bytes self.old ReqAtomic p.now.dst (span_of p.now.cmd)) }
+        ensures body { result.body ≡ response_body self.old p.now }
         ensures memory { self.new ≡ memory_after self.old (accesses_of p.now) }
         ensures base { self.new.base ≡ self.old.base }
         ensures size { length self.new.bytes ≡ length self.old.bytes }
@@ -145,7 +143,7 @@ impl Memory {
             return reply(p, 2, [0; 32]);
         }
         let size = span(&p.cmd);
-        let old = padded(self.held(p));
+        let old: [u8; 32] = padded(self.held(p));
         self.store(p.dst, &combined_bytes(p, &old[..size])[..size]);
         reply(p, 0, old)
     }
@@ -185,3 +183,6 @@ fn overwrite(bytes: &mut Vec<u8>, place: usize, piece: &[u8])
 {
     bytes[place..place + piece.len()].copy_from_slice(piece);
 }
+
+#[cfg(test)]
+mod tests;

@@ -1,12 +1,11 @@
 use Rattle.std.proofs.Common.{◌≡◌, ◌≤◌, ◌^◌, ◌∙◌, ap, sym, arith, ℕ, List, take, replicate}
 use Rattle.std.specs.Prelude.{if◌then◌else◌}
 use Rattle.std.proofs.lemmas.List.{drop-replicate, take-replicate, length-take}
-use Rattle.sb_packet.specs.Spans.{span_of}
 use Rattle.sb_packet.specs.Memories.{MemoryState, loaded, stored, write_code, combined_bytes}
 use Rattle.sb_packet.specs.Messages.{message_of}
 use Rattle.sb_packet.specs.Accesses.{access_at}
 use Rattle.sb_mem.proofs.Requests.{padded_front}
-use Rattle.sb_mem.proofs.Atomics.{atomic_span, atomic_memory, atomic_answers, body_of_zeros}
+use Rattle.sb_mem.proofs.Atomics.{atomic_span, atomic_memory, atomic_answers, refused_body}
 use Rattle.sb_mem.proofs.TwosComplement.{word_length}
 use Rattle.sb_mem.proofs.memory.Memory.combine.Goals as goal
 
@@ -27,7 +26,7 @@ returns-then-self-clause-answers c =
 pub returns-then-self-clause-body : goal.returns-then-self-clause-body
 returns-then-self-clause-body c =
     let refuses = ap (λ (m : MemoryState). m.readonly) (sym c.self.view_is) ∙ c.if-self.true in
-    rw refuses (c.reply.ensures.body ∙ body_of_zeros (span_of c.args.p.now.cmd) c.args.p.now.fits)
+    c.reply.ensures.body ∙ refused_body c.args.self.now c.args.p.now c.requires.op refuses
 
 pub slice_bounds-store-end : goal.slice_bounds-store-end
 slice_bounds-store-end c =
