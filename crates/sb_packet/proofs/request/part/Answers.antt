@@ -10,10 +10,7 @@ request-requires-clause-dst_aligned c =
     rw (c.command-cmd.ensures.size, c.span-start.ensures) (words_aligned t.addr c.args.from t.size c.requires.txn.aligned)
 
 pub request-requires-clause-src_aligned : goal.request-requires-clause-src_aligned
-request-requires-clause-src_aligned c =
-    let size = c.args.txn.now.size in
-    rw (c.command-cmd.ensures.size, c.span-start.ensures, c.reply_address.ensures)
-    (words_aligned _ c.args.from size (reply_address_aligned c.args.id c.args.index size c.requires.txn.size))
+request-requires-clause-src_aligned c = grind (arith, words_aligned, reply_address_aligned)
 
 pub request-requires-clause-dst_in_range : goal.request-requires-clause-dst_in_range
 request-requires-clause-dst_in_range c =
