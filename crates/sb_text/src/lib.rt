@@ -1,6 +1,8 @@
 //! The text of a script: its lines, its words, and the transactions that they say.
 #![tactic(auto)]
 
+mod body;
+mod digit;
 mod line;
 mod line_fault;
 mod lines;

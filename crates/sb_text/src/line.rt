@@ -4,14 +4,14 @@ ghost use Rattle.std.specs.Prelude.{◌≡◌, ◌⊎◌, ◌<◌, ◌≤◌, �
 ghost use Rattle.std.specs.Str.Lines.{strip_carriage_return};
 ghost use Rattle.sb_packet.specs.Scripts.{HasBody, IsOneWordIfAtomic, IsTransaction};
 ghost use Rattle.sb_text.specs.Lines.{is_blank, words_of};
-ghost use Rattle.sb_text.specs.Transactions.{arguments_of, body_of, count_of, is_comment as comment_test, line_of, most_words as most_words_of, placed as placed_by, sentence_of, told_count as told_by, transaction_of};
+ghost use Rattle.sb_text.specs.Transactions.{arguments_of, body_of, count_of, line_of, most_words as most_words_of, placed as placed_by, sentence_of, told_count as told_by, transaction_of};
 ghost use Rattle.sb_text.specs.declared.line_fault.LineFault.TheVariants as faults;
 
+use crate::body::decoded;
 use crate::line_fault::LineFault;
 use crate::numeral::numeral;
 use crate::verb::kind_of;
-use crate::words::{Words, trimmed};
-use hex::FromHexError;
+use crate::words::Words;
 use sb_packet::{Bytes, Kind, Txn};
 use std::alloc::Global;
 
@@ -25,7 +25,7 @@ fn told_count(kind: Kind, last: &[u8]) -> Option<u64>
     }
 }
 
-/// The bytes of a body, from two digits each; a read has none.
+/// The bytes that a line brings; a read brings none.
 fn body(alloc: Global, kind: Kind, last: &[u8]) -> Result<Bytes, LineFault>
     ensures ok { IfOk result (λ body. body_of kind last.now ≡ Ok body) }
     ensures err { IfErr result (λ fault. (fault ≡ faults.Memory) ⊎ (body_of kind last.now ≡ Err fault)) }
@@ -33,11 +33,7 @@ fn body(alloc: Global, kind: Kind, last: &[u8]) -> Result<Bytes, LineFault>
     if kind == Kind::Read {
         return Ok(Bytes::new(Vec::new(alloc)));
     }
-    match hex::decode(alloc, last) {
-        Ok(bytes) => Ok(Bytes::new(bytes)),
-        Err(FromHexError::OutOfMemory) => Err(LineFault::Memory),
-        Err(_) => Err(LineFault::Data),
-    }
+    Ok(Bytes::new(decoded(alloc, last)?))
 }
 
 /// How many words a transaction speaks of; None where its bytes are no whole words.
@@ -66,6 +62,7 @@ fn most_words(kind: Kind) -> u64
 }
 
 /// The last tests of a transaction.
+#[inline(always)]
 fn placed(kind: Kind, addr: u64, size: u8, count: u64, body: Bytes) -> Result<Txn, LineFault>
     requires size { size ≤ 3 }
     requires kind { IsOneWordIfAtomic kind 1 }
@@ -133,7 +130,7 @@ fn arguments(alloc: Global, kind: Kind, mut words: Words) -> Result<Txn, LineFau
     let Some(size) = words.next_word() else {
         return Err(LineFault::Number);
     };
-    let Some(last) = words.next_word() else {
+    let Some(last) = words.next_long_word() else {
         return Err(LineFault::Number);
     };
     match words.next_word() {
@@ -156,14 +153,6 @@ fn sentence(alloc: Global, mut words: Words) -> Result<Option<Txn>, LineFault>
     }
 }
 
-/// A line, from its first byte that is no blank, is a comment.
-fn is_comment(line: &[u8]) -> bool
-    requires { 0 < length line.now → is_blank (slice_index line.now 0) ≡ false }
-    ensures { result ≡ comment_test (words_of line.now) }
-{
-    !line.is_empty() && line[0] == b'#'
-}
-
 /// A line without the carriage return at its end, if it has one.
 fn without_carriage_return(line: &[u8]) -> &[u8]
     ensures { result.now ≡ strip_carriage_return line.now }
@@ -183,9 +172,9 @@ pub fn read_line(alloc: Global, line: &[u8]) -> Result<Option<Txn>, LineFault>
     ensures value { IfOk result (λ txn. line_of line.now ≡ Ok txn) }
     ensures first_fault { IfErr result (λ fault. (fault ≡ faults.Memory) ⊎ (line_of line.now ≡ Err fault)) }
 {
-    let line = trimmed(without_carriage_return(line));
-    if is_comment(line) {
+    let words = Words::new(without_carriage_return(line));
+    if words.is_comment() {
         return Ok(None);
     }
-    sentence(alloc, Words::new(line))
+    sentence(alloc, words)
 }
