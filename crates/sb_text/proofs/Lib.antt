@@ -4,3 +4,4 @@ pub mod LineLemmas
 pub mod BodyLemmas
 pub mod TextLemmas
 pub mod ScriptLemmas
+pub mod Examples

@@ -1,4 +1,5 @@
 pub mod Numerals
 pub mod Lines
+pub mod Faults
 pub mod Transactions
 pub mod Scripts

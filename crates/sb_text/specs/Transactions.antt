@@ -7,25 +7,11 @@ use Rattle.hex.specs.declared.error.FromHexError.{FromHexError}
 use Rattle.sb_packet.specs.declared.transaction.Kind.{Kind}
 use Rattle.sb_packet.specs.declared.transaction.Kind.TheVariants.{Read, Write, Posted, Atomic}
 use Rattle.sb_packet.specs.declared.transaction.Txn.{Txn}
+use Rattle.sb_text.specs.Faults.{◌>>=◌, some_or, unless}
 use Rattle.sb_text.specs.Lines.{words_of}
 use Rattle.sb_text.specs.Numerals.{numeral_of}
 use Rattle.sb_text.specs.declared.line_fault.LineFault.{LineFault}
 use Rattle.sb_text.specs.declared.line_fault.LineFault.TheVariants as faults
-
--- the next step, if this one found no fault
-infixl 10 ◌>>=◌
-abbrev pub ◌>>=◌ : {A B : Type 0} → Result A LineFault → (A → Result B LineFault) → Result B LineFault
-(Ok x) >>= next = next x
-(Err fault) >>= next = Err fault
-
--- a value, or that fault where there is none
-abbrev pub some_or : {A : Type 0} → Option A → LineFault → Result A LineFault
-some_or (Some x) fault = Ok x
-some_or None fault = Err fault
-
--- that fault unless a test holds
-abbrev pub unless : Bool → LineFault → Result (Unit {0}) LineFault
-unless test fault = if test then Ok tt else Err fault
 
 -- the verbs, and what each asks for
 abbrev pub verbs : List (List ℕ × Kind)

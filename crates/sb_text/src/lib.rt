@@ -9,6 +9,9 @@ mod lines;
 mod numeral;
 mod script;
 mod script_fault;
+#[cfg(test)]
+mod tests;
+mod transaction;
 mod verb;
 mod words;
 

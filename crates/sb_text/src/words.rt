@@ -60,7 +60,7 @@ fn word_len(line: &[u8]) -> usize
     line.len()
 }
 
-/// The same, by a search that pays where the word is long.
+/// The same, by a search that pays where the word is long. Its code is kept out of the way of short words.
 #[inline(never)]
 fn long_word_len(line: &[u8]) -> usize
     ensures within { result ≤ length line.now }
