@@ -5,7 +5,7 @@ use Rattle.hex.specs.Hex.{decode_pairs}
 use Rattle.sb_packet.specs.declared.transaction.Kind.TheVariants.{Read, Write, Posted, Atomic}
 use Rattle.sb_text.specs.Numerals.{numeral_of}
 use Rattle.sb_text.specs.Lines.{lines_of, words_of}
-use Rattle.sb_text.specs.Transactions.{line_of}
+use Rattle.sb_text.specs.Sentences.{line_of}
 use Rattle.sb_text.specs.Scripts.{script_of}
 use Rattle.sb_text.specs.declared.line_fault.LineFault.TheVariants as faults
 use Rattle.sb_text.specs.declared.script_fault.ScriptFault.TheVariants as script_faults

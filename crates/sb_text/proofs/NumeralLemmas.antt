@@ -49,6 +49,7 @@ read_below : (value : Option ℕ) (base digit : ℕ) → digit ≡ unwrap_or val
 read_below (Some v) base digit read below few = (lt-ltb v base (omega (arith, read)), sym read)
 read_below None base digit read below few = absurd (omega (arith, read))
 
+-- two tests that hold
 both_hold : (a b : Bool) → a ≡ true → b ≡ true → (a && b) ≡ true
 both_hold a b is_true also = cc
 

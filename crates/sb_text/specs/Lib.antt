@@ -2,4 +2,5 @@ pub mod Numerals
 pub mod Lines
 pub mod Faults
 pub mod Transactions
+pub mod Sentences
 pub mod Scripts

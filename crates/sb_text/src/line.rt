@@ -4,7 +4,7 @@ ghost use Rattle.std.specs.Prelude.{◌≡◌, ◌⊎◌, IfOk, IfErr, IfSome};
 ghost use Rattle.std.specs.Str.Lines.{strip_carriage_return};
 ghost use Rattle.sb_packet.specs.Scripts.{IsOneWordIfAtomic, IsTransaction};
 ghost use Rattle.sb_text.specs.Lines.{words_of};
-ghost use Rattle.sb_text.specs.Transactions.{arguments_of, line_of, sentence_of};
+ghost use Rattle.sb_text.specs.Sentences.{arguments_of, line_of, sentence_of};
 ghost use Rattle.sb_text.specs.declared.line_fault.LineFault.TheVariants as faults;
 
 use crate::line_fault::LineFault;

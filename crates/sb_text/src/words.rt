@@ -2,7 +2,7 @@
 
 ghost use Rattle.std.specs.Prelude.{◌≡◌, ◌<◌, ◌≤◌, true, false, [], ◌∷◌, All, length, slice_index, take, MatchOption};
 ghost use Rattle.sb_text.specs.Lines.{IsTrimmed, is_blank as blank_test, words_of};
-ghost use Rattle.sb_text.specs.Transactions.{is_comment as comment_test};
+ghost use Rattle.sb_text.specs.Sentences.{is_comment as comment_test};
 
 use memchr::memchr2;
 

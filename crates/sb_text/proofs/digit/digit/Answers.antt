@@ -5,6 +5,7 @@ use Rattle.hex.specs.Hex.{hex_digit_value}
 use Rattle.sb_text.specs.declared.digit.TheConstants.{DIGITS}
 use Rattle.sb_text.proofs.digit.digit.Goals as goal
 
+-- what a byte is worth as a digit
 worth : ℕ → ℕ
 worth byte = unwrap_or (hex_digit_value byte) 255
 

@@ -1,6 +1,6 @@
 use Rattle.std.proofs.Common.{◌≡◌, Some, sym, ◌∙◌}
 use Rattle.sb_text.specs.Transactions.{count_of}
-use Rattle.sb_text.proofs.LineLemmas.{has_body}
+use Rattle.sb_text.proofs.TransactionLemmas.{has_body}
 use Rattle.sb_text.proofs.transaction.transaction.Goals as goal
 
 pub placed-requires-clause-body : goal.placed-requires-clause-body
