@@ -1,5 +1,7 @@
 pub mod NumeralLemmas
 pub mod WordLemmas
-pub mod LineLemmas
+pub mod TransactionLemmas
+pub mod BodyLemmas
 pub mod TextLemmas
 pub mod ScriptLemmas
+pub mod Examples

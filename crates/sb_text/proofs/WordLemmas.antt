@@ -5,7 +5,7 @@ use Rattle.std.specs.Prelude.{All, filter, not}
 use Rattle.std.proofs.lemmas.List.{append-nil, take-append-drop}
 use Rattle.std.proofs.lemmas.List.Elements.{All-head, All-tail}
 use Rattle.std.proofs.lemmas.List.Splits.{slice_split-cons_yes, slice_split_none, slice_split_at}
-use Rattle.sb_text.specs.Lines.{is_blank, is_empty, words_of}
+use Rattle.sb_text.specs.Lines.{IsTrimmed, is_blank, is_empty, words_of}
 
 -- the pieces that are words
 abbrev kept : List (List ℕ) → List (List ℕ)
@@ -47,13 +47,14 @@ ends_word (b ∷ line) (suc n) blank = ends_word line n (λ h. blank (omega arit
 pub words_behind_blanks : (line : List ℕ) (n : ℕ) → All (λ b. is_blank b ≡ true) (take n line) → words_of line ≡ words_of (drop n line)
 words_behind_blanks line n all = ap words_of (sym (take-append-drop n line)) ∙ words_after_blanks (take n line) (drop n line) all
 
+-- where no blank stands at the front, a word does
+some_word : (line : List ℕ) (n : ℕ) → 0 < length line → IsTrimmed line → (n < length line → is_blank (get_or line n 0) ≡ true) → 0 < n
+some_word line zero some trimmed ends = absurd (false≢true (sym (trimmed some) ∙ ends some))
+some_word line (suc n) some trimmed ends = omega arith
+
 -- the first word, of n bytes, and those behind it
-pub words_behind_word : (line : List ℕ) (n : ℕ) → 0 < n → n ≤ length line → All (λ b. is_blank b ≡ false) (take n line) → (n < length line → is_blank (get_or line n 0) ≡ true) → words_of line ≡ take n line ∷ words_of (drop n line)
-words_behind_word line n some within all ends =
+pub first_word : (line : List ℕ) (n : ℕ) → 0 < length line → IsTrimmed line → n ≤ length line → All (λ b. is_blank b ≡ false) (take n line) → (n < length line → is_blank (get_or line n 0) ≡ true) → words_of line ≡ take n line ∷ words_of (drop n line)
+first_word line n some trimmed within all ends =
+    let solid : 0 < n = some_word line n some trimmed ends in
     let long : 0 < length (take n line) = simp length-take (omega arith) in
     ap words_of (sym (take-append-drop n line)) ∙ words_after_word (take n line) (drop n line) long all (ends_word line n ends)
-
--- a line that begins with no blank and with no word is empty
-pub none_left : (line : List ℕ) → (0 < length line → is_blank (get_or line 0 0) ≡ false) → (0 < length line → is_blank (get_or line 0 0) ≡ true) → words_of line ≡ []
-none_left [] solid blank = refl
-none_left (b ∷ line) solid blank = absurd (false≢true (sym (solid (omega arith)) ∙ blank (omega arith)))

@@ -1,4 +1,6 @@
 pub mod Numerals
 pub mod Lines
+pub mod Faults
 pub mod Transactions
+pub mod Sentences
 pub mod Scripts

@@ -1,22 +1,13 @@
 -- What a script's text says.
-use Rattle.std.specs.Prelude.{ℕ, ◌≢◌, ◌+◌, nat_le, Bool, List, [], ◌∷◌, length, sum_by, Option, Some, None, Result, Ok, Err, if◌then◌else◌}
+use Rattle.std.specs.Prelude.{ℕ, ◌≢◌, ◌+◌, nat_le, List, [], ◌∷◌, length, sum_by, Option, Some, None, Result, Ok, Err}
 use Rattle.sb_packet.specs.declared.transaction.Txn.{Txn}
+use Rattle.sb_text.specs.Faults.{◌>>=◌, unless}
 use Rattle.sb_text.specs.Lines.{lines_of}
-use Rattle.sb_text.specs.Transactions.{line_of}
+use Rattle.sb_text.specs.Sentences.{line_of}
 use Rattle.sb_text.specs.declared.line_fault.LineFault.{LineFault}
 use Rattle.sb_text.specs.declared.line_fault.LineFault.TheVariants as line_faults
 use Rattle.sb_text.specs.declared.script_fault.ScriptFault.{ScriptFault}
 use Rattle.sb_text.specs.declared.script_fault.ScriptFault.TheVariants.{Lines, Line, Words, Memory}
-
--- the next step, if this one found no fault
-infixl 10 ◌>>=◌
-abbrev pub ◌>>=◌ : {A B : Type 0} → Result A ScriptFault → (A → Result B ScriptFault) → Result B ScriptFault
-(Ok x) >>= next = next x
-(Err fault) >>= next = Err fault
-
--- that fault unless a test holds
-abbrev pub unless : Bool → ScriptFault → Result (Unit {0}) ScriptFault
-unless test fault = if test then Ok tt else Err fault
 
 -- what a line says, or its fault with its number
 abbrev pub at_line : ℕ → Result (Option Txn) LineFault → Result (Option Txn) ScriptFault

@@ -1,12 +1,17 @@
 //! The text of a script: its lines, its words, and the transactions that they say.
 #![tactic(auto)]
 
+mod body;
+mod digit;
 mod line;
 mod line_fault;
 mod lines;
 mod numeral;
 mod script;
 mod script_fault;
+#[cfg(test)]
+mod tests;
+mod transaction;
 mod verb;
 mod words;
 

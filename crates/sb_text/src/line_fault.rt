@@ -1,5 +1,10 @@
 //! What can be wrong with a line of a script.
 
+ghost use Rattle.std.specs.Prelude.{◌≡◌};
+ghost use Rattle.sb_text.specs.declared.line_fault.LineFault.TheVariants.{Memory};
+
+use std::alloc::AllocError;
+
 /// The first fault of a line, in the order in which they are tested: this project's own.
 #[derive(Clone, Copy, Debug, PartialEq, Eq)]
 pub enum LineFault {
@@ -21,4 +26,12 @@ pub enum LineFault {
     Range,
     /// Memory was missing; it says nothing of the line.
     Memory,
+}
+
+impl From<AllocError> for LineFault {
+    ghost from_gives = { λ _ result. result ≡ Memory };
+
+    fn from(_error: AllocError) -> LineFault {
+        LineFault::Memory
+    }
 }

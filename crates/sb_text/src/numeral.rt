@@ -1,54 +1,38 @@
 //! The numbers of a script.
 
-ghost use Rattle.std.specs.Prelude.{◌≡◌, ◌≤◌, length};
-ghost use Rattle.std.specs.Prelude.{Bool, ◌&&◌, if◌then◌else◌, Some, None};
+ghost use Rattle.std.specs.Prelude.{◌≡◌, ◌≤◌, ◌^◌, ◌&&◌, nat_lt, Some, None, if◌then◌else◌};
 ghost use Rattle.std.specs.List.{list_all};
-ghost use Rattle.hex.specs.Hex.{hex_digit_value};
-ghost use Rattle.sb_text.specs.Numerals.{is_digit_of, digits_value, number_of, is_hexadecimal as hexadecimal_test, numeral_of};
+ghost use Rattle.sb_text.specs.Numerals.{digits_value, is_digit_of, is_hexadecimal as hexadecimal_test, number_of, numeral_of};
 
-/// The value of a digit in either case.
-fn digit(byte: u8) -> Option<u8>
-    ensures { result ≡ hex_digit_value byte }
-{
-    match byte {
-        b'0'..=b'9' => Some(byte - b'0'),
-        b'a'..=b'f' => Some(byte - b'a' + 10),
-        b'A'..=b'F' => Some(byte - b'A' + 10),
-        _ => None,
-    }
-}
+use crate::digit::digit;
 
-/// What at most 20 digits are worth; None where one isn't of the base.
-fn value(digits: &[u8], base: u8) -> Option<u128>
-    requires base { base ≤ 16 }
-    requires most { length digits.now ≤ 20 }
-    ensures { result ≡ (if list_all (is_digit_of base) digits.now then Some (digits_value base digits.now) else None) }
+/// What digits are worth; None where one isn't of the base, or where they are worth 2^64 or more.
+#[inline(always)]
+fn value(digits: &[u8], base: u8) -> Option<u64>
+    requires { (2 ≤ base) × (base ≤ 16) }
+    ensures { result ≡ (if list_all (is_digit_of base) digits.now && nat_lt (digits_value base digits.now) (2 ^ 64) then Some (digits_value base digits.now) else None) }
 {
-    let mut value: u128 = 0;
+    let mut value: u64 = 0;
     for byte in digits {
-        match digit(*byte) {
-            Some(digit) if digit < base => value = value * base as u128 + digit as u128,
-            _ => return None,
+        let digit = digit(*byte);
+        if digit >= base {
+            return None;
         }
+        value = value.checked_mul(base as u64)?.checked_add(digit as u64)?;
     }
     Some(value)
 }
 
 /// The value of 1 to `most` digits, if it is below 2^64.
+#[inline(always)]
 fn number(digits: &[u8], base: u8, most: usize) -> Option<u64>
-    requires base { base ≤ 16 }
-    requires most { most ≤ 20 }
+    requires { (2 ≤ base) × (base ≤ 16) }
     ensures { result ≡ number_of base most digits.now }
 {
     if digits.is_empty() || digits.len() > most {
         return None;
     }
-    let value = value(digits, base)?;
-    if value < 1 << 64 {
-        Some(value as u64)
-    } else {
-        None
-    }
+    value(digits, base)
 }
 
 fn is_hexadecimal(word: &[u8]) -> bool
@@ -58,6 +42,7 @@ fn is_hexadecimal(word: &[u8]) -> bool
 }
 
 /// The value of a word, decimal or with `0x` hexadecimal; None where it is no number, or 2^64 or more.
+#[inline(never)]
 pub fn numeral(word: &[u8]) -> Option<u64>
     ensures { result ≡ numeral_of word.now }
 {

@@ -2,7 +2,7 @@
 
 ghost use Rattle.std.specs.Prelude.{◌≡◌, IfSome};
 ghost use Rattle.sb_packet.specs.Scripts.{IsOneWordIfAtomic};
-ghost use Rattle.sb_text.specs.Transactions.{kind_of as kind_by};
+ghost use Rattle.sb_text.specs.Sentences.{kind_of as kind_by};
 
 use sb_packet::Kind;
 

@@ -1,14 +1,19 @@
 //! The words of a line.
 
 ghost use Rattle.std.specs.Prelude.{◌≡◌, ◌<◌, ◌≤◌, true, false, [], ◌∷◌, All, length, slice_index, take, MatchOption};
-ghost use Rattle.sb_text.specs.Lines.{is_blank as blank_test, words_of};
+ghost use Rattle.sb_text.specs.Lines.{IsTrimmed, is_blank as blank_test, words_of};
+ghost use Rattle.sb_text.specs.Sentences.{is_comment as comment_test};
 
-/// What is left of a line, word by word.
+use memchr::memchr2;
+
+/// What is left of a line, word by word. It begins with no blank.
 #[derive(Clone, Copy, Debug)]
 pub struct Words<'a> {
     pub rest: &'a [u8],
+    pub ghost trimmed: { IsTrimmed rest.now },
 }
 
+#[inline(always)]
 fn is_blank(byte: u8) -> bool
     ensures { result ≡ blank_test byte }
 {
@@ -16,6 +21,7 @@ fn is_blank(byte: u8) -> bool
 }
 
 /// How many blanks and tabs a line begins with.
+#[inline(always)]
 fn blank_len(line: &[u8]) -> usize
     ensures within { result ≤ length line.now }
     ensures blank { All (λ byte. blank_test byte ≡ true) (take result line.now) }
@@ -29,7 +35,18 @@ fn blank_len(line: &[u8]) -> usize
     line.len()
 }
 
+/// A line without the blanks and tabs at its front.
+#[inline(always)]
+fn trimmed(line: &[u8]) -> &[u8]
+    ensures words { words_of result.now ≡ words_of line.now }
+    ensures front { IsTrimmed result.now }
+{
+    let (_, rest) = line.split_at(blank_len(line));
+    rest
+}
+
 /// How long the word is with which a line begins.
+#[inline(always)]
 fn word_len(line: &[u8]) -> usize
     ensures within { result ≤ length line.now }
     ensures word { All (λ byte. blank_test byte ≡ false) (take result line.now) }
@@ -43,30 +60,58 @@ fn word_len(line: &[u8]) -> usize
     line.len()
 }
 
-/// A line without the blanks and tabs at its front.
-pub fn trimmed(line: &[u8]) -> &[u8]
-    ensures words { words_of result.now ≡ words_of line.now }
-    ensures front { 0 < length result.now → blank_test (slice_index result.now 0) ≡ false }
+/// The same, by a search that pays where the word is long. Its code is kept out of the way of short words.
+#[inline(never)]
+fn long_word_len(line: &[u8]) -> usize
+    ensures within { result ≤ length line.now }
+    ensures word { All (λ byte. blank_test byte ≡ false) (take result line.now) }
+    ensures end { result < length line.now → blank_test (slice_index line.now result) ≡ true }
 {
-    let (_, rest) = line.split_at(blank_len(line));
-    rest
+    memchr2(b' ', b'\t', line).unwrap_or(line.len())
 }
 
 impl<'a> Words<'a> {
     /// The words of a line.
+    #[inline(always)]
     pub fn new(line: &'a [u8]) -> Words<'a>
-        ensures { result.rest.now ≡ line.now }
+        ensures { words_of result.rest.now ≡ words_of line.now }
     {
-        Words { rest: line }
+        Words {
+            rest: trimmed(line),
+        }
+    }
+
+    /// The first word begins with `#`.
+    #[inline(always)]
+    pub fn is_comment(&self) -> bool
+        ensures { result ≡ comment_test (words_of self.now.rest.now) }
+    {
+        !self.rest.is_empty() && self.rest[0] == b'#'
     }
 
     /// Takes off the next word.
+    #[inline(always)]
     pub fn next_word(&mut self) -> Option<&'a [u8]>
         ensures { MatchOption result (words_of self.old.rest.now ≡ []) (λ word. words_of self.old.rest.now ≡ word.now ∷ words_of self.new.rest.now) }
     {
-        let rest = trimmed(self.rest);
-        let (word, rest) = rest.split_at(word_len(rest));
-        self.rest = rest;
-        if word.is_empty() { None } else { Some(word) }
+        if self.rest.is_empty() {
+            return None;
+        }
+        let (word, rest) = self.rest.split_at(word_len(self.rest));
+        *self = Words::new(rest);
+        Some(word)
+    }
+
+    /// Takes off the next word, which may be long.
+    #[inline(always)]
+    pub fn next_long_word(&mut self) -> Option<&'a [u8]>
+        ensures { MatchOption result (words_of self.old.rest.now ≡ []) (λ word. words_of self.old.rest.now ≡ word.now ∷ words_of self.new.rest.now) }
+    {
+        if self.rest.is_empty() {
+            return None;
+        }
+        let (word, rest) = self.rest.split_at(long_word_len(self.rest));
+        *self = Words::new(rest);
+        Some(word)
     }
 }

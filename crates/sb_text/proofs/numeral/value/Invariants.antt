@@ -7,5 +7,5 @@ abbrev pub invariant-loop-byte : goal.invariant-loop-byte
 invariant-loop-byte l = record {
   digits : list_all (is_digit_of l.base) (take l.byte-index l.digits) ≡ true;
   value : l.value ≡ digits_value l.base (take l.byte-index l.digits);
-  small : l.value < 16 ^ l.byte-index;
+  fits : l.value < 2 ^ 64;
 }

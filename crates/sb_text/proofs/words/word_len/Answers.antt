@@ -1,4 +1,4 @@
-use Rattle.std.proofs.Common.{◌≡◌, false, arith, get_or}
+use Rattle.std.proofs.Common.{◌≡◌, ◌<◌, false, arith, get_or, length}
 use Rattle.std.proofs.lemmas.List.Elements.{All-more}
 use Rattle.sb_text.specs.Lines.{is_blank}
 use Rattle.sb_text.proofs.words.word_len.Goals as goal
@@ -6,4 +6,5 @@ use Rattle.sb_text.proofs.words.word_len.Goals as goal
 pub loop-index-preserved : goal.loop-index-preserved
 loop-index-preserved c =
     let here : is_blank (get_or c.args.line.now c.loop-index.index 0) ≡ false = grind (arith, c.if-is_blank.false) in
-    All-more (λ b. is_blank b ≡ false) c.args.line.now c.loop-index.index 0 c.loop-index-test.true c.loop-index.invariant here
+    let within : c.loop-index.index < length c.args.line.now = omega arith in
+    All-more (λ b. is_blank b ≡ false) c.args.line.now c.loop-index.index 0 within c.loop-index.invariant here

@@ -1,7 +1,7 @@
 use Rattle.std.proofs.Common.{◌≡◌, Some, sym, ◌∙◌}
 use Rattle.sb_text.specs.Transactions.{count_of}
-use Rattle.sb_text.proofs.LineLemmas.{has_body}
-use Rattle.sb_text.proofs.line.transaction.Goals as goal
+use Rattle.sb_text.proofs.TransactionLemmas.{has_body}
+use Rattle.sb_text.proofs.transaction.transaction.Goals as goal
 
 pub placed-requires-clause-body : goal.placed-requires-clause-body
 placed-requires-clause-body c =
