@@ -4,22 +4,26 @@
 mod bytes;
 mod entry;
 mod item;
+mod item_fault;
 mod journal;
 mod name;
 mod packet;
 mod padding;
 mod path;
 mod script;
+mod slot;
 mod transaction;
 
 pub use bytes::Bytes;
 pub use entry::Entry;
 pub use item::Item;
+pub use item_fault::ItemFault;
 pub use journal::Journal;
 pub use name::Name;
 pub use packet::Packet;
 pub use padding::padded;
 pub use path::Path;
-pub use sb_word::{Cmd, Op};
+pub use sb_word::{Cmd, Op, WordFault};
 pub use script::Script;
+pub use slot::{from_slot, to_slot};
 pub use transaction::{Code, Kind, Txn, TxnState};

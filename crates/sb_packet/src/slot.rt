@@ -1,0 +1,282 @@
+//! Slots: what goes over a ring, as eight numbers of 64 bits.
+
+ghost use Rattle.std.specs.Prelude.{◌≡◌, ◌≤◌, ◌<◌, true, ◌+◌, ◌-◌, ◌*◌, ◌/◌, ◌%◌, ◌^◌, drop, length, replicate, slice_index, take, IfOk, OnOk};
+ghost use Rattle.std.specs.Option.{option_map};
+ghost use Rattle.std.specs.Result.{result_err};
+ghost use Rattle.sb_word.specs.Faults.{word_fault};
+ghost use Rattle.sb_word.specs.Words.{word_of, IsWordOf};
+ghost use Rattle.sb_packet.specs.Memories.{bytes_of_number};
+ghost use Rattle.sb_packet.specs.SlotFaults.{address_fault, bytes_fault, carried_in, close_fault, packet_fault, padding_fault, range_fault, reserved_fault, size_in, slot_fault, span_in, unaligned_fault};
+ghost use Rattle.sb_packet.specs.Slots.{body_in, body_number, flag_in, slot_of, word_in, IsPacketSlot, IsSlotOf};
+ghost use Rattle.sb_packet.specs.Spans.{carried_by, carried_of, span_of};
+ghost use Rattle.sb_packet.specs.declared.item.Item.{Item};
+ghost use Rattle.sb_packet.specs.declared.item.Item.TheVariants as items;
+ghost use Rattle.sb_packet.specs.declared.item_fault.ItemFault.TheVariants.{Word};
+
+use crate::item::Item;
+use crate::item_fault::ItemFault;
+use crate::packet::Packet;
+use sb_word::{Cmd, Op, decode, encode};
+
+/// The slot of an item.
+///
+/// Number 0 has the command word in its low half, and in its high half 1 for a packet or 2 for a Close. Numbers 1 and
+/// 2 are `dst` and `src`, numbers 3 to 6 the body, the lowest byte first, and number 7 is 0. A Close has zeros there.
+pub fn to_slot(item: &Item) -> [u64; 8]
+    ensures slot { IsSlotOf result item.now }
+    ensures numbers { result ≡ slot_of item.now }
+{
+    match item {
+        Item::Packet(packet) => packet_slot(packet),
+        Item::Close => [2 << 32, 0, 0, 0, 0, 0, 0, 0],
+    }
+}
+
+/// The item of a slot, or the first fault of the slot: `Flag`, then `Word`, `Bytes`, `Range` of `dst` and of `src`,
+/// `Unaligned` of both, `Padding` and `Reserved`.
+pub fn from_slot(slot: &[u64; 8]) -> Result<Item, ItemFault>
+    ensures item { IfOk result (λ i. IsSlotOf slot.now i) }
+    ensures numbers { IfOk result (λ i. slot.now ≡ slot_of i) }
+    ensures fault { result_err result ≡ slot_fault slot.now }
+    ensures whole { (i : Item) → IsSlotOf slot.now i → result ≡ Ok i }
+{
+    match high_half(slot[0]) {
+        1 => Ok(Item::Packet(packet_from(slot)?)),
+        2 => {
+            check_close(slot)?;
+            Ok(Item::Close)
+        }
+        value => Err(ItemFault::Flag { value }),
+    }
+}
+
+fn packet_slot(packet: &Packet) -> [u64; 8]
+    ensures slot { IsPacketSlot result packet.now }
+    ensures numbers { result ≡ slot_of (Item.Packet packet.now) }
+{
+    [
+        u64::from(encode(&packet.cmd)) + (1 << 32),
+        packet.dst,
+        packet.src,
+        number_at(&packet.body, 0),
+        number_at(&packet.body, 8),
+        number_at(&packet.body, 16),
+        number_at(&packet.body, 24),
+        0,
+    ]
+}
+
+/// Eight bytes of a body as a number.
+fn number_at(body: &[u8; 32], place: usize) -> u64
+    requires { place ≤ 24 }
+    ensures number { result ≡ body_number place body.now }
+    ensures bytes { bytes_of_number 8 result ≡ take 8 (drop place body.now) }
+{
+    let mut bytes = [0; 8];
+    bytes.copy_from_slice(&body[place..place + 8]);
+    u64::from_le_bytes(bytes)
+}
+
+/// The body that a slot's numbers hold.
+fn body_from(slot: &[u64; 8]) -> [u8; 32]
+    ensures { result ≡ body_in slot.now }
+{
+    let mut body = [0; 32];
+    body[..8].copy_from_slice(&slot[3].to_le_bytes());
+    body[8..16].copy_from_slice(&slot[4].to_le_bytes());
+    body[16..24].copy_from_slice(&slot[5].to_le_bytes());
+    body[24..].copy_from_slice(&slot[6].to_le_bytes());
+    body
+}
+
+fn packet_from(slot: &[u64; 8]) -> Result<Packet, ItemFault>
+    requires { flag_in slot.now ≡ 1 }
+    ensures packet { IfOk result (λ p. IsPacketSlot slot.now p) }
+    ensures fault { result_err result ≡ packet_fault slot.now }
+{
+    let cmd = command_from(low_half(slot[0]))?;
+    let span = span(&cmd);
+    check_span(span)?;
+    check_addresses(span, 1 << cmd.size, slot[1], slot[2])?;
+    let body = body_from(slot);
+    check_body(slot, &body, carried(&cmd, span))?;
+    check_last(slot[7])?;
+    Ok(packet(cmd, slot[1], slot[2], body))
+}
+
+fn check_close(slot: &[u64; 8]) -> Result<(), ItemFault>
+    requires { flag_in slot.now ≡ 2 }
+    ensures close { OnOk result (IsSlotOf slot.now Item.Close) }
+    ensures fault { result_err result ≡ close_fault slot.now }
+{
+    check_zeros(&low_half(slot[0]).to_le_bytes(), 0)?;
+    check_zeros(&slot[1].to_le_bytes(), 8)?;
+    check_zeros(&slot[2].to_le_bytes(), 16)?;
+    check_zeros(&body_from(slot), 24)?;
+    check_last(slot[7])
+}
+
+fn low_half(number: u64) -> u32
+    ensures { result ≡ number % 2 ^ 32 }
+{
+    (number & 0xffff_ffff) as u32
+}
+
+fn high_half(number: u64) -> u32
+    ensures { result ≡ number / 2 ^ 32 }
+{
+    (number >> 32) as u32
+}
+
+fn command_from(word: u32) -> Result<Cmd, ItemFault>
+    ensures command { IfOk result (λ c. IsWordOf word c) }
+    ensures fault { result_err result ≡ option_map Word (word_fault word) }
+{
+    match decode(word) {
+        Ok(cmd) => Ok(cmd),
+        Err(fault) => Err(ItemFault::Word(fault)),
+    }
+}
+
+/// How many bytes a command speaks of.
+fn span(cmd: &Cmd) -> u32
+    ensures { result ≡ span_of cmd.now }
+{
+    match cmd.op {
+        Op::ReqAtomic => 1 << cmd.size,
+        _ => (u32::from(cmd.len) + 1) << cmd.size,
+    }
+}
+
+/// How many of them its packet carries.
+fn carried(cmd: &Cmd, span: u32) -> u32
+    ensures { result ≡ carried_by cmd.now.op span }
+{
+    match cmd.op {
+        Op::ReqRd | Op::RespWr => 0,
+        _ => span,
+    }
+}
+
+fn check_span(span: u32) -> Result<(), ItemFault>
+    ensures fits { OnOk result (span ≤ 32) }
+    ensures fault { result_err result ≡ bytes_fault span }
+{
+    if span > 32 {
+        return Err(ItemFault::Bytes { count: span });
+    }
+    Ok(())
+}
+
+fn check_addresses(span: u32, size: u64, dst: u64, src: u64) -> Result<(), ItemFault>
+    requires size { 0 < size }
+    requires span { span ≤ 32 }
+    ensures dst_in_range { OnOk result (dst + span ≤ 2 ^ 56) }
+    ensures src_in_range { OnOk result (src + span ≤ 2 ^ 56) }
+    ensures dst_aligned { OnOk result (dst % size ≡ 0) }
+    ensures src_aligned { OnOk result (src % size ≡ 0) }
+    ensures fault { result_err result ≡ address_fault span size dst src }
+{
+    check_range(span, dst)?;
+    check_range(span, src)?;
+    check_alignment(size, dst)?;
+    check_alignment(size, src)
+}
+
+fn check_range(span: u32, address: u64) -> Result<(), ItemFault>
+    requires { span ≤ 32 }
+    ensures in_range { OnOk result (address + span ≤ 2 ^ 56) }
+    ensures fault { result_err result ≡ range_fault span address }
+{
+    if address > (1 << 56) - u64::from(span) {
+        return Err(ItemFault::Range { address });
+    }
+    Ok(())
+}
+
+fn check_alignment(size: u64, address: u64) -> Result<(), ItemFault>
+    requires { 0 < size }
+    ensures aligned { OnOk result (address % size ≡ 0) }
+    ensures fault { result_err result ≡ unaligned_fault size address }
+{
+    if address % size != 0 {
+        return Err(ItemFault::Unaligned { address });
+    }
+    Ok(())
+}
+
+/// The bytes of a body behind those that are carried are 0.
+fn check_body(slot: &[u64; 8], body: &[u8; 32], carried: u32) -> Result<(), ItemFault>
+    requires body { body.now ≡ body_in slot.now }
+    requires carried { carried ≤ 32 }
+    ensures padding { OnOk result (drop carried body.now ≡ replicate (32 - carried) 0) }
+    ensures fault { result_err result ≡ padding_fault (24 + carried) (drop carried body.now) }
+{
+    if is_padded(slot, carried) {
+        return Ok(());
+    }
+    check_zeros(&body[carried as usize..], 24 + carried as u8)
+}
+
+/// So many bytes of the body at most aren't 0, by its four numbers.
+fn is_padded(slot: &[u64; 8], carried: u32) -> bool
+    requires { carried ≤ 32 }
+    ensures { result ≡ true → drop carried (body_in slot.now) ≡ replicate (32 - carried) 0 }
+{
+    is_short(slot[3], carried)
+        && is_short(slot[4], carried.saturating_sub(8))
+        && is_short(slot[5], carried.saturating_sub(16))
+        && is_short(slot[6], carried.saturating_sub(24))
+}
+
+/// A number has at most so many bytes.
+fn is_short(number: u64, bytes: u32) -> bool
+    ensures { result ≡ true → drop bytes (bytes_of_number 8 number) ≡ replicate (8 - bytes) 0 }
+{
+    bytes >= 8 || number >> (8 * bytes) == 0
+}
+
+/// All bytes are 0; the first of them has that place in the slot.
+fn check_zeros(bytes: &[u8], place: u8) -> Result<(), ItemFault>
+    requires { place + length bytes.now ≤ 56 }
+    ensures zeros { OnOk result (bytes.now ≡ replicate (length bytes.now) 0) }
+    ensures fault { result_err result ≡ padding_fault place bytes.now }
+{
+    match bytes.iter().position(|b| *b != 0) {
+        Some(at) => Err(ItemFault::Padding {
+            at: place + at as u8,
+        }),
+        None => Ok(()),
+    }
+}
+
+fn check_last(number: u64) -> Result<(), ItemFault>
+    ensures zero { OnOk result (number ≡ 0) }
+    ensures fault { result_err result ≡ reserved_fault number }
+{
+    if number != 0 {
+        return Err(ItemFault::Reserved { value: number });
+    }
+    Ok(())
+}
+
+fn packet(cmd: Cmd, dst: u64, src: u64, body: [u8; 32]) -> Packet
+    requires whole { length body ≡ 32 }
+    requires fits { span_of cmd ≤ 32 }
+    requires dst_aligned { dst % 2 ^ cmd.size ≡ 0 }
+    requires src_aligned { src % 2 ^ cmd.size ≡ 0 }
+    requires dst_in_range { dst + span_of cmd ≤ 2 ^ 56 }
+    requires src_in_range { src + span_of cmd ≤ 2 ^ 56 }
+    requires padding { drop (carried_of cmd) body ≡ replicate (32 - carried_of cmd) 0 }
+    ensures cmd { result.cmd ≡ cmd }
+    ensures dst { result.dst ≡ dst }
+    ensures src { result.src ≡ src }
+    ensures body { result.body ≡ body }
+{
+    Packet {
+        cmd,
+        dst,
+        src,
+        body,
+    }
+}
