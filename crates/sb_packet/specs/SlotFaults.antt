@@ -1,10 +1,10 @@
 -- What is wrong with a slot that is no item's. This project's own.
-use Rattle.std.specs.Prelude.{ℕ, ◌+◌, ◌*◌, ◌/◌, ◌%◌, ◌^◌, Bool, ◌||◌, ◌==◌, not, nat_lt, List, [], ◌∷◌, ◌++◌, drop, slice_index, Option, Some, None, if◌then◌else◌}
+use Rattle.std.specs.Prelude.{ℕ, ◌+◌, ◌*◌, ◌/◌, ◌%◌, ◌^◌, ◌||◌, ◌==◌, not, nat_lt, List, [], ◌∷◌, drop, slice_index, Option, Some, None, if◌then◌else◌}
 use Rattle.std.specs.List.{position_from}
 use Rattle.std.specs.Option.{option_map, option_or}
 use Rattle.sb_word.specs.Faults.{word_fault}
 use Rattle.sb_packet.specs.Memories.{bytes_of_number}
-use Rattle.sb_packet.specs.Slots.{word_in, flag_in, body_in}
+use Rattle.sb_packet.specs.Slots.{word_in, flag_in, number_bytes, body_in}
 use Rattle.sb_packet.specs.declared.item_fault.ItemFault.{ItemFault}
 use Rattle.sb_packet.specs.declared.item_fault.ItemFault.TheVariants.{Flag, Word, Bytes, Range, Unaligned, Padding, Reserved}
 
@@ -70,8 +70,8 @@ abbrev pub close_fault : List ℕ → Option ItemFault
 close_fault slot =
     first_of (
     padding_fault 0 (bytes_of_number 4 (word_in slot))
-    ∷ padding_fault 8 (bytes_of_number 8 (slice_index slot 1))
-    ∷ padding_fault 16 (bytes_of_number 8 (slice_index slot 2))
+    ∷ padding_fault 8 (number_bytes (slice_index slot 1))
+    ∷ padding_fault 16 (number_bytes (slice_index slot 2))
     ∷ padding_fault 24 (body_in slot)
     ∷ reserved_fault (slice_index slot 7) ∷ [])
 

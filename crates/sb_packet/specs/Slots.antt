@@ -13,11 +13,15 @@ word_in slot = slice_index slot 0 % 2 ^ 32
 abbrev pub flag_in : List ℕ → ℕ
 flag_in slot = slice_index slot 0 / 2 ^ 32
 
--- the bytes of numbers 3 to 6, each number's lowest first
+-- the eight bytes of a number of 64 bits, the lowest first
+unfoldable pub number_bytes : ℕ → List ℕ
+number_bytes n = bytes_of_number 8 n
+
+-- the body: the bytes of numbers 3 to 6
 abbrev pub body_in : List ℕ → List ℕ
 body_in slot =
-    bytes_of_number 8 (slice_index slot 3) ++ bytes_of_number 8 (slice_index slot 4)
-    ++ bytes_of_number 8 (slice_index slot 5) ++ bytes_of_number 8 (slice_index slot 6)
+    number_bytes (slice_index slot 3) ++ number_bytes (slice_index slot 4)
+    ++ number_bytes (slice_index slot 5) ++ number_bytes (slice_index slot 6)
 
 -- eight numbers are a packet's slot
 pub record IsPacketSlot (slot : List ℕ) (p : Packet) : Type 0 where

@@ -1,13 +1,14 @@
 //! Slots: what goes over a ring, as eight numbers of 64 bits.
 
-ghost use Rattle.std.specs.Prelude.{◌≡◌, ◌≤◌, ◌<◌, true, ◌+◌, ◌-◌, ◌*◌, ◌/◌, ◌%◌, ◌^◌, drop, length, replicate, slice_index, take, IfOk, OnOk};
+ghost use Rattle.std.specs.Prelude.{◌≡◌, ◌≤◌, ◌<◌, true, ◌+◌, ◌-◌, ◌*◌, ◌/◌, ◌%◌, ◌^◌, ◌==◌, ◌++◌, not, drop, length, replicate, slice_index, take, IfOk, IfSome, OnOk};
+ghost use Rattle.std.specs.List.{position_from};
 ghost use Rattle.std.specs.Option.{option_map};
 ghost use Rattle.std.specs.Result.{result_err};
 ghost use Rattle.sb_word.specs.Faults.{word_fault};
 ghost use Rattle.sb_word.specs.Words.{word_of, IsWordOf};
-ghost use Rattle.sb_packet.specs.Memories.{bytes_of_number};
+ghost use Rattle.sb_packet.specs.Memories.{bytes_of_number, number_of, overwritten};
 ghost use Rattle.sb_packet.specs.SlotFaults.{address_fault, bytes_fault, carried_in, close_fault, packet_fault, padding_fault, range_fault, reserved_fault, size_in, slot_fault, span_in, unaligned_fault};
-ghost use Rattle.sb_packet.specs.Slots.{body_in, body_number, flag_in, slot_of, word_in, IsPacketSlot, IsSlotOf};
+ghost use Rattle.sb_packet.specs.Slots.{body_in, body_number, flag_in, number_bytes, slot_of, word_in, IsPacketSlot, IsSlotOf};
 ghost use Rattle.sb_packet.specs.Spans.{carried_by, carried_of, span_of};
 ghost use Rattle.sb_packet.specs.declared.item.Item.{Item};
 ghost use Rattle.sb_packet.specs.declared.item.Item.TheVariants as items;
@@ -52,7 +53,7 @@ pub fn from_slot(slot: &[u64; 8]) -> Result<Item, ItemFault>
 
 fn packet_slot(packet: &Packet) -> [u64; 8]
     ensures slot { IsPacketSlot result packet.now }
-    ensures numbers { result ≡ slot_of (Item.Packet packet.now) }
+    ensures numbers { result ≡ slot_of (items.Packet packet.now) }
 {
     [
         u64::from(encode(&packet.cmd)) + (1 << 32),
@@ -67,10 +68,11 @@ fn packet_slot(packet: &Packet) -> [u64; 8]
 }
 
 /// Eight bytes of a body as a number.
+#[tactic(auto, unfolding(crate::specs::Slots::number_bytes))]
 fn number_at(body: &[u8; 32], place: usize) -> u64
     requires { place ≤ 24 }
     ensures number { result ≡ body_number place body.now }
-    ensures bytes { bytes_of_number 8 result ≡ take 8 (drop place body.now) }
+    ensures bytes { number_bytes result ≡ take 8 (drop place body.now) }
 {
     let mut bytes = [0; 8];
     bytes.copy_from_slice(&body[place..place + 8]);
@@ -79,25 +81,60 @@ fn number_at(body: &[u8; 32], place: usize) -> u64
 
 /// The body that a slot's numbers hold.
 fn body_from(slot: &[u64; 8]) -> [u8; 32]
-    ensures { result ≡ body_in slot.now }
+    ensures body { result ≡ body_in slot.now }
+    ensures len { length result ≡ 32 }
+    ensures first { body_number 0 result ≡ slice_index slot.now 3 }
+    ensures second { body_number 8 result ≡ slice_index slot.now 4 }
+    ensures third { body_number 16 result ≡ slice_index slot.now 5 }
+    ensures fourth { body_number 24 result ≡ slice_index slot.now 6 }
+{
+    joined(
+        &bytes_of(slot[3]),
+        &bytes_of(slot[4]),
+        &bytes_of(slot[5]),
+        &bytes_of(slot[6]),
+    )
+}
+
+/// Four parts of a body, one after another.
+fn joined(first: &[u8; 8], second: &[u8; 8], third: &[u8; 8], fourth: &[u8; 8]) -> [u8; 32]
+    ensures { result ≡ first.now ++ second.now ++ third.now ++ fourth.now }
 {
     let mut body = [0; 32];
-    body[..8].copy_from_slice(&slot[3].to_le_bytes());
-    body[8..16].copy_from_slice(&slot[4].to_le_bytes());
-    body[16..24].copy_from_slice(&slot[5].to_le_bytes());
-    body[24..].copy_from_slice(&slot[6].to_le_bytes());
+    put(&mut body, 0, first);
+    put(&mut body, 8, second);
+    put(&mut body, 16, third);
+    put(&mut body, 24, fourth);
     body
+}
+
+/// Puts eight bytes into a body.
+fn put(body: &mut [u8; 32], place: usize, part: &[u8; 8])
+    requires { place ≤ 24 }
+    ensures { body.new ≡ overwritten body.old place part.now }
+{
+    body[place..place + 8].copy_from_slice(part);
+}
+
+/// The bytes of a number, the lowest first.
+fn bytes_of(number: u64) -> [u8; 8]
+    ensures bytes { result ≡ number_bytes number }
+    ensures len { length result ≡ 8 }
+    ensures value { number_of result ≡ number }
+{
+    number.to_le_bytes()
 }
 
 fn packet_from(slot: &[u64; 8]) -> Result<Packet, ItemFault>
     requires { flag_in slot.now ≡ 1 }
     ensures packet { IfOk result (λ p. IsPacketSlot slot.now p) }
+    ensures numbers { IfOk result (λ p. slot.now ≡ slot_of (items.Packet p)) }
     ensures fault { result_err result ≡ packet_fault slot.now }
 {
     let cmd = command_from(low_half(slot[0]))?;
     let span = span(&cmd);
     check_span(span)?;
-    check_addresses(span, 1 << cmd.size, slot[1], slot[2])?;
+    check_addresses(span, word_size(&cmd), slot[1], slot[2])?;
     let body = body_from(slot);
     check_body(slot, &body, carried(&cmd, span))?;
     check_last(slot[7])?;
@@ -106,12 +143,12 @@ fn packet_from(slot: &[u64; 8]) -> Result<Packet, ItemFault>
 
 fn check_close(slot: &[u64; 8]) -> Result<(), ItemFault>
     requires { flag_in slot.now ≡ 2 }
-    ensures close { OnOk result (IsSlotOf slot.now Item.Close) }
+    ensures close { OnOk result (slot.now ≡ slot_of items.Close) }
     ensures fault { result_err result ≡ close_fault slot.now }
 {
-    check_zeros(&low_half(slot[0]).to_le_bytes(), 0)?;
-    check_zeros(&slot[1].to_le_bytes(), 8)?;
-    check_zeros(&slot[2].to_le_bytes(), 16)?;
+    check_word(low_half(slot[0]))?;
+    check_number(slot[1], 8)?;
+    check_number(slot[2], 16)?;
     check_zeros(&body_from(slot), 24)?;
     check_last(slot[7])
 }
@@ -130,12 +167,22 @@ fn high_half(number: u64) -> u32
 
 fn command_from(word: u32) -> Result<Cmd, ItemFault>
     ensures command { IfOk result (λ c. IsWordOf word c) }
+    ensures size { IfOk result (λ c. size_in word ≡ 2 ^ c.size) }
+    ensures span { IfOk result (λ c. span_in word ≡ span_of c) }
+    ensures carried { IfOk result (λ c. carried_in word ≡ carried_of c) }
     ensures fault { result_err result ≡ option_map Word (word_fault word) }
 {
     match decode(word) {
         Ok(cmd) => Ok(cmd),
         Err(fault) => Err(ItemFault::Word(fault)),
     }
+}
+
+/// How many bytes a command's word has.
+fn word_size(cmd: &Cmd) -> u64
+    ensures { result ≡ 2 ^ cmd.now.size }
+{
+    1 << cmd.size
 }
 
 /// How many bytes a command speaks of.
@@ -218,22 +265,40 @@ fn check_body(slot: &[u64; 8], body: &[u8; 32], carried: u32) -> Result<(), Item
     check_zeros(&body[carried as usize..], 24 + carried as u8)
 }
 
-/// So many bytes of the body at most aren't 0, by its four numbers.
+/// Behind so many bytes of the body there are only zeros, by its four numbers.
 fn is_padded(slot: &[u64; 8], carried: u32) -> bool
     requires { carried ≤ 32 }
     ensures { result ≡ true → drop carried (body_in slot.now) ≡ replicate (32 - carried) 0 }
 {
-    is_short(slot[3], carried)
-        && is_short(slot[4], carried.saturating_sub(8))
-        && is_short(slot[5], carried.saturating_sub(16))
-        && is_short(slot[6], carried.saturating_sub(24))
+    let rest = rest_of(slot[3], carried)
+        | rest_of(slot[4], carried.saturating_sub(8))
+        | rest_of(slot[5], carried.saturating_sub(16))
+        | rest_of(slot[6], carried.saturating_sub(24));
+    rest == 0
 }
 
-/// A number has at most so many bytes.
-fn is_short(number: u64, bytes: u32) -> bool
-    ensures { result ≡ true → drop bytes (bytes_of_number 8 number) ≡ replicate (8 - bytes) 0 }
+/// A number without its lowest bytes.
+fn rest_of(number: u64, bytes: u32) -> u64
+    ensures { result ≡ 0 → drop bytes (number_bytes number) ≡ replicate (8 - bytes) 0 }
 {
-    bytes >= 8 || number >> (8 * bytes) == 0
+    if bytes < 8 { number >> (8 * bytes) } else { 0 }
+}
+
+/// A Close's command word is 0.
+fn check_word(word: u32) -> Result<(), ItemFault>
+    ensures zero { OnOk result (word ≡ 0) }
+    ensures fault { result_err result ≡ padding_fault 0 (bytes_of_number 4 word) }
+{
+    check_zeros(&word.to_le_bytes(), 0)
+}
+
+/// A Close's address is 0; its first byte has that place in the slot.
+fn check_number(number: u64, place: u8) -> Result<(), ItemFault>
+    requires { place ≤ 48 }
+    ensures zero { OnOk result (number ≡ 0) }
+    ensures fault { result_err result ≡ padding_fault place (number_bytes number) }
+{
+    check_zeros(&bytes_of(number), place)
 }
 
 /// All bytes are 0; the first of them has that place in the slot.
@@ -242,12 +307,19 @@ fn check_zeros(bytes: &[u8], place: u8) -> Result<(), ItemFault>
     ensures zeros { OnOk result (bytes.now ≡ replicate (length bytes.now) 0) }
     ensures fault { result_err result ≡ padding_fault place bytes.now }
 {
-    match bytes.iter().position(|b| *b != 0) {
+    match first_nonzero(bytes) {
         Some(at) => Err(ItemFault::Padding {
             at: place + at as u8,
         }),
         None => Ok(()),
     }
+}
+
+fn first_nonzero(bytes: &[u8]) -> Option<usize>
+    ensures at { result ≡ position_from (λ b. not (b == 0)) 0 bytes.now }
+    ensures within { IfSome result (λ k. k < length bytes.now) }
+{
+    bytes.iter().position(|b| *b != 0)
 }
 
 fn check_last(number: u64) -> Result<(), ItemFault>

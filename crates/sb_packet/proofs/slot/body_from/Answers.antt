@@ -1,18 +1,17 @@
--- Four parts of 8 bytes, written one after another.
-use Rattle.std.proofs.Common.{◌≡◌, ◌∙◌, refl}
-use Rattle.std.specs.Prelude.{slice_index}
-use Rattle.sb_packet.specs.Memories.{bytes_of_number}
-use Rattle.sb_packet.proofs.SlotLemmas.{le_bytes_of_number}
+-- Each number of the body is worth its bytes.
+use Rattle.std.proofs.Common.{◌∙◌, ap}
+use Rattle.sb_packet.specs.Slots.{body_number}
+use Rattle.sb_packet.proofs.SlotLemmas.{body_number-parts}
 use Rattle.sb_packet.proofs.slot.body_from.Goals as goal
 
-pub returns : goal.returns
-returns c =
-    let first : c.copy_from_slice.new.self ≡ bytes_of_number 8 (slice_index c.args.slot.now 3) =
-    c.copy_from_slice.ensures.after ∙ c.to_le_bytes.ensures ∙ le_bytes_of_number _ in
-    let second : c.copy_from_slice-2.new.self ≡ bytes_of_number 8 (slice_index c.args.slot.now 4) =
-    c.copy_from_slice-2.ensures.after ∙ c.to_le_bytes-2.ensures ∙ le_bytes_of_number _ in
-    let third : c.copy_from_slice-3.new.self ≡ bytes_of_number 8 (slice_index c.args.slot.now 5) =
-    c.copy_from_slice-3.ensures.after ∙ c.to_le_bytes-3.ensures ∙ le_bytes_of_number _ in
-    let fourth : c.copy_from_slice-4.new.self ≡ bytes_of_number 8 (slice_index c.args.slot.now 6) =
-    c.copy_from_slice-4.ensures.after ∙ c.to_le_bytes-4.ensures ∙ le_bytes_of_number _ in
-    rw (first, second, third, fourth) refl
+pub returns-clause-first : goal.returns-clause-first
+returns-clause-first c = ap (body_number 0) c.joined.ensures ∙ (body_number-parts c.bytes_of.result c.bytes_of-2.result c.bytes_of-3.result c.bytes_of-4.result c.bytes_of.ensures.len c.bytes_of-2.ensures.len c.bytes_of-3.ensures.len c.bytes_of-4.ensures.len).0 ∙ c.bytes_of.ensures.value
+
+pub returns-clause-second : goal.returns-clause-second
+returns-clause-second c = ap (body_number 8) c.joined.ensures ∙ (body_number-parts c.bytes_of.result c.bytes_of-2.result c.bytes_of-3.result c.bytes_of-4.result c.bytes_of.ensures.len c.bytes_of-2.ensures.len c.bytes_of-3.ensures.len c.bytes_of-4.ensures.len).1 ∙ c.bytes_of-2.ensures.value
+
+pub returns-clause-third : goal.returns-clause-third
+returns-clause-third c = ap (body_number 16) c.joined.ensures ∙ (body_number-parts c.bytes_of.result c.bytes_of-2.result c.bytes_of-3.result c.bytes_of-4.result c.bytes_of.ensures.len c.bytes_of-2.ensures.len c.bytes_of-3.ensures.len c.bytes_of-4.ensures.len).2 ∙ c.bytes_of-3.ensures.value
+
+pub returns-clause-fourth : goal.returns-clause-fourth
+returns-clause-fourth c = ap (body_number 24) c.joined.ensures ∙ (body_number-parts c.bytes_of.result c.bytes_of-2.result c.bytes_of-3.result c.bytes_of-4.result c.bytes_of.ensures.len c.bytes_of-2.ensures.len c.bytes_of-3.ensures.len c.bytes_of-4.ensures.len).3 ∙ c.bytes_of-4.ensures.value

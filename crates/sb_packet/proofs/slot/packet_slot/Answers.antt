@@ -1,5 +1,5 @@
 -- The halves of the first number, and the four parts of the body.
-use Rattle.std.proofs.Common.{◌≡◌, ◌+◌, ◌%◌, ◌/◌, ◌^◌, refl, arith}
+use Rattle.std.proofs.Common.{◌≡◌, ◌+◌, ◌%◌, ◌^◌, refl, arith}
 use Rattle.sb_packet.proofs.SlotLemmas.{parts_joined}
 use Rattle.sb_packet.proofs.slot.packet_slot.Goals as goal
 
