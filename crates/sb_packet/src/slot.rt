@@ -352,3 +352,155 @@ fn packet(cmd: Cmd, dst: u64, src: u64, body: [u8; 32]) -> Packet
         body,
     }
 }
+
+#[cfg(test)]
+mod tests {
+    use super::*;
+    use sb_word::WordFault;
+
+    const READ: [u64; 8] = [0x0000000110400061, 0x1000, 0x20000000800, 0, 0, 0, 0, 0];
+
+    const CLOSE: [u64; 8] = [0x0000000200000000, 0, 0, 0, 0, 0, 0, 0];
+
+    const WRITE: [u64; 8] = [
+        0x0000000108400163,
+        0x20,
+        0x8000000000,
+        0x0807060504030201,
+        0x100f0e0d0c0b0a09,
+        0,
+        0,
+        0,
+    ];
+
+    /// The read of one word of 8 bytes that `READ` holds.
+    fn read() -> Item {
+        Item::Packet(Packet {
+            cmd: Cmd {
+                op: Op::ReqRd,
+                size: 3,
+                len: 0,
+                qos: 0,
+                prot: 0,
+                eom: true,
+                eof: false,
+                ex: false,
+                tail: 0,
+                host: 2,
+            },
+            dst: 0x1000,
+            src: 0x20000000800,
+            body: [0; 32],
+        })
+    }
+
+    /// The write of two such words that `WRITE` holds.
+    fn write() -> Item {
+        let body = [
+            1, 2, 3, 4, 5, 6, 7, 8, 9, 10, 11, 12, 13, 14, 15, 16, 0, 0, 0, 0, 0, 0, 0, 0, 0, 0, 0,
+            0, 0, 0, 0, 0,
+        ];
+        Item::Packet(Packet {
+            cmd: Cmd {
+                op: Op::ReqWr,
+                size: 3,
+                len: 1,
+                qos: 0,
+                prot: 0,
+                eom: true,
+                eof: false,
+                ex: false,
+                tail: 0,
+                host: 1,
+            },
+            dst: 0x20,
+            src: 0x8000000000,
+            body,
+        })
+    }
+
+    #[test]
+    fn slots_and_faults(rt: HostRuntime) {
+        assert_eq!(rt; to_slot(&read()), READ);
+        assert_eq!(rt; from_slot(&READ), Ok(read()));
+        assert_eq!(rt; to_slot(&Item::Close), CLOSE);
+        assert_eq!(rt; from_slot(&CLOSE), Ok(Item::Close));
+        let high = 1 << 56;
+        let rows = [
+            (0, 0x0000000310400061, 0, ItemFault::Flag { value: 3 }),
+            (0, 0x0000000110400461, 0, ItemFault::Bytes { count: 40 }),
+            (1, 0x1004, 0, ItemFault::Unaligned { address: 0x1004 }),
+            (1, high, 0, ItemFault::Range { address: high }),
+            (1, high - 8, 1, ItemFault::Reserved { value: 1 }),
+            (3, 1, 1, ItemFault::Padding { at: 24 }),
+            (6, 1 << 63, 1, ItemFault::Padding { at: 55 }),
+            (7, 1, 1, ItemFault::Reserved { value: 1 }),
+        ];
+        for (place, number, last, fault) in rows {
+            let mut slot = READ;
+            slot[7] = last;
+            slot[place] = number;
+            assert_eq!(rt; from_slot(&slot), Err(fault), "at {number:#x}");
+        }
+        // the second address is out of range, and the first isn't a multiple of the word
+        let both = [0x0000000110400061, 0x1004, high, 0, 0, 0, 0, 0];
+        assert_eq!(rt; from_slot(&both), Err(ItemFault::Range { address: high }));
+        assert_eq!(rt; to_slot(&write()), WRITE);
+        assert_eq!(rt; from_slot(&WRITE), Ok(write()));
+        // a byte behind the 16 that are written
+        let more = [0x0000000108400163, 0x20, 0x8000000000, 0, 0, 0x11, 0, 0];
+        assert_eq!(rt; from_slot(&more), Err(ItemFault::Padding { at: 40 }));
+    }
+
+    /// What becomes of `READ` where one bit of the first number is turned over.
+    fn word_fault_at(bit: u32) -> Option<ItemFault> {
+        match bit {
+            0 => Some(ItemFault::Word(WordFault::Invalid)),
+            4 => Some(ItemFault::Word(WordFault::Opcode { value: 17 })),
+            7 => Some(ItemFault::Word(WordFault::Size { value: 7 })),
+            10..=15 => Some(ItemFault::Bytes {
+                count: 8 + (8 << (bit - 8)),
+            }),
+            32..=63 => Some(ItemFault::Flag {
+                value: 1 ^ (1 << (bit - 32)),
+            }),
+            _ => None,
+        }
+    }
+
+    /// What becomes of `READ` where one bit of a number is turned over, which makes it that value.
+    fn read_fault_at(place: usize, bit: u32, value: u64) -> Option<ItemFault>
+        requires place { place < 8 }
+        requires bit { bit < 64 }
+    {
+        match (place, bit) {
+            (0, _) => word_fault_at(bit),
+            (1 | 2, 0..=2) => Some(ItemFault::Unaligned { address: value }),
+            (1 | 2, 56..=63) => Some(ItemFault::Range { address: value }),
+            (1 | 2, _) => None,
+            (7, _) => Some(ItemFault::Reserved { value }),
+            _ => Some(ItemFault::Padding {
+                at: (8 * place) as u8 + (bit / 8) as u8,
+            }),
+        }
+    }
+
+    #[test]
+    fn each_bit_turned_over(rt: HostRuntime) {
+        for place in 0..8usize {
+            for bit in 0..64u32 {
+                let mut slot = READ;
+                slot[place] ^= 1 << bit;
+                let found = from_slot(&slot);
+                assert_eq!(rt;
+                    found.err(),
+                    read_fault_at(place, bit, slot[place]),
+                    "at {place}, {bit}"
+                );
+                if let Ok(item) = found {
+                    assert_eq!(rt; to_slot(&item), slot, "at {place}, {bit}");
+                }
+            }
+        }
+    }
+}
