@@ -12,6 +12,8 @@ mod padding;
 mod path;
 mod script;
 mod slot;
+mod slot_body;
+mod slot_checks;
 mod transaction;
 
 pub use bytes::Bytes;

@@ -1,14 +1,12 @@
 //! Slots: what goes over a ring, as eight numbers of 64 bits.
 
-ghost use Rattle.std.specs.Prelude.{◌≡◌, ◌≤◌, ◌<◌, true, ◌+◌, ◌-◌, ◌*◌, ◌/◌, ◌%◌, ◌^◌, ◌==◌, ◌++◌, not, drop, length, replicate, slice_index, take, IfOk, IfSome, OnOk};
-ghost use Rattle.std.specs.List.{position_from};
+ghost use Rattle.std.specs.Prelude.{◌≡◌, ◌≤◌, ◌+◌, ◌-◌, ◌/◌, ◌%◌, ◌^◌, drop, length, replicate, IfOk, OnOk};
 ghost use Rattle.std.specs.Option.{option_map};
 ghost use Rattle.std.specs.Result.{result_err};
 ghost use Rattle.sb_word.specs.Faults.{word_fault};
-ghost use Rattle.sb_word.specs.Words.{word_of, IsWordOf};
-ghost use Rattle.sb_packet.specs.Memories.{bytes_of_number, number_of, overwritten};
-ghost use Rattle.sb_packet.specs.SlotFaults.{address_fault, bytes_fault, carried_in, close_fault, packet_fault, padding_fault, range_fault, reserved_fault, size_in, slot_fault, span_in, unaligned_fault};
-ghost use Rattle.sb_packet.specs.Slots.{body_in, body_number, flag_in, number_bytes, slot_of, word_in, IsPacketSlot, IsSlotOf};
+ghost use Rattle.sb_word.specs.Words.{IsWordOf};
+ghost use Rattle.sb_packet.specs.SlotFaults.{carried_in, close_fault, packet_fault, size_in, slot_fault, span_in};
+ghost use Rattle.sb_packet.specs.Slots.{flag_in, slot_of, IsPacketSlot, IsSlotOf};
 ghost use Rattle.sb_packet.specs.Spans.{carried_by, carried_of, span_of};
 ghost use Rattle.sb_packet.specs.declared.item.Item.{Item};
 ghost use Rattle.sb_packet.specs.declared.item.Item.TheVariants as items;
@@ -17,6 +15,10 @@ ghost use Rattle.sb_packet.specs.declared.item_fault.ItemFault.TheVariants.{Word
 use crate::item::Item;
 use crate::item_fault::ItemFault;
 use crate::packet::Packet;
+use crate::slot_body::{body_from, number_at};
+use crate::slot_checks::{
+    check_addresses, check_body, check_last, check_number, check_span, check_word, check_zeros,
+};
 use sb_word::{Cmd, Op, decode, encode};
 
 /// The slot of an item.
@@ -65,64 +67,6 @@ fn packet_slot(packet: &Packet) -> [u64; 8]
         number_at(&packet.body, 24),
         0,
     ]
-}
-
-/// Eight bytes of a body as a number.
-#[tactic(auto, unfolding(crate::specs::Slots::number_bytes))]
-fn number_at(body: &[u8; 32], place: usize) -> u64
-    requires { place ≤ 24 }
-    ensures number { result ≡ body_number place body.now }
-    ensures bytes { number_bytes result ≡ take 8 (drop place body.now) }
-{
-    let mut bytes = [0; 8];
-    bytes.copy_from_slice(&body[place..place + 8]);
-    u64::from_le_bytes(bytes)
-}
-
-/// The body that a slot's numbers hold.
-fn body_from(slot: &[u64; 8]) -> [u8; 32]
-    ensures body { result ≡ body_in slot.now }
-    ensures len { length result ≡ 32 }
-    ensures first { body_number 0 result ≡ slice_index slot.now 3 }
-    ensures second { body_number 8 result ≡ slice_index slot.now 4 }
-    ensures third { body_number 16 result ≡ slice_index slot.now 5 }
-    ensures fourth { body_number 24 result ≡ slice_index slot.now 6 }
-{
-    joined(
-        &bytes_of(slot[3]),
-        &bytes_of(slot[4]),
-        &bytes_of(slot[5]),
-        &bytes_of(slot[6]),
-    )
-}
-
-/// Four parts of a body, one after another.
-fn joined(first: &[u8; 8], second: &[u8; 8], third: &[u8; 8], fourth: &[u8; 8]) -> [u8; 32]
-    ensures { result ≡ first.now ++ second.now ++ third.now ++ fourth.now }
-{
-    let mut body = [0; 32];
-    put(&mut body, 0, first);
-    put(&mut body, 8, second);
-    put(&mut body, 16, third);
-    put(&mut body, 24, fourth);
-    body
-}
-
-/// Puts eight bytes into a body.
-fn put(body: &mut [u8; 32], place: usize, part: &[u8; 8])
-    requires { place ≤ 24 }
-    ensures { body.new ≡ overwritten body.old place part.now }
-{
-    body[place..place + 8].copy_from_slice(part);
-}
-
-/// The bytes of a number, the lowest first.
-fn bytes_of(number: u64) -> [u8; 8]
-    ensures bytes { result ≡ number_bytes number }
-    ensures len { length result ≡ 8 }
-    ensures value { number_of result ≡ number }
-{
-    number.to_le_bytes()
 }
 
 fn packet_from(slot: &[u64; 8]) -> Result<Packet, ItemFault>
@@ -203,133 +147,6 @@ fn carried(cmd: &Cmd, span: u32) -> u32
         Op::ReqRd | Op::RespWr => 0,
         _ => span,
     }
-}
-
-fn check_span(span: u32) -> Result<(), ItemFault>
-    ensures fits { OnOk result (span ≤ 32) }
-    ensures fault { result_err result ≡ bytes_fault span }
-{
-    if span > 32 {
-        return Err(ItemFault::Bytes { count: span });
-    }
-    Ok(())
-}
-
-fn check_addresses(span: u32, size: u64, dst: u64, src: u64) -> Result<(), ItemFault>
-    requires size { 0 < size }
-    requires span { span ≤ 32 }
-    ensures dst_in_range { OnOk result (dst + span ≤ 2 ^ 56) }
-    ensures src_in_range { OnOk result (src + span ≤ 2 ^ 56) }
-    ensures dst_aligned { OnOk result (dst % size ≡ 0) }
-    ensures src_aligned { OnOk result (src % size ≡ 0) }
-    ensures fault { result_err result ≡ address_fault span size dst src }
-{
-    check_range(span, dst)?;
-    check_range(span, src)?;
-    check_alignment(size, dst)?;
-    check_alignment(size, src)
-}
-
-fn check_range(span: u32, address: u64) -> Result<(), ItemFault>
-    requires { span ≤ 32 }
-    ensures in_range { OnOk result (address + span ≤ 2 ^ 56) }
-    ensures fault { result_err result ≡ range_fault span address }
-{
-    if address > (1 << 56) - u64::from(span) {
-        return Err(ItemFault::Range { address });
-    }
-    Ok(())
-}
-
-fn check_alignment(size: u64, address: u64) -> Result<(), ItemFault>
-    requires { 0 < size }
-    ensures aligned { OnOk result (address % size ≡ 0) }
-    ensures fault { result_err result ≡ unaligned_fault size address }
-{
-    if address % size != 0 {
-        return Err(ItemFault::Unaligned { address });
-    }
-    Ok(())
-}
-
-/// The bytes of a body behind those that are carried are 0.
-fn check_body(slot: &[u64; 8], body: &[u8; 32], carried: u32) -> Result<(), ItemFault>
-    requires body { body.now ≡ body_in slot.now }
-    requires carried { carried ≤ 32 }
-    ensures padding { OnOk result (drop carried body.now ≡ replicate (32 - carried) 0) }
-    ensures fault { result_err result ≡ padding_fault (24 + carried) (drop carried body.now) }
-{
-    if is_padded(slot, carried) {
-        return Ok(());
-    }
-    check_zeros(&body[carried as usize..], 24 + carried as u8)
-}
-
-/// Behind so many bytes of the body there are only zeros, by its four numbers.
-fn is_padded(slot: &[u64; 8], carried: u32) -> bool
-    requires { carried ≤ 32 }
-    ensures { result ≡ true → drop carried (body_in slot.now) ≡ replicate (32 - carried) 0 }
-{
-    let rest = rest_of(slot[3], carried)
-        | rest_of(slot[4], carried.saturating_sub(8))
-        | rest_of(slot[5], carried.saturating_sub(16))
-        | rest_of(slot[6], carried.saturating_sub(24));
-    rest == 0
-}
-
-/// A number without its lowest bytes.
-fn rest_of(number: u64, bytes: u32) -> u64
-    ensures { result ≡ 0 → drop bytes (number_bytes number) ≡ replicate (8 - bytes) 0 }
-{
-    if bytes < 8 { number >> (8 * bytes) } else { 0 }
-}
-
-/// A Close's command word is 0.
-fn check_word(word: u32) -> Result<(), ItemFault>
-    ensures zero { OnOk result (word ≡ 0) }
-    ensures fault { result_err result ≡ padding_fault 0 (bytes_of_number 4 word) }
-{
-    check_zeros(&word.to_le_bytes(), 0)
-}
-
-/// A Close's address is 0; its first byte has that place in the slot.
-fn check_number(number: u64, place: u8) -> Result<(), ItemFault>
-    requires { place ≤ 48 }
-    ensures zero { OnOk result (number ≡ 0) }
-    ensures fault { result_err result ≡ padding_fault place (number_bytes number) }
-{
-    check_zeros(&bytes_of(number), place)
-}
-
-/// All bytes are 0; the first of them has that place in the slot.
-fn check_zeros(bytes: &[u8], place: u8) -> Result<(), ItemFault>
-    requires { place + length bytes.now ≤ 56 }
-    ensures zeros { OnOk result (bytes.now ≡ replicate (length bytes.now) 0) }
-    ensures fault { result_err result ≡ padding_fault place bytes.now }
-{
-    match first_nonzero(bytes) {
-        Some(at) => Err(ItemFault::Padding {
-            at: place + at as u8,
-        }),
-        None => Ok(()),
-    }
-}
-
-fn first_nonzero(bytes: &[u8]) -> Option<usize>
-    ensures at { result ≡ position_from (λ b. not (b == 0)) 0 bytes.now }
-    ensures within { IfSome result (λ k. k < length bytes.now) }
-{
-    bytes.iter().position(|b| *b != 0)
-}
-
-fn check_last(number: u64) -> Result<(), ItemFault>
-    ensures zero { OnOk result (number ≡ 0) }
-    ensures fault { result_err result ≡ reserved_fault number }
-{
-    if number != 0 {
-        return Err(ItemFault::Reserved { value: number });
-    }
-    Ok(())
 }
 
 fn packet(cmd: Cmd, dst: u64, src: u64, body: [u8; 32]) -> Packet
@@ -419,6 +236,21 @@ mod tests {
         })
     }
 
+    /// An item comes back from its slot.
+    fn there_and_back(item: &Item) -> Result<Item, ItemFault>
+        ensures { result ≡ Ok item.now }
+    {
+        from_slot(&to_slot(item))
+    }
+
+    /// A slot comes back from its item.
+    fn back_and_there(slot: &[u64; 8]) -> Result<[u64; 8], ItemFault>
+        ensures { IfOk result (λ again. again ≡ slot.now) }
+    {
+        let item = from_slot(slot)?;
+        Ok(to_slot(&item))
+    }
+
     #[test]
     fn slots_and_faults(rt: HostRuntime) {
         assert_eq!(rt; to_slot(&read()), READ);
@@ -447,6 +279,8 @@ mod tests {
         assert_eq!(rt; from_slot(&both), Err(ItemFault::Range { address: high }));
         assert_eq!(rt; to_slot(&write()), WRITE);
         assert_eq!(rt; from_slot(&WRITE), Ok(write()));
+        assert_eq!(rt; there_and_back(&write()), Ok(write()));
+        assert_eq!(rt; back_and_there(&WRITE), Ok(WRITE));
         // a byte behind the 16 that are written
         let more = [0x0000000108400163, 0x20, 0x8000000000, 0, 0, 0x11, 0, 0];
         assert_eq!(rt; from_slot(&more), Err(ItemFault::Padding { at: 40 }));

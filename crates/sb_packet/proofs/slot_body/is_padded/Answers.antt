@@ -4,7 +4,7 @@ use borrow.Author.Tests.{eqb-true}
 use Rattle.std.proofs.lemmas.Nat.{le_or_l, le_or_r}
 use Rattle.std.specs.Prelude.{slice_index, bit_or}
 use Rattle.sb_packet.proofs.ZeroBytes.{zeros_joined}
-use Rattle.sb_packet.proofs.slot.is_padded.Goals as goal
+use Rattle.sb_packet.proofs.slot_body.is_padded.Goals as goal
 
 -- where four numbers have no bit together, each is 0
 none_of_four : (a b c d : ℕ) → bit_or (bit_or (bit_or a b) c) d ≡ 0 → (a ≡ 0) × (b ≡ 0) × (c ≡ 0) × (d ≡ 0)

@@ -2,7 +2,7 @@
 use Rattle.std.proofs.Common.{◌∙◌, ap, rules}
 use Rattle.sb_packet.specs.Memories.{number_of}
 use Rattle.sb_packet.proofs.SlotLemmas.{le_bytes_of_number, number_of-number_bytes}
-use Rattle.sb_packet.proofs.slot.bytes_of.Goals as goal
+use Rattle.sb_packet.proofs.slot_body.bytes_of.Goals as goal
 
 pub returns-clause-bytes : goal.returns-clause-bytes
 returns-clause-bytes c = c.to_le_bytes.ensures ∙ le_bytes_of_number c.args.number

@@ -2,7 +2,7 @@
 use Rattle.std.proofs.Common.{◌≡◌, ◌∙◌, sym, ap, rules, length, replicate}
 use Rattle.std.specs.Prelude.{Result, Ok, Err, OnOk}
 use Rattle.sb_packet.proofs.ZeroBytes.{zero_from_number_bytes}
-use Rattle.sb_packet.proofs.slot.check_number.Goals as goal
+use Rattle.sb_packet.proofs.slot_checks.check_number.Goals as goal
 
 -- what is the case on Ok, from something else that is
 on_Ok : {T E : Type 0} (r : Result T E) (P Q : Type 0) → (P → Q) → OnOk r P → OnOk r Q

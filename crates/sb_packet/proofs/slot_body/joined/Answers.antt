@@ -1,6 +1,6 @@
 -- Four parts of 8 bytes, written one after another.
 use Rattle.sb_packet.proofs.SlotLemmas.{parts_written}
-use Rattle.sb_packet.proofs.slot.joined.Goals as goal
+use Rattle.sb_packet.proofs.slot_body.joined.Goals as goal
 
 pub returns : goal.returns
 returns c =

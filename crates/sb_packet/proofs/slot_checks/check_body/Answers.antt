@@ -2,7 +2,7 @@
 use Rattle.std.proofs.Common.{◌+◌, ◌-◌, ◌≡◌, drop, replicate, sym, refl}
 use Rattle.sb_packet.proofs.ZeroBytes.{padding_fault-zeros}
 use Rattle.sb_packet.specs.Slots.{body_in}
-use Rattle.sb_packet.proofs.slot.check_body.Goals as goal
+use Rattle.sb_packet.proofs.slot_checks.check_body.Goals as goal
 
 pub returns-then-is_padded-clause-fault : goal.returns-then-is_padded-clause-fault
 returns-then-is_padded-clause-fault c =
