@@ -4,8 +4,8 @@ use Rattle.std.specs.Prelude.{Some, None, not, if◌then◌else◌}
 use Rattle.std.specs.List.{position_from}
 use Rattle.std.specs.Option.{option_map}
 use Rattle.std.proofs.Math.Nat.{div-div-eq-div-mul, pow-suc, pow-succ'}
-use Rattle.std.proofs.lemmas.Nat.{pow-add, div_below}
-use Rattle.std.proofs.lemmas.List.{replicate-append-replicate, length-append, take_at, drop_at, take-replicate, drop-replicate}
+use Rattle.std.proofs.lemmas.Nat.{pow-add, div_below, shr_below}
+use Rattle.std.proofs.lemmas.List.{replicate-append-replicate, length-append, length-drop, take_at, drop_at, take-replicate, drop-replicate}
 use Rattle.sb_packet.proofs.SlotLemmas.{length-number_bytes}
 use Rattle.sb_packet.specs.Slots.{number_bytes}
 use Rattle.sb_packet.specs.Memories.{bytes_of_number}
@@ -83,27 +83,6 @@ drop-append zero xs ys = ap (λ n. xs ++ drop n ys) (let none : 0 ≡ 0 - length
 drop-append (suc i) [] ys = ap (λ n. drop n ys) (let all : suc i ≡ suc i - 0 = omega arith in all)
 drop-append (suc i) (x ∷ xs) ys = drop-append i xs ys ∙ ap (λ n. drop i xs ++ drop n ys) (let less : i - length xs ≡ suc i - suc (length xs) = omega arith in less)
 
--- the zeros behind `from` bytes of four numbers are those of each number
-pub zeros_joined : (from a b c d : ℕ) → from ≤ 32
-    → drop from (number_bytes a) ≡ replicate (8 - from) 0 → drop (from - 8) (number_bytes b) ≡ replicate (8 - (from - 8)) 0
-    → drop (from - 16) (number_bytes c) ≡ replicate (8 - (from - 16)) 0 → drop (from - 24) (number_bytes d) ≡ replicate (8 - (from - 24)) 0
-    → drop from (number_bytes a ++ number_bytes b ++ number_bytes c ++ number_bytes d) ≡ replicate (32 - from) 0
-zeros_joined from a b c d within first second third fourth =
-    let all : 32 - from ≡ (8 - from) + (8 - (from - 8)) + (8 - (from - 16)) + (8 - (from - 24)) = omega arith in
-    let x = number_bytes a in
-    let y = number_bytes b in
-    let z = number_bytes c in
-    let w = number_bytes d in
-    let two : length (x ++ y) ≡ 16 = simp (length-append, length-number_bytes) in
-    let three : length (x ++ y ++ z) ≡ 24 = simp (length-append, length-number_bytes) in
-    drop-append from (x ++ y ++ z) w
-    ∙ ap (λ n. drop from (x ++ y ++ z) ++ drop (from - n) w) three
-    ∙ ap (λ r. r ++ drop (from - 24) w) (drop-append from (x ++ y) z)
-    ∙ ap (λ n. drop from (x ++ y) ++ drop (from - n) z ++ drop (from - 24) w) two
-    ∙ ap (λ r. r ++ drop (from - 16) z ++ drop (from - 24) w) (drop-append from x y)
-    ∙ ap (λ n. drop from x ++ drop (from - n) y ++ drop (from - 16) z ++ drop (from - 24) w) (length-number_bytes a)
-    ∙ rw (first, second, third, fourth, all) (simp replicate-append-replicate)
-
 -- a number that has only zeros is 0
 pub zero_from_bytes : (k n : ℕ) → n < 256 ^ k → bytes_of_number k n ≡ replicate k 0 → n ≡ 0
 zero_from_bytes zero n below zeros = omega arith
@@ -126,3 +105,66 @@ zeros-split xs ys m n long zeros =
       sym (take_at xs ys m long) ∙ ap (take m) zeros ∙ take-replicate m (m + n) 0 less,
       sym (drop_at xs ys m long) ∙ ap (drop m) zeros ∙ drop-replicate m (m + n) 0 ∙ ap (λ k. replicate k 0) rest,
     )
+
+-- a number that has only zeros from byte i on is below 2 ^ (8 * i)
+pub quotient_from_zeros : (i n : ℕ) → n < 2 ^ 64 → i < 8 → drop i (number_bytes n) ≡ replicate (8 - i) 0 → n / 2 ^ (8 * i) ≡ 0
+unfolding number_bytes
+quotient_from_zeros i n below within zeros =
+    let all : 8 * (8 - i) + 8 * i ≡ 64 = omega arith in
+    let less : n / 2 ^ (8 * i) < 2 ^ (8 * (8 - i)) = shr_below n (8 * (8 - i)) (8 * i) (rw all below) in
+    let fits : n / 256 ^ i < 256 ^ (8 - i) = rw (← pow_256 i, ← pow_256 (8 - i)) less in
+    rw (pow_256 i) (zero_from_bytes (8 - i) (n / 256 ^ i) fits (sym (drop-bytes_of_number i 8 n) ∙ zeros))
+
+-- what is behind `from` bytes of four numbers
+pub drop-numbers : (from a b c d : ℕ) → drop from (number_bytes a ++ number_bytes b ++ number_bytes c ++ number_bytes d)
+    ≡ drop from (number_bytes a) ++ drop (from - 8) (number_bytes b) ++ drop (from - 16) (number_bytes c) ++ drop (from - 24) (number_bytes d)
+drop-numbers from a b c d =
+    let x = number_bytes a in
+    let y = number_bytes b in
+    let z = number_bytes c in
+    let w = number_bytes d in
+    let two : length (x ++ y) ≡ 16 = simp (length-append, length-number_bytes) in
+    let three : length (x ++ y ++ z) ≡ 24 = simp (length-append, length-number_bytes) in
+    drop-append from (x ++ y ++ z) w
+    ∙ ap (λ n. drop from (x ++ y ++ z) ++ drop (from - n) w) three
+    ∙ ap (λ r. r ++ drop (from - 24) w) (drop-append from (x ++ y) z)
+    ∙ ap (λ n. drop from (x ++ y) ++ drop (from - n) z ++ drop (from - 24) w) two
+    ∙ ap (λ r. r ++ drop (from - 16) z ++ drop (from - 24) w) (drop-append from x y)
+    ∙ ap (λ n. drop from x ++ drop (from - n) y ++ drop (from - 16) z ++ drop (from - 24) w) (length-number_bytes a)
+
+-- each of four numbers has only zeros behind `from` bytes of them all
+pub record AreShort (from a b c d : ℕ) : Type 0 where
+  pub first : drop from (number_bytes a) ≡ replicate (8 - from) 0
+  pub second : drop (from - 8) (number_bytes b) ≡ replicate (8 - (from - 8)) 0
+  pub third : drop (from - 16) (number_bytes c) ≡ replicate (8 - (from - 16)) 0
+  pub fourth : drop (from - 24) (number_bytes d) ≡ replicate (8 - (from - 24)) 0
+
+pub zeros_joined : (from a b c d : ℕ) → from ≤ 32 → AreShort from a b c d
+    → drop from (number_bytes a ++ number_bytes b ++ number_bytes c ++ number_bytes d) ≡ replicate (32 - from) 0
+zeros_joined from a b c d within h =
+    let all : 32 - from ≡ (8 - from) + (8 - (from - 8)) + (8 - (from - 16)) + (8 - (from - 24)) = omega arith in
+    drop-numbers from a b c d ∙ rw (h.first, h.second, h.third, h.fourth, all) (simp replicate-append-replicate)
+
+pub length-drop-number_bytes : (i n : ℕ) → length (drop i (number_bytes n)) ≡ 8 - i
+length-drop-number_bytes i n = length-drop i (number_bytes n) ∙ ap (λ k. k - i) (length-number_bytes n)
+
+pub zeros_apart : (from a b c d : ℕ) → from ≤ 32
+    → drop from (number_bytes a ++ number_bytes b ++ number_bytes c ++ number_bytes d) ≡ replicate (32 - from) 0 → AreShort from a b c d
+zeros_apart from a b c d within zeros =
+    let x = drop from (number_bytes a) in
+    let y = drop (from - 8) (number_bytes b) in
+    let z = drop (from - 16) (number_bytes c) in
+    let w = drop (from - 24) (number_bytes d) in
+    let k = 8 - from in
+    let l = 8 - (from - 8) in
+    let m = 8 - (from - 16) in
+    let n = 8 - (from - 24) in
+    let all : 32 - from ≡ k + l + m + n = omega arith in
+    let one : length x ≡ k = length-drop-number_bytes from a in
+    let two : length (x ++ y) ≡ k + l = length-append x y ∙ ap (λ j. j + length y) one ∙ ap (λ j. k + j) (length-drop-number_bytes (from - 8) b) in
+    let three : length (x ++ y ++ z) ≡ k + l + m = length-append (x ++ y) z ∙ ap (λ j. j + length z) two ∙ ap (λ j. k + l + j) (length-drop-number_bytes (from - 16) c) in
+    let whole : x ++ y ++ z ++ w ≡ replicate (k + l + m + n) 0 = sym (drop-numbers from a b c d) ∙ zeros ∙ ap (λ j. replicate j 0) all in
+    let last = zeros-split (x ++ y ++ z) w (k + l + m) n three whole in
+    let middle = zeros-split (x ++ y) z (k + l) m two last.0 in
+    let front = zeros-split x y k l one middle.0 in
+    record { first = front.0; second = front.1; third = middle.1; fourth = last.1 }

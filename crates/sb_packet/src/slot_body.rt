@@ -65,7 +65,8 @@ pub fn bytes_of(number: u64) -> [u8; 8]
 /// Behind so many bytes of the body there are only zeros, by its four numbers.
 pub fn is_padded(slot: &[u64; 8], carried: u32) -> bool
     requires { carried ≤ 32 }
-    ensures { result ≡ true → drop carried (body_in slot.now) ≡ replicate (32 - carried) 0 }
+    ensures zeros { result ≡ true → drop carried (body_in slot.now) ≡ replicate (32 - carried) 0 }
+    ensures only { drop carried (body_in slot.now) ≡ replicate (32 - carried) 0 → result ≡ true }
 {
     let rest = rest_of(slot[3], carried)
         | rest_of(slot[4], carried.saturating_sub(8))
@@ -76,7 +77,8 @@ pub fn is_padded(slot: &[u64; 8], carried: u32) -> bool
 
 /// A number without its lowest bytes.
 fn rest_of(number: u64, bytes: u32) -> u64
-    ensures { result ≡ 0 → drop bytes (number_bytes number) ≡ replicate (8 - bytes) 0 }
+    ensures zeros { result ≡ 0 → drop bytes (number_bytes number) ≡ replicate (8 - bytes) 0 }
+    ensures only { drop bytes (number_bytes number) ≡ replicate (8 - bytes) 0 → result ≡ 0 }
 {
     if bytes < 8 { number >> (8 * bytes) } else { 0 }
 }

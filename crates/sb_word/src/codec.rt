@@ -126,6 +126,21 @@ mod tests {
         }
     }
 
+    /// A command comes back from its word.
+    fn there_and_back(cmd: &Cmd) -> Result<Cmd, WordFault>
+        ensures { result ≡ Ok cmd.now }
+    {
+        decode(encode(cmd))
+    }
+
+    /// A word comes back from its command.
+    fn back_and_there(word: u32) -> Result<u32, WordFault>
+        ensures { IfOk result (λ again. again ≡ word) }
+    {
+        let cmd = decode(word)?;
+        Ok(encode(&cmd))
+    }
+
     #[test]
     fn words_and_commands(rt: HostRuntime) {
         let posted = Cmd {
@@ -162,6 +177,8 @@ mod tests {
         for (word, cmd) in rows {
             assert_eq!(rt; encode(&cmd), word, "at {word:#x}");
             assert_eq!(rt; decode(word), Ok(cmd), "at {word:#x}");
+            assert_eq!(rt; there_and_back(&cmd), Ok(cmd));
+            assert_eq!(rt; back_and_there(word), Ok(word));
         }
         let faults = [
             (0, WordFault::Invalid),
