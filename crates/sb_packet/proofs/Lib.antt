@@ -20,3 +20,7 @@ pub mod ReportExamples
 pub mod JournalExamples
 pub mod Overwrites
 pub mod Shares
+pub mod SlotLemmas
+pub mod ZeroBytes
+pub mod SlotFields
+pub mod SlotLaws

@@ -5,6 +5,8 @@ pub mod Padded
 pub mod Messages
 pub mod Accesses
 pub mod Memories
+pub mod Slots
+pub mod SlotFaults
 pub mod Networks
 pub mod Scripts
 pub mod Cuts
