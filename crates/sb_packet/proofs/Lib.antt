@@ -2,6 +2,7 @@ pub mod Ranges
 pub mod Lists
 pub mod CutWords
 pub mod CutSteps
+pub mod PacketsOfTransactions
 pub mod RisingReplies
 pub mod FoundAnswers
 pub mod ReplyAddresses
@@ -9,6 +10,7 @@ pub mod LawfulReplies
 pub mod Pages
 pub mod Places
 pub mod JoinedAnswers
+pub mod PacketWords
 pub mod SoloWords
 pub mod SoloLawful
 pub mod SoloResults
@@ -16,3 +18,5 @@ pub mod SoloCounts
 pub mod Examples
 pub mod ReportExamples
 pub mod JournalExamples
+pub mod Overwrites
+pub mod Shares

@@ -10,7 +10,9 @@ mod name;
 mod packet;
 mod padding;
 mod path;
+mod request;
 mod script;
+mod spans;
 mod transaction;
 
 pub use bytes::Bytes;
@@ -21,6 +23,8 @@ pub use name::Name;
 pub use packet::Packet;
 pub use padding::padded;
 pub use path::Path;
+pub use request::{packet_of, packets};
 pub use sb_word::{Cmd, Op};
 pub use script::Script;
+pub use spans::{carried, span};
 pub use transaction::{Code, Kind, Txn, TxnState};

@@ -3,4 +3,7 @@ pub mod IndexedLemmas
 pub mod InputLemmas
 pub mod OutputLemmas
 pub mod PrintLemmas
+pub mod ReportLemmas
 pub mod RowLemmas
+pub mod StepLemmas
+pub mod UnreachedLemmas

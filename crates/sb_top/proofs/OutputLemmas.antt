@@ -1,6 +1,6 @@
 -- Parts of a text, one after another.
 use Rattle.std.proofs.Common.{◌≡◌, List, ℕ, ◌++◌, ap, sym, ◌∙◌, refl, append_assoc, Some, None, [], ◌≤◌, ◌+◌, arith, length, take, subst, min}
-use Rattle.std.specs.Prelude.{Option, option_map, Result, Ok, Err, OnErr}
+use Rattle.std.specs.Prelude.{Option, option_map, Result, Ok, Err, OnOk, OnErr, is_ok, if◌then◌else◌, ◌≢◌}
 use Rattle.std.proofs.lemmas.List.{append-nil, take-append-le, take_min}
 use Rattle.std.proofs.Math.Seq.{take-append-add}
 use Rattle.sb_top.specs.Outputs.{Gains, GainsPart}
@@ -34,3 +34,13 @@ part_then a b c xs ys g h =
 pub on_err : {T E : Type 0} (r : Result T E) (P : Type 0) → P → OnErr r P
 on_err (Ok x) P p = tt
 on_err (Err e) P p = p
+
+-- a status other than that of a failed write tells that all was written
+pub written_whole : {T E : Type 0} (r : Result T E) (P : Type 0) (found status : ℕ) → found ≡ (if is_ok r then status else 5) → found ≢ 5 → OnOk r P → P
+written_whole (Ok x) P found status is other h = h
+written_whole (Err e) P found status is other h = absurd (other is)
+
+-- the status of a failed write tells that a part was written
+pub written_part : {T E : Type 0} (r : Result T E) (P : Type 0) (found status : ℕ) → found ≡ (if is_ok r then status else 5) → status ≢ 5 → found ≡ 5 → OnErr r P → P
+written_part (Ok x) P found status is other five h = absurd (other (sym is ∙ five))
+written_part (Err e) P found status is other five h = h

@@ -3,3 +3,6 @@ pub mod Outputs
 pub mod Collected
 pub mod Rows
 pub mod Texts
+pub mod Steps
+pub mod Refusals
+pub mod TopCall

@@ -1,6 +1,6 @@
 //! Reading the whole input.
 
-ghost use Rattle.std.specs.Prelude.{◌≡◌, ◌≤◌, ◌<◌, ◌^◌, ◌+◌, IfOk, IsErrOf, IfSome, length, drop, option_map, vec_len};
+ghost use Rattle.std.specs.Prelude.{◌≡◌, ◌≤◌, ◌<◌, ◌^◌, ◌+◌, ◌⊎◌, IfOk, IsErrOf, IfSome, length, drop, option_map, vec_len};
 ghost use Rattle.sb_io.specs.Counts.{Rose};
 ghost use Rattle.sb_top.specs.Inputs.{IsWholeInput};
 ghost use Rattle.sb_top.specs.declared.input.ReadFault.TheVariants as faults;
@@ -31,7 +31,7 @@ pub fn read_all<S: Source>(alloc: Global, source: &mut S) -> Result<Vec<u8>, Rea
     ensures failed { IsErrOf result faults.Failed → Rose (S.faults source.old) (S.faults source.new) }
     ensures long { IsErrOf result faults.TooLong → IfSome (S.left source.old) (λ left. 2 ^ 26 < length left) }
     ensures taken { IsErrOf result faults.TooLong → S.left source.new ≡ option_map (drop (2 ^ 26 + 1)) (S.left source.old) }
-    ensures count { S.faults source.old ≤ S.faults source.new }
+    ensures clean { (IsErrOf result faults.Failed) ⊎ (S.faults source.new ≡ S.faults source.old) }
 {
     let mut bytes = Vec::new(alloc);
     let mut buf = [0u8; CHUNK];

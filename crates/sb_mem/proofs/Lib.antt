@@ -1,0 +1,4 @@
+pub mod Atomics
+pub mod Requests
+pub mod TwosComplement
+pub mod WordBytes

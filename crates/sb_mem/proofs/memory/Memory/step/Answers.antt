@@ -1,0 +1,15 @@
+use Rattle.std.proofs.Common.{◌∙◌, ap, sym, Bool}
+use Rattle.std.specs.Prelude.{if◌then◌else◌}
+use Rattle.sb_mem.proofs.Requests.{read_memory, write_answers, posted_answers}
+use Rattle.sb_mem.proofs.memory.Memory.step.Goals as goal
+
+pub returns-in-ReqRd-clause-memory : goal.returns-in-ReqRd-clause-memory
+returns-in-ReqRd-clause-memory c = sym (read_memory c.args.self.now c.args.p.now c.in-ReqRd.is)
+
+pub returns-in-ReqWr-clause-answers : goal.returns-in-ReqWr-clause-answers
+returns-in-ReqWr-clause-answers c =
+    let code = c.reply.ensures.code ∙ c.write_code.ensures ∙ ap (λ (r : Bool). if r then 2 else 0) c.write.ensures.readonly in
+    write_answers c.args.self.now c.args.p.now c.reply.result c.in-ReqWr.is c.reply.ensures.fields code
+
+pub returns-in-ReqWrPosted-clause-no_answers : goal.returns-in-ReqWrPosted-clause-no_answers
+returns-in-ReqWrPosted-clause-no_answers c = posted_answers c.args.self.now c.args.p.now c.in-ReqWrPosted.is

@@ -1,0 +1,187 @@
+//! The byte memory of a device, which is stepped by packets.
+
+ghost use Rattle.std.specs.Prelude.{◌≡◌, ◌≤◌, ◌<◌, ◌+◌, ◌-◌, ◌*◌, ◌%◌, ◌^◌, ◌++◌, ◌↔◌, ◌⊎◌, length, replicate, map, IfOk, IfSome, IfNone, IsNone, IsTrue, Some, None, false, vec_len};
+ghost use Rattle.sb_word.specs.declared.command.Op.TheVariants.{ReqRd, ReqWr, ReqWrPosted, ReqAtomic};
+ghost use Rattle.sb_packet.specs.Spans.{span_of};
+ghost use Rattle.sb_packet.specs.Accesses.{accesses_of};
+ghost use Rattle.sb_packet.specs.Journals.{is_request};
+ghost use Rattle.sb_packet.specs.Memories.{memory_after, answers_in, overwritten, stored, loaded, write_code};
+ghost use Rattle.sb_mem.specs.Replies.{IsInRange, IsAnswerTo, response_code, response_bytes, body_of};
+
+use crate::atomic::combined_bytes;
+use crate::reply::reply;
+use crate::span::span;
+use sb_packet::{Op, Packet, padded};
+use std::alloc::{AllocError, Global};
+use std::marker::Model;
+
+/// Whole pages of bytes from one address on.
+#[derive(Drop)]
+pub struct Memory {
+    base: u64,
+    bytes: Vec<u8>,
+    readonly: bool,
+}
+
+impl Model for Memory {
+    ghost use Rattle.sb_packet.specs.Memories.{MemoryState};
+
+    ghost Value = { MemoryState };
+
+    ghost view = { λ m. record { base = m.base; bytes = m.bytes.items; readonly = m.readonly } };
+}
+
+impl Memory {
+    /// A memory of so many pages of 4,096 bytes, 1 to 256, from a page's address on: the image, and zeros behind it.
+    pub fn new(
+        alloc: Global,
+        base: u64,
+        pages: u32,
+        readonly: bool,
+        image: &[u8],
+    ) -> Result<Memory, AllocError>
+        requires aligned { base % 4096 ≡ 0 }
+        requires some { 0 < pages }
+        requires few { pages ≤ 256 }
+        requires in_range { base + pages * 4096 ≤ 2 ^ 56 }
+        requires fits { length image.now ≤ pages * 4096 }
+        ensures { IfOk result (λ m. m ≡ record { base = base; bytes = image.now ++ replicate (pages * 4096 - length image.now) 0; readonly = readonly }) }
+    {
+        let size = pages as usize * 4096;
+        let mut bytes = Vec::with_capacity(alloc, size)?;
+        bytes.extend_from_slice(image)?;
+        bytes.resize(size, 0)?;
+        Ok(Memory {
+            base,
+            bytes,
+            readonly,
+        })
+    }
+
+    /// All bytes, in the order of addresses.
+    pub fn image(&self) -> &[u8]
+        ensures { result.now ≡ self.now.bytes }
+    {
+        self.bytes.as_slice()
+    }
+
+    /// Steps the memory by each word of a request, in order, and gives the packet that answers it. A posted write has no
+    /// answer. Where the memory may not be written, all but reads change nothing, and their answers have code 2. It takes
+    /// no memory.
+    pub fn step(&mut self, p: &Packet) -> Option<Packet>
+        requires request { IsTrue (is_request p.now.cmd.op) }
+        requires within { IsInRange self.old p.now }
+        ensures posted { IsNone result ↔ (p.now.cmd.op ≡ ReqWrPosted) }
+        ensures answers { IfSome result
+            (λ a. answers_in self.old (accesses_of p.now) ≡ map Some (accesses_of a)) }
+        ensures no_answers { IfNone result
+            (answers_in self.old (accesses_of p.now) ≡ map (λ _. None) (accesses_of p.now)) }
+        ensures fields { IfSome result (λ a. IsAnswerTo p.now a) }
+        ensures code { IfSome result (λ a. a.cmd.tail ≡ response_code self.old p.now.cmd.op) }
+        ensures body { IfSome result
+            (λ a. a.body
+            ≡ body_of (response_bytes self.old p.now.cmd.op p.now.dst (span_of p.now.cmd))) }
+        ensures memory { self.new ≡ memory_after self.old (accesses_of p.now) }
+        ensures base { self.new.base ≡ self.old.base }
+        ensures size { length self.new.bytes ≡ length self.old.bytes }
+        ensures readonly { self.new.readonly ≡ self.old.readonly }
+    {
+        match p.cmd.op {
+            Op::ReqRd => Some(self.read(p)),
+            Op::ReqWr => {
+                self.write(p);
+                Some(reply(p, self.write_code(), [0; 32]))
+            }
+            Op::ReqWrPosted => {
+                self.write(p);
+                None
+            }
+            Op::ReqAtomic => Some(self.combine(p)),
+            Op::RespRd | Op::RespWr => unreachable!(),
+        }
+    }
+
+    /// What a read is answered by.
+    fn read(&self, p: &Packet) -> Packet
+        requires op { p.now.cmd.op ≡ ReqRd }
+        requires within { IsInRange self.now p.now }
+        ensures answers { answers_in self.now (accesses_of p.now) ≡ map Some (accesses_of result) }
+        ensures fields { IsAnswerTo p.now result }
+        ensures code { result.cmd.tail ≡ 0 }
+        ensures body { result.body ≡ body_of (loaded self.now p.now.dst (span_of p.now.cmd)) }
+    {
+        reply(p, 0, padded(self.held(p)))
+    }
+
+    /// Stores what a write carries, where the memory may be written.
+    fn write(&mut self, p: &Packet)
+        requires op { (p.now.cmd.op ≡ ReqWr) ⊎ (p.now.cmd.op ≡ ReqWrPosted) }
+        requires within { IsInRange self.old p.now }
+        ensures memory { self.new ≡ memory_after self.old (accesses_of p.now) }
+        ensures base { self.new.base ≡ self.old.base }
+        ensures size { length self.new.bytes ≡ length self.old.bytes }
+        ensures readonly { self.new.readonly ≡ self.old.readonly }
+    {
+        if !self.readonly {
+            self.store(p.dst, &p.body[..span(&p.cmd)]);
+        }
+    }
+
+    /// Changes the word of an atomic, where the memory may be written, and gives the packet that answers it.
+    fn combine(&mut self, p: &Packet) -> Packet
+        requires op { p.now.cmd.op ≡ ReqAtomic }
+        requires within { IsInRange self.old p.now }
+        ensures answers { answers_in self.old (accesses_of p.now) ≡ map Some (accesses_of result) }
+        ensures fields { IsAnswerTo p.now result }
+        ensures code { result.cmd.tail ≡ write_code self.old }
+        ensures body { result.body
+            ≡ body_of (response_bytes self.old ReqAtomic p.now.dst (span_of p.now.cmd)) }
+        ensures memory { self.new ≡ memory_after self.old (accesses_of p.now) }
+        ensures base { self.new.base ≡ self.old.base }
+        ensures size { length self.new.bytes ≡ length self.old.bytes }
+        ensures readonly { self.new.readonly ≡ self.old.readonly }
+    {
+        if self.readonly {
+            return reply(p, 2, [0; 32]);
+        }
+        let size = span(&p.cmd);
+        let old = padded(self.held(p));
+        self.store(p.dst, &combined_bytes(p, &old[..size])[..size]);
+        reply(p, 0, old)
+    }
+
+    /// The code of an answer to what would write.
+    fn write_code(&self) -> u8
+        ensures { result ≡ write_code self.now }
+    {
+        if self.readonly { 2 } else { 0 }
+    }
+
+    /// The bytes that a packet speaks of.
+    fn held(&self, p: &Packet) -> &[u8]
+        requires within { IsInRange self.now p.now }
+        ensures bytes { result.now ≡ loaded self.now p.now.dst (span_of p.now.cmd) }
+        ensures count { length result.now ≡ span_of p.now.cmd }
+    {
+        let place = (p.dst - self.base) as usize;
+        &self.bytes[place..place + span(&p.cmd)]
+    }
+
+    /// Puts bytes in place of those from an address on.
+    fn store(&mut self, address: u64, bytes: &[u8])
+        requires low { self.old.base ≤ address }
+        requires high { address + length bytes.now ≤ self.old.base + length self.old.bytes }
+        ensures { self.new ≡ stored self.old address bytes.now }
+    {
+        overwrite(&mut self.bytes, (address - self.base) as usize, bytes);
+    }
+}
+
+/// Puts a piece in place of what stands there.
+fn overwrite(bytes: &mut Vec<u8>, place: usize, piece: &[u8])
+    requires { place + length piece.now ≤ vec_len bytes.old }
+    ensures items { bytes.new.items ≡ overwritten bytes.old.items place piece.now }
+    ensures len { vec_len bytes.new ≡ vec_len bytes.old }
+{
+    bytes[place..place + piece.len()].copy_from_slice(piece);
+}

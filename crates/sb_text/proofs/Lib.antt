@@ -1,0 +1,5 @@
+pub mod NumeralLemmas
+pub mod WordLemmas
+pub mod LineLemmas
+pub mod TextLemmas
+pub mod ScriptLemmas

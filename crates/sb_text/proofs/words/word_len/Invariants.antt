@@ -1,0 +1,7 @@
+use Rattle.std.proofs.Common.{◌≡◌, false, take}
+use Rattle.std.specs.Prelude.{All}
+use Rattle.sb_text.specs.Lines.{is_blank}
+use Rattle.sb_text.proofs.words.word_len.Given as goal
+
+abbrev pub invariant-loop-index : goal.invariant-loop-index
+invariant-loop-index l = All (λ byte. is_blank byte ≡ false) (take l.index l.line)

@@ -1,0 +1,56 @@
+-- What a script's text says.
+use Rattle.std.specs.Prelude.{ℕ, ◌≢◌, ◌+◌, nat_le, Bool, List, [], ◌∷◌, length, sum_by, Option, Some, None, Result, Ok, Err, if◌then◌else◌}
+use Rattle.sb_packet.specs.declared.transaction.Txn.{Txn}
+use Rattle.sb_text.specs.Lines.{lines_of}
+use Rattle.sb_text.specs.Transactions.{line_of}
+use Rattle.sb_text.specs.declared.line_fault.LineFault.{LineFault}
+use Rattle.sb_text.specs.declared.line_fault.LineFault.TheVariants as line_faults
+use Rattle.sb_text.specs.declared.script_fault.ScriptFault.{ScriptFault}
+use Rattle.sb_text.specs.declared.script_fault.ScriptFault.TheVariants.{Lines, Line, Words, Memory}
+
+-- the next step, if this one found no fault
+infixl 10 ◌>>=◌
+abbrev pub ◌>>=◌ : {A B : Type 0} → Result A ScriptFault → (A → Result B ScriptFault) → Result B ScriptFault
+(Ok x) >>= next = next x
+(Err fault) >>= next = Err fault
+
+-- that fault unless a test holds
+abbrev pub unless : Bool → ScriptFault → Result (Unit {0}) ScriptFault
+unless test fault = if test then Ok tt else Err fault
+
+-- what a line says, or its fault with its number
+abbrev pub at_line : ℕ → Result (Option Txn) LineFault → Result (Option Txn) ScriptFault
+at_line number (Ok txn) = Ok txn
+at_line number (Err fault) = Err (Line number fault)
+
+-- a transaction, where there is one, before others
+abbrev pub before : Option Txn → List Txn → List Txn
+before None txns = txns
+before (Some txn) txns = txn ∷ txns
+
+-- the transactions of lines, of which the first has that number; or the first line's fault
+abbrev pub transactions_from : ℕ → List (List ℕ) → Result (List Txn) ScriptFault
+transactions_from number [] = Ok []
+transactions_from number (line ∷ lines) = do
+  txn ← at_line number (line_of line)
+  txns ← transactions_from (number + 1) lines
+  Ok (before txn txns)
+
+-- the words of all transactions together
+abbrev pub words_in : List Txn → ℕ
+words_in txns = sum_by (λ txn. txn.count) txns
+
+-- A script is the transactions of its lines, of which there are at most 65,536, with 262,144 words at most.
+abbrev pub script_of : List ℕ → Result (List Txn) ScriptFault
+script_of text = do
+  done ← unless (nat_le (length (lines_of text)) 65536) (Lines (length (lines_of text)))
+  txns ← transactions_from 1 (lines_of text)
+  done ← unless (nat_le (words_in txns) 262144) (Words (words_in txns))
+  Ok txns
+
+-- a script's fault never says of a line that memory was missing
+abbrev pub SaysNoMemory : ScriptFault → Type 0
+SaysNoMemory (Lines count) = Unit {0}
+SaysNoMemory (Line number fault) = fault ≢ line_faults.Memory
+SaysNoMemory (Words words) = Unit {0}
+SaysNoMemory Memory = Unit {0}
