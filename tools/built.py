@@ -1,0 +1,28 @@
+"""What the checks share: where the built program stands, and a run of it."""
+import argparse
+import pathlib
+import subprocess
+import sys
+
+ROOT = pathlib.Path(__file__).resolve().parent.parent
+PROGRAM = ROOT / "crates/sb_cli/out/sb_cli"
+SECONDS = 120
+
+
+def parser(about):
+    made = argparse.ArgumentParser(description=about)
+    made.add_argument("--program", type=pathlib.Path, default=PROGRAM, help="run this in place of crates/sb_cli/out/sb_cli")
+    return made
+
+
+def path_of(program):
+    """The program's whole path; says what is missing where it isn't there."""
+    if not program.is_file():
+        sys.exit(f"{pathlib.Path(sys.argv[0]).name}: {program} is missing: ./sb builds it, and so does rt ci")
+    return str(program.resolve())
+
+
+def run(program, words, given):
+    """The status, the output and the standard error of the program on these words and this input."""
+    ran = subprocess.run([program, *words], input=given, capture_output=True, timeout=SECONDS)
+    return ran.returncode, ran.stdout, ran.stderr
