@@ -4,6 +4,5 @@
 mod atomic;
 mod memory;
 mod reply;
-mod span;
 
 pub use memory::Memory;

@@ -10,8 +10,7 @@ ghost use Rattle.sb_mem.specs.Replies.{IsInRange, IsAnswerTo, response_body, res
 
 use crate::atomic::combined_bytes;
 use crate::reply::reply;
-use crate::span::span;
-use sb_packet::{Op, Packet, padded};
+use sb_packet::{Op, Packet, padded, span};
 use std::alloc::{AllocError, Global};
 use std::marker::Model;
 

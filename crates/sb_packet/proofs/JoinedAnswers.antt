@@ -3,11 +3,12 @@ use Rattle.std.proofs.Common.{◌≡◌, ◌≤◌, ◌<◌, ℕ, zero, suc, ◌
 use Rattle.std.specs.Prelude.{map, fold, max}
 use Rattle.std.specs.List.{range_with_len}
 use Rattle.std.proofs.lemmas.Grind.{flat_map-append}
-use Rattle.std.proofs.lemmas.List.{drop-drop, map-append}
-use Rattle.std.proofs.Math.Seq.{take-add}
-use Rattle.sb_packet.specs.Accesses.{Access, share, access_at, message_accesses}
+use Rattle.std.proofs.lemmas.List.{map-append}
+use Rattle.std.proofs.lemmas.List.Folds.{flat_map-map}
+use Rattle.sb_packet.specs.Accesses.{Access, access_at, message_accesses}
 use Rattle.sb_packet.specs.Messages.{Message, message_span}
 use Rattle.sb_packet.specs.Answers.{answer_code, answer_body}
+use Rattle.sb_packet.proofs.Shares.{shares_joined}
 
 -- the greatest from a number on
 greatest_from : (n : ℕ) (xs : List ℕ) → fold max n xs ≡ max n (fold max 0 xs)
@@ -50,12 +51,7 @@ code_of_message m some = from_count m.count some where
 
 -- shares one after another are the bytes that they are shares of
 joined_shares : (m : Message) (a k : ℕ) → answer_body (map (access_at m) (range_with_len a k)) ≡ take (k * 2 ^ m.size) (drop (a * 2 ^ m.size) m.bytes)
-joined_shares m a zero = rw zero-mul refl
-joined_shares m a (suc k) =
-    let s = 2 ^ m.size in
-    let split : suc k * s ≡ s + k * s = omega arith in
-    let next : a * s + s ≡ (a + 1) * s = omega arith in
-    rw (split, take-add s (k * s) (drop (a * s) m.bytes), drop-drop, next) (ap (λ (rest : List ℕ). share m.size a m.bytes ++ rest) (joined_shares m (a + 1) k))
+joined_shares m a k = flat_map-map (λ (x : Access). x.bytes) (access_at m) (range_with_len a k) ∙ shares_joined m.size m.bytes a k
 
 -- The bytes of its words are those that it carries, as far as it speaks of them.
 pub body_of_message : (m : Message) → answer_body (message_accesses m) ≡ take (message_span m) m.bytes

@@ -61,20 +61,6 @@ pub memory_after_unchanged : (m : MemoryState) (f : ℕ → Access) → ((j : �
 memory_after_unchanged m f stays a zero = refl
 memory_after_unchanged m f stays a (suc k) = ap (λ (n : MemoryState). memory_after n (map f (range_with_len (a + 1) k))) (stays a) ∙ memory_after_unchanged m f stays (a + 1) k
 
--- accesses one after another, in two lists
-pub memory_after-append : (m : MemoryState) (xs ys : List Access) → memory_after m (xs ++ ys) ≡ memory_after (memory_after m xs) ys
-memory_after-append m [] ys = refl
-memory_after-append m (x ∷ xs) ys = memory_after-append (access_step m x) xs ys
-
-pub answers_in-append : (m : MemoryState) (xs ys : List Access) → answers_in m (xs ++ ys) ≡ answers_in m xs ++ answers_in (memory_after m xs) ys
-answers_in-append m [] ys = refl
-answers_in-append m (x ∷ xs) ys = ap (λ (rest : List (Option Access)). access_answer m x ∷ rest) (answers_in-append (access_step m x) xs ys)
-
--- each access has a place among the answers
-pub length-answers_in : (m : MemoryState) (list : List Access) → length (answers_in m list) ≡ length list
-length-answers_in m [] = refl
-length-answers_in m (a ∷ list) = ap suc (length-answers_in (access_step m a) list)
-
 -- accesses that each store the next s bytes store all of them
 pub memory_after_stores : (f : ℕ → Access) (g : ℕ → List ℕ) (n x s : ℕ) → ((m : MemoryState) (j : ℕ) → m.readonly ≡ false → access_step m (f j) ≡ stored m (x + j * s) (g j)) → ((j : ℕ) → j < n → length (g j) ≡ s) → (m : MemoryState) (a k : ℕ) → a + k ≤ n → m.readonly ≡ false → m.base ≤ x → (x - m.base) + (a + k) * s ≤ length m.bytes → memory_after m (map f (range_with_len a k)) ≡ stored m (x + a * s) (flat_map g (range_with_len a k))
 memory_after_stores f g n x s writes long m a zero within writable low h = sym (stored-nothing m (x + a * s))
