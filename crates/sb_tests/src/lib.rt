@@ -1,0 +1,8 @@
+//! Tests that cross crates: the top call over sources and sinks in memory. The worked examples are from the description of
+//! the language, and none is what the program printed.
+#![tactic(auto)]
+
+#[cfg(test)]
+mod blanks;
+#[cfg(test)]
+mod solo;
