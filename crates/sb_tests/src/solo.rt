@@ -24,12 +24,7 @@ fn solo<S: Source, K: Sink>(
 fn scripts(rt: HostRuntime) -> Result<(), Fail> {
     let rows = [
         // An empty script.
-        (
-            "",
-            0,
-            0,
-            "sb 1\nhost host 0\ndevice mem 16\nend\n",
-        ),
+        ("", 0, 0, "sb 1\nhost host 0\ndevice mem 16\nend\n"),
         // A first write and read.
         (
             "wr 0x10 2 0102030405060708\nrd 0x10 2 2\n",
@@ -115,7 +110,8 @@ fn failing_reads(rt: HostRuntime) -> Result<(), Fail> {
 
 #[test]
 fn failing_writes(rt: HostRuntime) -> Result<(), Fail> {
-    let text = b"sb 1\nhost host 1\nt 0 ok -\ndevice mem 16\nm 00000 0900000000000000000000000000000000000000000000000000000000000000\nend\n";
+    let text =
+        b"sb 1\nhost host 1\nt 0 ok -\ndevice mem 16\nm 00000 0900000000000000000000000000000000000000000000000000000000000000\nend\n";
     for call in 0..text.len() {
         let mut source = CleanSource::new(rt.alloc(), b"wr 0 0 09", 4096)?;
         let mut sink = ByteSink::new(rt.alloc(), 4096, 1, &[call as u64])?;
