@@ -1,6 +1,6 @@
 //! A source over a reader of std, as standard input is.
 
-ghost use Rattle.std.specs.Prelude.{None};
+ghost use Rattle.std.specs.Prelude.{◌≡◌, None};
 
 use crate::source::{Got, Source};
 use std::io::Read;
@@ -9,12 +9,15 @@ use std::io::Read;
 #[derive(Drop)]
 pub struct ReaderSource<R: Read> {
     reader: R,
-    faults: u64,
+    /// How often it failed; the count stands still at its type's end.
+    pub faults: u64,
 }
 
 impl<R: Read> ReaderSource<R> {
     /// A source over this reader, without a fault so far. It takes no memory.
-    pub fn new(reader: R) -> ReaderSource<R> {
+    pub fn new(reader: R) -> ReaderSource<R>
+        ensures { result.faults ≡ 0 }
+    {
         ReaderSource { reader, faults: 0 }
     }
 }

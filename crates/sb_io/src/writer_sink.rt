@@ -1,6 +1,6 @@
 //! A sink over a writer of std, as standard output is.
 
-ghost use Rattle.std.specs.Prelude.{None};
+ghost use Rattle.std.specs.Prelude.{◌≡◌, None};
 
 use crate::sink::{Put, Sink};
 use std::io::Write;
@@ -10,12 +10,15 @@ use std::io::Write;
 #[derive(Drop)]
 pub struct WriterSink<W: Write> {
     writer: W,
-    faults: u64,
+    /// How often it failed; the count stands still at its type's end.
+    pub faults: u64,
 }
 
 impl<W: Write> WriterSink<W> {
     /// A sink over this writer, without a fault so far. It takes no memory.
-    pub fn new(writer: W) -> WriterSink<W> {
+    pub fn new(writer: W) -> WriterSink<W>
+        ensures { result.faults ≡ 0 }
+    {
         WriterSink { writer, faults: 0 }
     }
 }
