@@ -121,7 +121,7 @@ impl Memory {
         ensures readonly { self.new.readonly ≡ self.old.readonly }
     {
         if !self.readonly {
-            self.store(p.dst, &p.body[..span(&p.cmd)]);
+            self.store(p.dst, &p.body[..span(&p.cmd) as usize]);
         }
     }
 
@@ -141,7 +141,7 @@ impl Memory {
         if self.readonly {
             return reply(p, 2, [0; 32]);
         }
-        let size = span(&p.cmd);
+        let size = span(&p.cmd) as usize;
         let old: [u8; 32] = padded(self.held(p));
         self.store(p.dst, &combined_bytes(p, &old[..size])[..size]);
         reply(p, 0, old)
@@ -161,7 +161,7 @@ impl Memory {
         ensures count { length result.now ≡ span_of p.now.cmd }
     {
         let place = (p.dst - self.base) as usize;
-        &self.bytes[place..place + span(&p.cmd)]
+        &self.bytes[place..place + span(&p.cmd) as usize]
     }
 
     /// Puts bytes in place of those from an address on.

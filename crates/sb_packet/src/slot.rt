@@ -19,6 +19,7 @@ use crate::slot_body::{body_from, number_at};
 use crate::slot_checks::{
     check_addresses, check_body, check_last, check_number, check_span, check_word, check_zeros,
 };
+use crate::spans::span;
 use sb_word::{Cmd, Op, decode, encode};
 
 /// The slot of an item.
@@ -129,17 +130,7 @@ fn word_size(cmd: &Cmd) -> u64
     1 << cmd.size
 }
 
-/// How many bytes a command speaks of.
-fn span(cmd: &Cmd) -> u32
-    ensures { result ≡ span_of cmd.now }
-{
-    match cmd.op {
-        Op::ReqAtomic => 1 << cmd.size,
-        _ => (u32::from(cmd.len) + 1) << cmd.size,
-    }
-}
-
-/// How many of them its packet carries.
+/// How many bytes the packet of a command carries, of so many that it speaks of.
 fn carried(cmd: &Cmd, span: u32) -> u32
     ensures { result ≡ carried_by cmd.now.op span }
 {

@@ -7,15 +7,14 @@ ghost use Rattle.sb_packet.specs.Spans.{carried_of, span_of};
 use crate::packet::Packet;
 use sb_word::{Cmd, Op};
 
-/// The number of bytes that a command speaks of.
-pub fn span(cmd: &Cmd) -> usize
+/// The number of bytes that a command speaks of, 1 to 2,048.
+pub fn span(cmd: &Cmd) -> u32
     ensures { result ≡ span_of cmd.now }
 {
-    let words = match cmd.op {
-        Op::ReqAtomic => 1,
-        _ => cmd.len as usize + 1,
-    };
-    words << cmd.size
+    match cmd.op {
+        Op::ReqAtomic => 1 << cmd.size,
+        _ => (u32::from(cmd.len) + 1) << cmd.size,
+    }
 }
 
 /// The bytes that a packet carries: none for a read and for the answer to a write, and else all that it speaks of.
@@ -24,6 +23,6 @@ pub fn carried(packet: &Packet) -> &[u8]
 {
     match packet.cmd.op {
         Op::ReqRd | Op::RespWr => &[],
-        _ => &packet.body[..span(&packet.cmd)],
+        _ => &packet.body[..span(&packet.cmd) as usize],
     }
 }
