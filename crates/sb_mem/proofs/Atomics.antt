@@ -8,7 +8,8 @@ use Rattle.sb_word.specs.declared.command.Op.TheVariants.{ReqAtomic}
 use Rattle.sb_packet.specs.Spans.{span_of, word_count_of}
 use Rattle.sb_packet.specs.Messages.{message_of}
 use Rattle.sb_packet.specs.Accesses.{Access, share, access_at, accesses_of}
-use Rattle.sb_packet.specs.Memories.{MemoryState, loaded, stored, written, write_code, old_bytes, number_of, combined, combined_bytes, access_answer, memory_after, answers_in}
+use Rattle.sb_packet.specs.Atomics.{number_of, combined}
+use Rattle.sb_packet.specs.Memories.{MemoryState, loaded, stored, written, write_code, old_bytes, combined_bytes, access_answer, memory_after, answers_in}
 use Rattle.sb_packet.specs.declared.packet.Packet.{Packet}
 use Rattle.sb_packet.proofs.Overwrites.{access_step_taken}
 use Rattle.sb_mem.specs.Replies.{IsAnswerTo, body_of, response_body, response_bytes}

@@ -1,5 +1,6 @@
 -- What a device's memory does at an access. After UMI's requests and answers.
-use Rattle.std.specs.Prelude.{ℕ, zero, suc, ◌+◌, ◌-◌, ◌*◌, ◌/◌, ◌%◌, ◌^◌, ℤ, pos, ◌-ℤ◌, int_le, max, min, Bool, nat_lt, List, [], ◌∷◌, ◌++◌, take, drop, length, replicate, fold, slice_index_or, Option, Some, None, bit_and, bit_or, bit_xor, if◌then◌else◌}
+use Rattle.std.specs.Prelude.{ℕ, ◌+◌, ◌-◌, ◌^◌, Bool, List, [], ◌∷◌, ◌++◌, take, drop, length, replicate, fold, Option, Some, None, if◌then◌else◌}
+use Rattle.sb_packet.specs.Atomics.{number_of, bytes_of_number, combined}
 use Rattle.sb_word.specs.declared.command.Op.{Op}
 use Rattle.sb_word.specs.declared.command.Op.TheVariants.{ReqRd, ReqWr, ReqWrPosted, ReqAtomic, RespRd, RespWr}
 use Rattle.sb_packet.specs.Accesses.{Access}
@@ -21,36 +22,6 @@ overwritten old place new = take place old ++ new ++ drop (place + length new) o
 -- the memory with bytes put from an address on
 abbrev pub stored : MemoryState → ℕ → List ℕ → MemoryState
 stored m address bytes = record m { bytes = overwritten m.bytes (address - m.base) bytes }
-
--- bytes as one number, the lowest first
-abbrev pub number_of : List ℕ → ℕ
-number_of [] = 0
-number_of (b ∷ bs) = b + 256 * number_of bs
-
--- a number as so many bytes, the lowest first
-abbrev pub bytes_of_number : ℕ → ℕ → List ℕ
-bytes_of_number zero n = []
-bytes_of_number (suc count) n = (n % 256) ∷ bytes_of_number count (n / 256)
-
--- what a number below the modulus stands for in two's complement: itself in the lower half, and itself less the modulus in the upper
-abbrev pub twos_complement : ℕ → ℕ → ℤ
-twos_complement modulus a = if nat_lt a (modulus / 2) then pos a else pos a -ℤ pos modulus
-
--- a is at most b in two's complement
-abbrev pub signed_le : ℕ → ℕ → ℕ → Bool
-signed_le modulus a b = int_le (twos_complement modulus a) (twos_complement modulus b)
-
--- What an atomic makes of the old value a and the operand b, below the modulus, by its type from 0.
-abbrev pub combined : ℕ → ℕ → ℕ → ℕ → ℕ
-combined type modulus a b = slice_index_or (
-    -- ADD, AND, OR, XOR
-    (a + b) % modulus ∷ bit_and a b ∷ bit_or a b ∷ bit_xor a b
-    -- MAX and MIN, in two's complement
-    ∷ (if signed_le modulus a b then b else a) ∷ (if signed_le modulus a b then a else b)
-    -- MAXU and MINU, without sign
-    ∷ max a b ∷ min a b ∷ []) type
-    -- SWAP
-    b
 
 -- the bytes that an access speaks of
 abbrev pub held_at : MemoryState → Access → List ℕ

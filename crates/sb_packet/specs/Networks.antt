@@ -81,25 +81,3 @@ leads_to d link = is_device d link.to
 -- the width of the link that leads to a device, 0 where there is none
 abbrev pub width_to : Network → ℕ → ℕ
 width_to network d = option_map_or (λ link. link.width) (find (leads_to d) network.links) 0
-
--- the side of a router, by a place that is one
-abbrev pub side_at : Network → NetPlace → ℕ
-side_at network (at_router r) = option_map_or (λ router. router.side) (slice_get network.routers r) 0
-side_at network (at_host h) = 0
-side_at network (at_device d) = 0
-
-abbrev pub leaves_from : ℕ → NetLink → Bool
-leaves_from h link = is_host h link.from
-  where
-    is_host : ℕ → NetPlace → Bool
-    is_host h (at_host k) = k == h
-    is_host h (at_router k) = false
-    is_host h (at_device k) = false
-
--- a host stands on the side of the router that its link leads to
-abbrev pub host_side : Network → ℕ → ℕ
-host_side network h = option_map_or (λ link. side_at network link.to) (find (leaves_from h) network.links) 0
-
--- a device stands on the side of the router whose link leads to it
-abbrev pub device_side : Network → ℕ → ℕ
-device_side network d = option_map_or (λ link. side_at network link.from) (find (leads_to d) network.links) 0

@@ -1,32 +1,18 @@
 -- The text of a run. This project's own.
-use Rattle.std.specs.Prelude.{ℕ, zero, suc, ◌*◌, ◌/◌, ◌%◌, ◌==◌, Bool, true, false, List, [], ◌∷◌, ◌++◌, map, filter, flat_map, take, drop, length, codes, decimal, Option, Some, None, if◌then◌else◌, slice_index, slice_index_or}
+use Rattle.std.specs.Prelude.{ℕ, zero, suc, ◌*◌, ◌/◌, ◌==◌, Bool, true, false, List, [], ◌∷◌, ◌++◌, map, filter, flat_map, take, drop, length, codes, decimal, Option, Some, None, if◌then◌else◌, slice_index_or}
 use Rattle.std.specs.List.{enumerate_from, list_all}
-use Rattle.hex.specs.Hex.{encode_lower, lower_digits}
+use Rattle.hex.specs.Hex.{encode_lower}
 use Rattle.sb_word.specs.Words.{word_of}
 use Rattle.sb_packet.specs.Messages.{message_of}
-use Rattle.sb_packet.specs.Networks.{NetHost, NetDevice, Network, device_side, host_side}
+use Rattle.sb_packet.specs.Sides.{device_side, host_side}
+use Rattle.sb_packet.specs.Networks.{NetHost, NetDevice, Network}
+use Rattle.sb_packet.specs.TextLines.{text_line, hex_number, body_text}
 use Rattle.sb_packet.specs.Outcomes.{Outcome, RunResults, run_results}
 use Rattle.sb_packet.specs.declared.entry.Entry.{Entry}
 use Rattle.sb_packet.specs.declared.transaction.Code.{Code}
 use Rattle.sb_packet.specs.declared.transaction.Code.TheVariants as the_codes
 use Rattle.sb_packet.specs.declared.transaction.TxnState.{TxnState}
 use Rattle.sb_packet.specs.declared.transaction.TxnState.TheVariants.{Waiting, Posted, Answered}
-
--- words with a blank between them, and a line feed
-abbrev pub text_line : List (List ℕ) → List ℕ
-text_line [] = 10 ∷ []
-text_line (word ∷ []) = word ++ 10 ∷ []
-text_line (word ∷ next ∷ rest) = word ++ 32 ∷ text_line (next ∷ rest)
-
--- a number in so many hexadecimal digits, in lower case
-abbrev pub hex_number : ℕ → ℕ → List ℕ
-hex_number zero n = []
-hex_number (suc count) n = hex_number count (n / 16) ++ slice_index lower_digits (n % 16) ∷ []
-
--- two hexadecimal digits a byte, or a dash where there is none
-abbrev pub body_text : List ℕ → List ℕ
-body_text [] = codes "-"
-body_text (b ∷ bs) = encode_lower (b ∷ bs)
 
 abbrev pub code_text : Code → List ℕ
 code_text the_codes.Ok = codes "ok"

@@ -1,5 +1,5 @@
 -- What is left of a source from which bytes were taken.
-use Rattle.std.proofs.Common.{◌≡◌, ℕ, List, ◌++◌, ap, sym, ◌∙◌, refl, drop, length, Some, None}
+use Rattle.std.proofs.Common.{◌≡◌, ℕ, List, ◌++◌, ap, sym, ◌∙◌, drop, length, Some, None}
 use Rattle.std.specs.Prelude.{Option, option_map}
 use Rattle.std.proofs.Math.Seq.{drop-append_seam}
 

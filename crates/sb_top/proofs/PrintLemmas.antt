@@ -1,6 +1,6 @@
 -- Texts that are printed through a buffer, one after another.
 use Rattle.std.proofs.Common.{◌≡◌, ◌≤◌, List, ℕ, ◌+◌, ◌-◌, ◌++◌, [], ap, sym, ◌∙◌, refl, arith, append_assoc, length, take, drop, subst}
-use Rattle.std.specs.Prelude.{Option, option_map}
+use Rattle.std.specs.Prelude.{Option}
 use Rattle.std.proofs.lemmas.List.{append-nil, take_all, take-append-le, drop-append-le, length-append, length-drop, drop-drop}
 use Rattle.std.proofs.Math.Seq.{take-add, take-length, drop-length}
 use Rattle.hex.specs.Hex.{encode_lower, encode_with}

@@ -4,11 +4,12 @@ use Rattle.std.specs.Prelude.{All, None, flat_map, codes, decimal}
 use Rattle.std.specs.Fmt.{digits}
 use Rattle.std.specs.List.{enumerate_from}
 use Rattle.std.proofs.lemmas.List.{append-nil}
-use Rattle.sb_packet.specs.Outcomes.{Outcome, RunResults, run_results}
-use Rattle.sb_packet.specs.Reports.{text_line, outcome_line, image_lines, report_text, run_report}
+use Rattle.sb_packet.specs.Outcomes.{Outcome, RunResults}
+use Rattle.sb_packet.specs.TextLines.{text_line}
+use Rattle.sb_packet.specs.Reports.{outcome_line, image_lines, report_text, run_report}
 use Rattle.sb_packet.specs.Scripts.{IsTransaction}
 use Rattle.sb_packet.specs.Solo.{solo_network, IsSoloJournal}
-use Rattle.sb_packet.specs.SoloRuns.{solo_opening, solo_outcomes_from, solo_memory_from, solo_results}
+use Rattle.sb_packet.specs.SoloRuns.{solo_opening, solo_outcomes_from, solo_memory_from}
 use Rattle.sb_packet.specs.declared.entry.Entry.{Entry}
 use Rattle.sb_packet.specs.declared.transaction.Txn.{Txn}
 use Rattle.sb_packet.proofs.SoloResults.{solo_results_are}

@@ -1,16 +1,16 @@
 -- What becomes of a transaction that is aimed at no device.
-use Rattle.std.proofs.Common.{◌≡◌, ◌<◌, ℕ, zero, suc, ◌+◌, ◌*◌, ◌^◌, List, [], ◌∷◌, ◌++◌, ap, sym, ◌∙◌, refl, arith, replicate, zero-mul}
-use Rattle.std.specs.Prelude.{Option, Some, None, map, max, filter_map}
+use Rattle.std.proofs.Common.{◌≡◌, ◌<◌, ℕ, zero, suc, ◌+◌, ◌*◌, ◌^◌, List, [], ◌∷◌, ap, ◌∙◌, refl, arith, replicate, zero-mul}
+use Rattle.std.specs.Prelude.{Some, None, map}
 use Rattle.std.specs.List.{range_with_len}
 use Rattle.std.proofs.lemmas.List.{replicate-append-replicate}
 use Rattle.sb_word.specs.declared.command.Op.{Op}
-use Rattle.sb_word.specs.declared.command.Op.TheVariants.{ReqRd, ReqWr, ReqWrPosted, ReqAtomic, RespRd, RespWr}
+use Rattle.sb_word.specs.declared.command.Op.TheVariants.{ReqRd, ReqWr, ReqAtomic, RespRd, RespWr}
 use Rattle.sb_packet.specs.Messages.{Message}
 use Rattle.sb_packet.specs.Accesses.{Access, access_at, message_accesses}
 use Rattle.sb_packet.specs.Memories.{reply}
 use Rattle.sb_packet.specs.Answers.{unreached_by, answer_code, answer_body}
 use Rattle.sb_packet.specs.Scripts.{request_of, transaction_message, transaction_accesses}
-use Rattle.sb_packet.specs.Outcomes.{Outcome, code_numbered, outcome_of}
+use Rattle.sb_packet.specs.Outcomes.{code_numbered, outcome_of}
 use Rattle.sb_packet.specs.Solo.{solo_host}
 use Rattle.sb_packet.specs.declared.transaction.Kind.{Kind}
 use Rattle.sb_packet.specs.declared.transaction.Kind.TheVariants as kinds

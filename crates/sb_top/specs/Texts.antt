@@ -2,7 +2,8 @@
 use Rattle.std.specs.Prelude.{ℕ, List, [], ◌∷◌, ◌++◌, flat_map, length, codes, decimal}
 use Rattle.std.specs.List.{enumerate_from}
 use Rattle.sb_packet.specs.Outcomes.{Outcome}
-use Rattle.sb_packet.specs.Reports.{state_text, text_line, outcome_line, image_lines}
+use Rattle.sb_packet.specs.TextLines.{text_line}
+use Rattle.sb_packet.specs.Reports.{state_text, outcome_line, image_lines}
 use Rattle.sb_packet.specs.declared.transaction.TxnState.{TxnState}
 
 -- a transaction's line up to its body

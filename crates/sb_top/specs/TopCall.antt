@@ -1,5 +1,5 @@
 -- What the top call did, by the status with which it ended.
-use Rattle.std.specs.Prelude.{ℕ, ◌≡◌, ◌⊎◌, ◌≤◌, ◌<◌, ◌+◌, ◌^◌, Bool, false, List, [], ◌∷◌, length, drop, codes, bytes_eq, Option, None, IfSome, option_map, Result, Ok, Err}
+use Rattle.std.specs.Prelude.{ℕ, ◌≡◌, ◌⊎◌, ◌≤◌, ◌<◌, ◌+◌, ◌^◌, Bool, false, List, [], ◌∷◌, length, drop, codes, bytes_eq, Option, None, IfSome, option_map, Ok, Err}
 use Rattle.sb_packet.specs.Journals.{IsLawful}
 use Rattle.sb_packet.specs.Reports.{run_report}
 use Rattle.sb_packet.specs.Solo.{solo_network, IsSoloJournal}

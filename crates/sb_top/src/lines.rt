@@ -3,7 +3,8 @@
 ghost use Rattle.std.specs.Prelude.{◌≡◌, ◌≤◌, ◌<◌, ◌+◌, ◌*◌, ◌^◌, ◌++◌, [], ◌∷◌, codes, decimal, length};
 ghost use Rattle.hex.specs.Hex.{encode_lower, lower_digits};
 ghost use Rattle.std.specs.Prelude.{slice_index};
-ghost use Rattle.sb_packet.specs.Reports.{code_text, hex_number, state_text, text_line};
+ghost use Rattle.sb_packet.specs.TextLines.{hex_number, text_line};
+ghost use Rattle.sb_packet.specs.Reports.{code_text, state_text};
 ghost use Rattle.sb_top.specs.Texts.{host_front, state_front};
 
 use crate::waiting::Waiting;

@@ -5,7 +5,8 @@ ghost use Rattle.std.specs.Prelude.{◌≡◌, ◌≤◌, ◌<◌, ◌+◌, ◌*
 ghost use Rattle.std.specs.List.{enumerate_from, list_all};
 ghost use Rattle.hex.specs.Hex.{encode_lower};
 ghost use Rattle.sb_io.specs.Counts.{Rose};
-ghost use Rattle.sb_packet.specs.Reports.{body_text, device_lines, host_lines, image_lines, outcome_line, row_line, text_line};
+ghost use Rattle.sb_packet.specs.TextLines.{body_text, text_line};
+ghost use Rattle.sb_packet.specs.Reports.{device_lines, host_lines, image_lines, outcome_line, row_line};
 ghost use Rattle.sb_packet.specs.Solo.{solo_device, solo_host};
 ghost use Rattle.sb_top.specs.Outputs.{Gains, GainsPart, Prints};
 ghost use Rattle.sb_top.specs.Texts.{device_front, host_front, last_line, lines_text, state_front, title_line};

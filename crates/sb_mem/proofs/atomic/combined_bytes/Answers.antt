@@ -1,6 +1,6 @@
 use Rattle.std.proofs.Common.{◌≡◌, ◌≤◌, ◌^◌, ◌∙◌, ap, arith, ℕ, List, take, length}
 use Rattle.std.proofs.lemmas.List.{length-take}
-use Rattle.sb_packet.specs.Memories.{number_of, bytes_of_number, combined}
+use Rattle.sb_packet.specs.Atomics.{number_of, bytes_of_number, combined}
 use Rattle.sb_mem.proofs.Atomics.{combined_at}
 use Rattle.sb_mem.proofs.TwosComplement.{word_length}
 use Rattle.sb_mem.proofs.WordBytes.{bytes_of_front}

@@ -1,6 +1,6 @@
 use Rattle.std.proofs.Common.{◌≡◌, ◌∙◌, ap, List, ℕ}
 use Rattle.std.specs.Int.{from_le_bytes, w64}
-use Rattle.sb_packet.specs.Memories.{number_of}
+use Rattle.sb_packet.specs.Atomics.{number_of}
 use Rattle.sb_mem.proofs.WordBytes.{number_of_padded, number_of-below}
 use Rattle.sb_mem.proofs.atomic.number.Goals as goal
 

@@ -1,7 +1,6 @@
-use Rattle.std.proofs.Common.{◌≡◌, ◌≢◌, ◌++◌, ◌∙◌, ℕ, List, ap, arith, subst}
+use Rattle.std.proofs.Common.{◌≢◌, ◌∙◌, ℕ, List, ap, arith, subst}
 use Rattle.sb_packet.specs.Memories.{MemoryState}
 use Rattle.sb_top.specs.Outputs.{Gains, GainsPart}
-use Rattle.sb_top.specs.Texts.{title_line, lines_text}
 use Rattle.sb_top.proofs.OutputLemmas.{written_whole, written_part}
 use Rattle.sb_top.proofs.ReportLemmas.{text_is_the_report}
 use Rattle.sb_top.proofs.command.run.Goals as goal

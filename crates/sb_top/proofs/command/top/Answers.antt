@@ -1,4 +1,4 @@
-use Rattle.std.proofs.Common.{◌≡◌, ◌≢◌, ◌≤◌, ◌∙◌, ◌^◌, inl, inr, refl, sym, arith, length}
+use Rattle.std.proofs.Common.{◌≢◌, ◌≤◌, ◌∙◌, ◌^◌, inl, inr, refl, sym, arith, length}
 use Rattle.std.proofs.lemmas.Grind.{common_steps}
 use Rattle.sb_top.proofs.OutputLemmas.{written_part}
 use Rattle.sb_top.proofs.command.top.Goals as goal

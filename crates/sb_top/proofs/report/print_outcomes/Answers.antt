@@ -1,4 +1,4 @@
-use Rattle.std.proofs.Common.{◌≤◌, ◌<◌, ◌+◌, ◌∙◌, [], length, arith}
+use Rattle.std.proofs.Common.{◌≤◌, ◌<◌, ◌∙◌, [], length, arith}
 use Rattle.sb_packet.specs.Outcomes.{Outcome}
 use Rattle.sb_packet.specs.Reports.{outcome_line}
 use Rattle.sb_packet.specs.declared.transaction.TxnState.TheVariants.{Waiting}

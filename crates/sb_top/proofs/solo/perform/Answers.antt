@@ -1,4 +1,4 @@
-use Rattle.std.proofs.Common.{◌≡◌, ◌++◌, ◌∷◌, [], ◌∙◌, List, ap, sym, refl, false}
+use Rattle.std.proofs.Common.{◌≡◌, ◌++◌, ◌∷◌, [], ◌∙◌, ap, sym, refl, false}
 use Rattle.sb_packet.specs.Networks.{has_address}
 use Rattle.sb_packet.specs.Outcomes.{Outcome}
 use Rattle.sb_packet.specs.Solo.{solo_device}

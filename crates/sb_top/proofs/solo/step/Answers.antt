@@ -1,9 +1,6 @@
-use Rattle.std.proofs.Common.{◌≡◌, ◌≤◌, ◌-◌, ◌++◌, ◌∙◌, [], ℕ, List, ap, sym, refl, arith, length}
-use Rattle.std.proofs.lemmas.List.{append-nil}
-use Rattle.sb_packet.specs.Accesses.{Access, accesses_of}
+use Rattle.std.proofs.Common.{◌≡◌, ◌∙◌, ap, sym, arith}
 use Rattle.sb_packet.specs.Answers.{answer_code, answer_body}
 use Rattle.sb_packet.specs.Messages.{message_of}
-use Rattle.sb_top.specs.Collected.{Collected}
 use Rattle.sb_top.specs.Steps.{packet_answers}
 use Rattle.sb_packet.proofs.PacketWords.{code_of_packet, body_of_packet, short_packet}
 use Rattle.sb_top.proofs.StepLemmas.{unanswered, answered, nothing_collected}
