@@ -2,10 +2,13 @@ pub mod Ranges
 pub mod Lists
 pub mod CutWords
 pub mod CutSteps
+pub mod Opcodes
+pub mod SoundParts
 pub mod PacketsOfTransactions
 pub mod RisingReplies
 pub mod FoundAnswers
 pub mod ReplyAddresses
+pub mod FineParts
 pub mod LawfulReplies
 pub mod Pages
 pub mod Places

@@ -11,6 +11,7 @@ pub mod Networks
 pub mod Scripts
 pub mod Cuts
 pub mod Journals
+pub mod Soundness
 pub mod Answers
 pub mod Outcomes
 pub mod Reports
