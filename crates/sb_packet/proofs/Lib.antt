@@ -20,7 +20,9 @@ pub mod SoloResults
 pub mod SoloCounts
 pub mod Examples
 pub mod ReportExamples
+pub mod SoundExamples
 pub mod JournalExamples
+pub mod NetworkExample
 pub mod Overwrites
 pub mod Shares
 pub mod SlotLemmas

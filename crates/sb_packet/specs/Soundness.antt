@@ -9,7 +9,7 @@ use Rattle.sb_packet.specs.Journals.{is_request}
 abbrev pub device_place : Message → ℕ
 device_place m = if is_request m.op then m.dst else m.src
 
--- the other address: where the answer to a request goes, and where an answer goes
+-- the other address: where the answer to a request goes, and where an answer itself goes
 abbrev pub reply_place : Message → ℕ
 reply_place m = if is_request m.op then m.src else m.dst
 
@@ -17,9 +17,9 @@ reply_place m = if is_request m.op then m.src else m.dst
 pub record IsSound (m : Message) : Type 0 where
   -- at the device its bytes lie in one page of 4,096
   pub page : device_place m % 4096 + message_span m ≤ 4096
-  -- and more bytes of that page follow where it doesn't end its transaction
+  -- where it doesn't end its transaction they don't end at a page's border, so more of that page may follow
   pub border : m.eom ≡ false → (device_place m + message_span m) % 4096 ≢ 0
-  -- its reply lies within the 2 ^ 40 addresses of its host
+  -- where they are answered they lie within the 2 ^ 40 addresses of its host
   pub low : m.host * 2 ^ 40 ≤ reply_place m
   pub high : reply_place m + message_span m ≤ (m.host + 1) * 2 ^ 40
   -- an exclusive access is to one word
