@@ -2,10 +2,13 @@ pub mod Ranges
 pub mod Lists
 pub mod CutWords
 pub mod CutSteps
+pub mod Opcodes
+pub mod SoundParts
 pub mod PacketsOfTransactions
 pub mod RisingReplies
 pub mod FoundAnswers
 pub mod ReplyAddresses
+pub mod FineParts
 pub mod LawfulReplies
 pub mod Pages
 pub mod Places
@@ -17,7 +20,9 @@ pub mod SoloResults
 pub mod SoloCounts
 pub mod Examples
 pub mod ReportExamples
+pub mod SoundExamples
 pub mod JournalExamples
+pub mod NetworkExample
 pub mod Overwrites
 pub mod Shares
 pub mod SlotLemmas

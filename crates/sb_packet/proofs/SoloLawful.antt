@@ -2,9 +2,6 @@
 use Rattle.std.proofs.Common.{◌≡◌, ◌<◌, ℕ, zero, suc, List, [], ◌∷◌, ap, sym, ◌∙◌, refl, arith, subst, Bool, true, false, length}
 use Rattle.std.specs.Prelude.{◌==◌, ◌&&◌, filter, flat_map, All, get_or}
 use Rattle.std.proofs.lemmas.List.Elements.{All-nil, All-cons, All-tail, All-weaker}
-use Rattle.sb_word.specs.declared.command.Op.{Op}
-use Rattle.sb_word.specs.declared.command.Op.TheVariants.{ReqRd, ReqWr, ReqWrPosted, ReqAtomic, RespRd, RespWr}
-use Rattle.sb_packet.specs.Spans.{word_count_by}
 use Rattle.sb_packet.specs.Accesses.{Access, access_at, accesses_of, message_accesses}
 use Rattle.sb_packet.specs.Messages.{Message, message_of}
 use Rattle.sb_packet.specs.Scripts.{IsTransaction, script_accesses}
@@ -13,6 +10,7 @@ use Rattle.sb_packet.specs.Solo.{solo_network, solo_host, IsSoloJournal}
 use Rattle.sb_packet.specs.declared.entry.Entry.{Entry}
 use Rattle.sb_packet.specs.declared.transaction.Txn.{Txn}
 use Rattle.sb_packet.proofs.Lists.{All-pieces, filter_all, filter_none}
+use Rattle.sb_packet.proofs.Opcodes.{some_words}
 use Rattle.sb_packet.specs.Networks.{NetHost}
 use Rattle.std.proofs.lemmas.Bool.Decides.{nat_tests}
 use Rattle.std.proofs.lemmas.List.FromFn.{get_or-map-range_with_len, length-map-range_with_len}
@@ -29,15 +27,6 @@ words_in_script_order script journal all is (suc d) =
     ap (λ (entries : List Entry). filter (is_in_flow script (suc d)) (flat_map (λ e. accesses_of e.packet) entries)) (no_entries journal d is.one_device)
     ∙ sym (filter_none (is_in_flow script (suc d)) (script_accesses (solo_host script)) (none_elsewhere script d 0 script all))
 
--- a packet has a word
-some_word : (op : Op) (len : ℕ) → 0 < word_count_by op len
-some_word ReqRd len = omega arith
-some_word ReqWr len = omega arith
-some_word ReqWrPosted len = omega arith
-some_word ReqAtomic len = omega arith
-some_word RespRd len = omega arith
-some_word RespWr len = omega arith
-
 -- what holds of all words of a message holds of its first
 first_word : (P : Access → Type 0) (m : Message) → 0 < m.count → All P (message_accesses m) → P (access_at m 0)
 first_word P m some all =
@@ -51,7 +40,7 @@ both false b h = absurd (cc)
 -- an entry whose words are all in the flow to the memory stands where it may
 placed_entry : (script : List Txn) (e : Entry) → e.device ≡ 0 → All (λ a. is_in_flow script 0 a ≡ true) (accesses_of e.packet) → IsPlaced (solo_network script) e
 placed_entry script e there flow =
-    let first : (e.packet.cmd.host == 0) ≡ true = (both _ _ (first_word (λ a. is_in_flow script 0 a ≡ true) (message_of e.packet) (some_word e.packet.cmd.op e.packet.cmd.len) flow)).0 in
+    let first : (e.packet.cmd.host == 0) ≡ true = (both _ _ (first_word (λ a. is_in_flow script 0 a ≡ true) (message_of e.packet) (some_words e.packet.cmd.op e.packet.cmd.len) flow)).0 in
     let host : e.packet.cmd.host ≡ 0 = grind (arith, nat_tests) in
     record {
       host = (0, omega arith, sym host);

@@ -13,6 +13,7 @@ pub mod Sides
 pub mod Scripts
 pub mod Cuts
 pub mod Journals
+pub mod Soundness
 pub mod Answers
 pub mod Outcomes
 pub mod TextLines

@@ -2,17 +2,19 @@
 
 ghost use Rattle.std.specs.Prelude.{◌≡◌, ◌≢◌, ◌≤◌, ◌<◌, ◌+◌, ◌*◌, ◌/◌, ◌%◌, ◌^◌, max, take, ℕ, true, false, List, [], ◌∷◌, ◌++◌, length, flat_map, map, sum_by, All, AllPairs};
 ghost use Rattle.sb_packet.specs.Accesses.{Access, message_accesses};
-ghost use Rattle.sb_packet.specs.Messages.{Message, message_span};
+ghost use Rattle.sb_packet.specs.Messages.{Message, message_of, message_span};
 ghost use Rattle.sb_packet.specs.Memories.{MemoryState, answers_in, memory_after};
 ghost use Rattle.sb_packet.specs.Networks.{NetHost, Network, opening_memory};
-ghost use Rattle.sb_packet.specs.Scripts.{IsTransaction, reply_address, script_accesses};
+ghost use Rattle.sb_packet.specs.Scripts.{IsTransaction, reply_address, request_message, script_accesses};
 ghost use Rattle.sb_packet.specs.Cuts.{cut_parts, first_part, is_one_part, other_parts, words_in};
 ghost use Rattle.sb_packet.specs.Journals.{journal_accesses, IsLawful};
+ghost use Rattle.sb_packet.specs.Soundness.{IsFine, IsSound, IsWhole};
 ghost use Rattle.sb_packet.specs.Answers.{access_run, answer_at_first, answer_body, answer_code};
 ghost use Rattle.sb_packet.specs.Outcomes.{run_results};
 ghost use Rattle.sb_packet.specs.Solo.{solo_network, solo_packets, IsSoloJournal};
 ghost use Rattle.sb_packet.specs.SoloRuns.{solo_outcomes_from, solo_results};
 ghost use Rattle.sb_packet.specs.declared.entry.Entry.{Entry};
+ghost use Rattle.sb_packet.specs.declared.packet.Packet.{Packet};
 ghost use Rattle.sb_packet.specs.declared.transaction.Txn.{Txn};
 
 /// Cutting keeps the words: those of all parts of a message, one part after another, are the message's own.
@@ -29,6 +31,31 @@ pub fn cuts_go_on()
     ensures more { (width : ℕ) (m : Message)
         → 0 < words_in width m → is_one_part width m ≡ false
         → cut_parts width m ≡ first_part width m ∷ cut_parts width (other_parts width m) }
+{}
+
+/// Each part of a sound message is sound, where a word fits the width. So are the parts of a sound whole message whole,
+/// and none speaks of more bytes than the width, where that is 8 or more.
+pub fn parts_are_sound()
+    ensures sound { (width : ℕ) (m : Message)
+        → 0 < words_in width m → IsSound m → All IsSound (cut_parts width m) }
+    ensures fine { (width : ℕ) (m : Message)
+        → 8 ≤ width → IsSound m → IsWhole m → All (IsFine width) (cut_parts width m) }
+{}
+
+/// What a packet says is whole.
+pub fn packets_are_whole()
+    ensures whole { (p : Packet) → IsWhole (message_of p) }
+{}
+
+/// A transaction as one message is sound and whole, whichever host asks, where it is one of its first 65,536. So all its
+/// packets are sound and whole, and none speaks of more than 32 bytes.
+pub fn transactions_are_sound()
+    ensures sound { (id qos prot i : ℕ) (t : Txn)
+        → IsTransaction t → i < 65536 → IsSound (request_message id qos prot i t) }
+    ensures whole { (id qos prot i : ℕ) (t : Txn)
+        → IsTransaction t → IsWhole (request_message id qos prot i t) }
+    ensures fine { (id qos prot i : ℕ) (t : Txn)
+        → IsTransaction t → i < 65536 → All (IsFine 32) (cut_parts 32 (request_message id qos prot i t)) }
 {}
 
 /// No two words of a script are answered at one address: each reply address is below those of all later words. The
