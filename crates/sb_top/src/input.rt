@@ -35,23 +35,15 @@ pub fn read_all<S: Source>(alloc: Global, source: &mut S) -> Result<Vec<u8>, Rea
 {
     let mut bytes = Vec::new(alloc);
     let mut buf = [0u8; CHUNK];
-    for turn in 0..LIMIT + 1 {
+    while bytes.len() <= LIMIT {
         let want = (LIMIT + 1 - bytes.len()).min(CHUNK);
-        if want == 0 {
-            return Err(ReadFault::TooLong);
-        }
         match source.read(&mut buf[..want]) {
             Got::Bytes(count) => {
                 if bytes.extend_from_slice(&buf[..count]).is_err() {
                     return Err(ReadFault::Memory);
                 }
             }
-            Got::End => {
-                if bytes.len() > LIMIT {
-                    return Err(ReadFault::TooLong);
-                }
-                return Ok(bytes);
-            }
+            Got::End => return Ok(bytes),
             Got::Failed => return Err(ReadFault::Failed),
         }
     }

@@ -3,12 +3,7 @@ use Rattle.std.proofs.lemmas.Grind.{common_steps}
 use Rattle.sb_top.proofs.InputLemmas.{left_behind}
 use Rattle.sb_top.proofs.input.read_all.Goals as goal
 
-pub returns-then-want-eq0-clause-taken : goal.returns-then-want-eq0-clause-taken
-returns-then-want-eq0-clause-taken g c = λ _.
-    let long : length c.loop-turn.bytes.items ≡ 2 ^ 26 + 1 = grind (arith, common_steps) in
-    left_behind _ _ _ _ long c.loop-turn.invariant.told
-
 pub returns-clause-taken : goal.returns-clause-taken
 returns-clause-taken g c = λ _.
-    let long : length c.loop-turn.bytes.items ≡ 2 ^ 26 + 1 = grind (arith, common_steps) in
-    left_behind _ _ _ _ long c.loop-turn.invariant.told
+    let long : length c.loop-buf.bytes.items ≡ 2 ^ 26 + 1 = grind (arith, common_steps) in
+    left_behind _ _ _ _ long c.loop-buf.invariant.told
