@@ -23,9 +23,20 @@ pub record SinkState : Type 0 where
   pub failing : List ℕ
   pub faults : ℕ
 
+-- a source that never fails: what is left, and the longest piece
+pub record CleanState : Type 0 where
+  pub left : List ℕ
+  pub piece : ℕ
+
 -- a call is to fail
 abbrev pub is_failing : List ℕ → ℕ → Bool
 is_failing failing call = list_any (λ k. k == call) failing
+
+-- what a read of such a source into a buffer of that length answers
+abbrev pub clean_answer : CleanState → ℕ → Got
+clean_answer s space =
+    if length s.left == 0 then got.End
+    else got.Bytes (min (min (length s.left) s.piece) space)
 
 -- what a read into a buffer of that length answers
 abbrev pub read_answer : SourceState → ℕ → Got

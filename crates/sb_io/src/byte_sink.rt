@@ -1,9 +1,10 @@
 //! A sink in memory.
 
-ghost use Rattle.std.specs.Prelude.{◌≡◌, ◌<◌, Some, [], length, IfOk};
+ghost use Rattle.std.specs.Prelude.{◌≡◌, ◌<◌, ◌+◌, Some, [], length, IfOk};
 ghost use Rattle.sb_io.specs.Counts.{raised};
 ghost use Rattle.sb_io.specs.Sinks.{CountsWriteFaults, Writes};
 ghost use Rattle.sb_io.specs.Streams.{write_answer};
+ghost use Rattle.sb_io.specs.declared.sink.Put.TheVariants as put;
 
 use crate::byte_source::is_failing;
 use crate::sink::{Put, Sink};
@@ -72,6 +73,8 @@ impl Sink for ByteSink {
         ensures bytes { Writes (Some self.old.held) (Some self.new.held) result piece.now }
         ensures cause { CountsWriteFaults self.old.faults self.new.faults result }
         ensures exact { result ≡ write_answer self.old (length piece.now) }
+        ensures room { self.new.room + length self.new.held ≡ self.old.room + length self.old.held }
+        ensures count { result ≡ put.Failed → self.new.faults ≡ raised self.old.faults }
         ensures call { self.new.call ≡ raised self.old.call }
         ensures piece { self.new.piece ≡ self.old.piece }
         ensures failing { self.new.failing ≡ self.old.failing }

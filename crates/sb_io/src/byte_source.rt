@@ -4,6 +4,7 @@ ghost use Rattle.std.specs.Prelude.{◌≡◌, ◌<◌, Some, [], length, IfOk};
 ghost use Rattle.sb_io.specs.Counts.{raised};
 ghost use Rattle.sb_io.specs.Sources.{CountsReadFaults, Reads};
 ghost use Rattle.sb_io.specs.Streams.{is_failing as failing_test, read_answer};
+ghost use Rattle.sb_io.specs.declared.source.Got.TheVariants as got;
 
 use crate::source::{Got, Source};
 use std::alloc::{AllocError, Global};
@@ -71,6 +72,7 @@ impl Source for ByteSource {
         ensures bytes { Reads (Some self.old.left) (Some self.new.left) result buf.new }
         ensures cause { CountsReadFaults self.old.faults self.new.faults result }
         ensures exact { result ≡ read_answer self.old (length buf.old) }
+        ensures count { result ≡ got.Failed → self.new.faults ≡ raised self.old.faults }
         ensures call { self.new.call ≡ raised self.old.call }
         ensures piece { self.new.piece ≡ self.old.piece }
         ensures failing { self.new.failing ≡ self.old.failing }

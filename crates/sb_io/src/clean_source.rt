@@ -1,8 +1,8 @@
 //! A source in memory that never fails.
 
-ghost use Rattle.std.specs.Prelude.{◌≡◌, ◌≢◌, ◌<◌, Some, length, IfOk};
+ghost use Rattle.std.specs.Prelude.{◌≡◌, ◌<◌, Some, length, IfOk};
 ghost use Rattle.sb_io.specs.Sources.{CountsReadFaults, Reads};
-ghost use Rattle.sb_io.specs.declared.source.Got.TheVariants as got;
+ghost use Rattle.sb_io.specs.Streams.{clean_answer};
 
 use crate::source::{Got, Source};
 use std::alloc::{AllocError, Global};
@@ -17,11 +17,12 @@ pub struct CleanSource {
 }
 
 impl Model for CleanSource {
-    ghost use Rattle.std.specs.Prelude.{ℕ, List, ◌<◌, ◌≤◌, drop, vec_len};
+    ghost use Rattle.std.specs.Prelude.{◌<◌, ◌≤◌, drop, vec_len};
+    ghost use Rattle.sb_io.specs.Streams.{CleanState};
 
-    ghost Value = { List ℕ };
+    ghost Value = { CleanState };
 
-    ghost view = { λ s. drop s.place s.bytes.items };
+    ghost view = { λ s. record { left = drop s.place s.bytes.items; piece = s.piece } };
 
     ghost invariant = { λ s. (s.place ≤ vec_len s.bytes) × (0 < s.piece) };
 }
@@ -30,7 +31,7 @@ impl CleanSource {
     /// A source of these bytes, of which one call gives at most `piece`.
     pub fn new(alloc: Global, bytes: &[u8], piece: usize) -> Result<CleanSource, AllocError>
         requires { 0 < piece }
-        ensures { IfOk result (λ s. s ≡ bytes.now) }
+        ensures { IfOk result (λ s. s ≡ record { left = bytes.now; piece = piece }) }
     {
         Ok(CleanSource {
             bytes: Vec::from_slice(alloc, bytes)?,
@@ -41,15 +42,16 @@ impl CleanSource {
 }
 
 impl Source for CleanSource {
-    ghost left = { λ s. Some s };
+    ghost left = { λ s. Some s.left };
 
     ghost faults = { λ _. 0 };
 
     fn read(&mut self, buf: &mut [u8]) -> Got
         requires { 0 < length buf.old }
-        ensures bytes { Reads (Some self.old) (Some self.new) result buf.new }
+        ensures bytes { Reads (Some self.old.left) (Some self.new.left) result buf.new }
         ensures cause { CountsReadFaults 0 0 result }
-        ensures clean { result ≢ got.Failed }
+        ensures exact { result ≡ clean_answer self.old (length buf.old) }
+        ensures piece { self.new.piece ≡ self.old.piece }
     {
         let rest = &self.bytes[self.place..];
         if rest.is_empty() {
