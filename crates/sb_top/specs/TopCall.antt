@@ -1,5 +1,5 @@
 -- What the top call did, by the status with which it ended.
-use Rattle.std.specs.Prelude.{ℕ, ◌≡◌, ◌⊎◌, ◌≤◌, ◌<◌, ◌+◌, ◌^◌, Bool, false, List, [], ◌∷◌, length, drop, codes, bytes_eq, Option, None, IfSome, option_map, Ok, Err}
+use Rattle.std.specs.Prelude.{ℕ, ◌≡◌, ◌⊎◌, ◌≤◌, ◌<◌, ◌+◌, ◌^◌, Bool, true, false, List, [], ◌∷◌, length, drop, codes, bytes_eq, Option, None, IfSome, option_map, Ok, Err}
 use Rattle.sb_packet.specs.Journals.{IsLawful}
 use Rattle.sb_packet.specs.Reports.{run_report}
 use Rattle.sb_packet.specs.Solo.{solo_network, IsSoloJournal}
@@ -71,7 +71,8 @@ pub record WrotePart (IsText : List ℕ → Type 0) (before after : Option (List
   pub is : IsText text
   pub part : GainsPart before after text
 
--- a text that the call writes, whatever its status
+-- a text that the call writes, whatever its status: words that are not taken have one alone
 abbrev pub IsAnyText : List (List ℕ) → Option (List ℕ) → Option (List ℕ) → List Entry → List ℕ → Type 0
 IsAnyText words before after journal text =
-    IsSoloRun before after journal text ⊎ (IsUsage words before after journal text ⊎ (IsRefusal before after journal text ⊎ IsTooLong before after journal text))
+    IsUsage words before after journal text
+    ⊎ ((asks_solo words ≡ true) × (IsSoloRun before after journal text ⊎ (IsRefusal before after journal text ⊎ IsTooLong before after journal text)))

@@ -8,7 +8,7 @@ returns-then-not-is_solo-clause-part g c = λ five.
     let other : 2 ≢ 5 = omega arith in
     record {
       text = _;
-      is = inr (inl (record { asked = sym c.is_solo.ensures ∙ c.if-not-is_solo.true; unread = refl; no_run = c.requires; printed = refl }));
+      is = inl (record { asked = sym c.is_solo.ensures ∙ c.if-not-is_solo.true; unread = refl; no_run = c.requires; printed = refl });
       part = written_part c.write_all.result _ c.status_of.result 2 c.status_of.ensures other five c.write_all.ensures.part;
     }
 
@@ -19,10 +19,13 @@ returns-in-Ok-clause-part g c = λ five.
     let short : length input ≤ 2 ^ 26 = let limit = c.in-Ok.ensures.limit in grind (arith, common_steps) in
     record {
       text = h.text;
-      is = elim h.is [
-        | inl ran ↦ inl (record { input = input; read = c.in-Ok.ensures.whole; short = short; ran = ran })
-        | inr refused ↦ inr (inr (inl (record { input = input; read = c.in-Ok.ensures.whole; short = short; refused = refused })))
-      ];
+      is = inr (
+        sym c.is_solo.ensures ∙ c.if-not-is_solo.false,
+        elim h.is [
+          | inl ran ↦ inl (record { input = input; read = c.in-Ok.ensures.whole; short = short; ran = ran })
+          | inr refused ↦ inr (inl (record { input = input; read = c.in-Ok.ensures.whole; short = short; refused = refused }))
+        ],
+      );
       part = h.part;
     }
 
@@ -31,6 +34,6 @@ returns-in-Err-TooLong-clause-part g c = λ five.
     let other : 7 ≢ 5 = omega arith in
     record {
       text = _;
-      is = inr (inr (inr (record { long = c.in-Err-TooLong.ensures.long (rw c.in-Err-TooLong.field-0-is refl); taken = c.in-Err-TooLong.ensures.taken (rw c.in-Err-TooLong.field-0-is refl); no_run = c.requires; printed = refl })));
+      is = inr (sym c.is_solo.ensures ∙ c.if-not-is_solo.false, inr (inr (record { long = c.in-Err-TooLong.ensures.long (rw c.in-Err-TooLong.field-0-is refl); taken = c.in-Err-TooLong.ensures.taken (rw c.in-Err-TooLong.field-0-is refl); no_run = c.requires; printed = refl })));
       part = written_part c.write_all-in-Err-TooLong.result _ c.status_of-in-Err-TooLong.result 7 c.status_of-in-Err-TooLong.ensures other five c.write_all-in-Err-TooLong.ensures.part;
     }
