@@ -45,7 +45,7 @@ abbrev pub parts_in : ℕ → ℕ → Message → List Message
 parts_in zero width m = m ∷ []
 parts_in (suc n) width m = if is_one_part width m then m ∷ [] else first_part width m ∷ parts_in n width (other_parts width m)
 
--- The parts of a message that speak of at most `width` bytes each, in order. There are no more parts than words.
+-- The parts of a message that speak of at most `width` bytes each, in order. Where a word fits the width, there are no more parts than words.
 abbrev pub cut_parts : ℕ → Message → List Message
 cut_parts width m = parts_in m.count width m
 

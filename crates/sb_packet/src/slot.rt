@@ -312,20 +312,45 @@ mod tests {
 
     #[test]
     fn each_bit_turned_over(rt: HostRuntime) {
-        for place in 0..8usize {
-            for bit in 0..64u32 {
-                let mut slot = READ;
-                slot[place] ^= 1 << bit;
-                let found = from_slot(&slot);
-                assert_eq!(rt;
-                    found.err(),
-                    read_fault_at(place, bit, slot[place]),
-                    "at {place}, {bit}"
-                );
-                if let Ok(item) = found {
-                    assert_eq!(rt; to_slot(&item), slot, "at {place}, {bit}");
-                }
+        for turned in 0..512usize {
+            let place = turned / 64;
+            let bit = (turned % 64) as u32;
+            let mut slot = READ;
+            slot[place] ^= 1 << bit;
+            let found = from_slot(&slot);
+            let fault = read_fault_at(place, bit, slot[place]);
+            assert_eq!(rt; found.err(), fault, "at {place}, {bit}");
+            if let Ok(item) = found {
+                assert_eq!(rt; to_slot(&item), slot, "at {place}, {bit}");
             }
+        }
+    }
+
+    /// What becomes of a Close where one bit of a number is turned over, which makes it that value.
+    fn close_fault_at(place: usize, bit: u32, value: u64) -> ItemFault
+        requires place { place < 8 }
+        requires bit { bit < 64 }
+    {
+        match (place, bit) {
+            (0, 32..=63) => ItemFault::Flag {
+                value: 2 ^ (1 << (bit - 32)),
+            },
+            (7, _) => ItemFault::Reserved { value },
+            _ => ItemFault::Padding {
+                at: (8 * place) as u8 + (bit / 8) as u8,
+            },
+        }
+    }
+
+    #[test]
+    fn each_bit_of_a_close_turned_over(rt: HostRuntime) {
+        for turned in 0..512usize {
+            let place = turned / 64;
+            let bit = (turned % 64) as u32;
+            let mut slot = CLOSE;
+            slot[place] ^= 1 << bit;
+            let fault = close_fault_at(place, bit, slot[place]);
+            assert_eq!(rt; from_slot(&slot), Err(fault), "at {place}, {bit}");
         }
     }
 }

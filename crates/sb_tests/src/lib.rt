@@ -1,5 +1,4 @@
-//! Tests that cross crates: the top call over sources and sinks in memory. The worked examples are from the description of
-//! the language, and none is what the program printed.
+//! Tests that cross crates: the top call over sources and sinks in memory. The worked examples are from docs/formats.md, and none is what the program printed.
 #![tactic(auto)]
 
 #[cfg(test)]

@@ -88,12 +88,61 @@ fn scripts(rt: HostRuntime) -> Result<(), Fail> {
 
 #[test]
 fn words_that_are_not_taken(rt: HostRuntime) -> Result<(), Fail> {
-    let mut source = CleanSource::new(rt.alloc(), b"rd 0 0 1", 1)?;
-    let mut sink = ByteSink::new(rt.alloc(), 64, 64, &[])?;
-    let mut journal = Journal::new(rt.alloc());
-    let status = top(rt.alloc(), &[], &mut source, &mut sink, &mut journal);
-    assert_eq!(rt; status, 2);
-    assert_eq!(rt; sink.as_slice(), b"usage\n".as_slice());
+    let rows: [&[&str]; 5] = [
+        &[],
+        &["Solo"],
+        &["solo", "solo"],
+        &["--help"],
+        &["replay", "--workers", "2"],
+    ];
+    for row in rows {
+        let mut words = Vec::new(rt.alloc());
+        for word in row {
+            words.push(String::from_str(rt.alloc(), word)?)?;
+        }
+        let mut source = CleanSource::new(rt.alloc(), b"rd 0 0 1", 1)?;
+        let mut sink = ByteSink::new(rt.alloc(), 64, 64, &[])?;
+        let mut journal = Journal::new(rt.alloc());
+        let status = top(
+            rt.alloc(),
+            words.as_slice(),
+            &mut source,
+            &mut sink,
+            &mut journal,
+        );
+        assert_eq!(rt; status, 2);
+        assert_eq!(rt; sink.as_slice(), b"usage\n".as_slice());
+        assert!(rt; journal.entries().is_empty());
+    }
+    Ok(())
+}
+
+#[test]
+fn the_longest_scripts(rt: HostRuntime) -> Result<(), Fail> {
+    let nothing = "sb 1\nhost host 0\ndevice mem 16\nend\n";
+    let rows = [
+        ("\n", 65536, "", 0, nothing),
+        ("\n", 65536, "?", 3, "refused lines 65537\n"),
+        ("wp 0x10000 0 00\n", 65536, "\n", 3, "refused lines 65537\n"),
+        (
+            "rd 0 0 256\n",
+            1024,
+            "rd 0 0 1",
+            3,
+            "refused words 262145\n",
+        ),
+    ];
+    for (line, count, last, status, text) in rows {
+        let mut script = Vec::new(rt.alloc());
+        for _ in 0..count {
+            script.extend_from_slice(line.as_bytes())?;
+        }
+        script.extend_from_slice(last.as_bytes())?;
+        let mut source = CleanSource::new(rt.alloc(), script.as_slice(), 4096)?;
+        let mut sink = ByteSink::new(rt.alloc(), 64, 64, &[])?;
+        assert_eq!(rt; solo(rt.alloc(), &mut source, &mut sink)?, (status, 0));
+        assert_eq!(rt; sink.as_slice(), text.as_bytes());
+    }
     Ok(())
 }
 
