@@ -2,6 +2,7 @@
 #![tactic(auto)]
 
 use sb_top::{Journal, ReaderSource, WriterSink, top};
+use std::io::ErrorKind;
 use std::process::ExitCode;
 use std::{env, io};
 
@@ -11,13 +12,17 @@ const OUT_OF_MEMORY: u8 = 6;
 fn main(rt: HostRuntime) -> ExitCode {
     let alloc = rt.alloc();
     let mut words = Vec::new(alloc);
-    // Words that are not all text count as none, which are not taken.
-    if let Ok(args) = env::args(&rt) {
-        for word in args.skip(1) {
-            if words.push(word).is_err() {
-                return ExitCode::from(OUT_OF_MEMORY);
+    match env::args(&rt) {
+        Ok(args) => {
+            for word in args.skip(1) {
+                if words.push(word).is_err() {
+                    return ExitCode::from(OUT_OF_MEMORY);
+                }
             }
         }
+        // Words that are not all text count as none, which are not taken.
+        Err(error) if error.kind() == ErrorKind::InvalidData => {}
+        Err(_) => return ExitCode::from(OUT_OF_MEMORY),
     }
     let mut source = ReaderSource::new(rt.reader());
     let mut sink = WriterSink::new(io::writer(&rt));
