@@ -7,6 +7,9 @@ use sb_top::top;
 use std::alloc::{AllocError, Global};
 use std::test::Fail;
 
+/// The longest pieces in which sources give and sinks take.
+const PIECES: [usize; 3] = [1, 7, 4096];
+
 /// What `solo` ended with, and how many packets its memory stepped.
 fn solo<S: Source, K: Sink>(
     alloc: Global,
@@ -75,7 +78,7 @@ fn scripts(rt: HostRuntime) -> Result<(), Fail> {
         ),
     ];
     for (script, status, packets, text) in rows {
-        for piece in [1, 7, 4096] {
+        for piece in PIECES {
             let mut source = ByteSource::new(rt.alloc(), script.as_bytes(), piece, &[])?;
             let mut sink = ByteSink::new(rt.alloc(), 4096, piece, &[])?;
             let ended = solo(rt.alloc(), &mut source, &mut sink)?;
@@ -148,11 +151,15 @@ fn the_longest_scripts(rt: HostRuntime) -> Result<(), Fail> {
 
 #[test]
 fn failing_reads(rt: HostRuntime) -> Result<(), Fail> {
-    for call in 0..4 {
-        let mut source = ByteSource::new(rt.alloc(), b"rd 0 0 1", 3, &[call])?;
-        let mut sink = ByteSink::new(rt.alloc(), 4096, 4096, &[])?;
-        assert_eq!(rt; solo(rt.alloc(), &mut source, &mut sink)?, (4, 0));
-        assert!(rt; sink.as_slice().is_empty());
+    let script = b"rd 0 0 1";
+    for piece in PIECES {
+        // a read for each piece, and one that meets the end
+        for call in 0..script.len().div_ceil(piece) + 1 {
+            let mut source = ByteSource::new(rt.alloc(), script, piece, &[call as u64])?;
+            let mut sink = ByteSink::new(rt.alloc(), 4096, 4096, &[])?;
+            assert_eq!(rt; solo(rt.alloc(), &mut source, &mut sink)?, (4, 0));
+            assert!(rt; sink.as_slice().is_empty());
+        }
     }
     Ok(())
 }
@@ -161,12 +168,23 @@ fn failing_reads(rt: HostRuntime) -> Result<(), Fail> {
 fn failing_writes(rt: HostRuntime) -> Result<(), Fail> {
     let text =
         b"sb 1\nhost host 1\nt 0 ok -\ndevice mem 16\nm 00000 0900000000000000000000000000000000000000000000000000000000000000\nend\n";
-    for call in 0..text.len() {
-        let mut source = CleanSource::new(rt.alloc(), b"wr 0 0 09", 4096)?;
-        let mut sink = ByteSink::new(rt.alloc(), 4096, 1, &[call as u64])?;
-        assert_eq!(rt; solo(rt.alloc(), &mut source, &mut sink)?, (5, 1));
-        assert_eq!(rt; sink.as_slice(), &text[..call]);
+    for piece in PIECES {
+        for call in 0..text.len().div_ceil(piece) {
+            let mut source = CleanSource::new(rt.alloc(), b"wr 0 0 09", 4096)?;
+            let mut sink = ByteSink::new(rt.alloc(), 4096, piece, &[call as u64])?;
+            assert_eq!(rt; solo(rt.alloc(), &mut source, &mut sink)?, (5, 1));
+            assert_eq!(rt; sink.as_slice(), &text[..call * piece]);
+        }
     }
+    Ok(())
+}
+
+#[test]
+fn a_full_sink(rt: HostRuntime) -> Result<(), Fail> {
+    let mut source = CleanSource::new(rt.alloc(), b"?", 1)?;
+    let mut sink = ByteSink::new(rt.alloc(), 9, 4096, &[])?;
+    assert_eq!(rt; solo(rt.alloc(), &mut source, &mut sink)?, (5, 0));
+    assert_eq!(rt; sink.as_slice(), b"refused l".as_slice());
     Ok(())
 }
 
