@@ -11,6 +11,7 @@ use Rattle.sb_packet.specs.Journals.{journal_accesses, flow_part}
 use Rattle.sb_packet.specs.declared.entry.Entry.{Entry}
 use Rattle.sb_packet.specs.declared.transaction.Txn.{Txn}
 
+-- both are true, or both are false
 abbrev pub same_bool : Bool → Bool → Bool
 same_bool a b = if a then b else not b
 
@@ -26,6 +27,7 @@ pub record DeviceRun : Type 0 where
   pub memory : MemoryState
   pub answers : List (Option Access)
 
+-- the run of a list of accesses at device d of a network
 abbrev pub access_run : Network → ℕ → List Access → DeviceRun
 access_run network d list = record { memory = memory_after (opening_memory network d) list; answers = answers_in (opening_memory network d) list }
 
@@ -43,6 +45,7 @@ unreached_by ReqAtomic a = Some (reply a RespRd 3 (replicate (2 ^ a.size) 0))
 unreached_by RespRd a = None
 unreached_by RespWr a = None
 
+-- the answer to a word by the place of its device, where it has one: the device's own, or that of no device
 abbrev pub answer_from : Network → List Entry → Access → Option ℕ → Option Access
 answer_from network journal a None = unreached_by a.op a
 answer_from network journal a (Some d) = answer_at_first (opening_memory network d) (journal_accesses journal d) a

@@ -7,6 +7,7 @@ use Rattle.sb_packet.specs.Networks.{NetHost}
 use Rattle.sb_packet.specs.Scripts.{transaction_message}
 use Rattle.sb_packet.specs.declared.transaction.Txn.{Txn}
 
+-- the opcode of an atomic
 abbrev pub is_atomic : Op → Bool
 is_atomic ReqAtomic = true
 is_atomic _ = false
@@ -29,10 +30,11 @@ part_of m from count eom = record m {
 abbrev pub words_in : ℕ → Message → ℕ
 words_in width m = width / 2 ^ m.size
 
--- the part that fills the width, which doesn't end the transaction, and what is left behind it
+-- the part that fills the width, which doesn't end the transaction
 abbrev pub first_part : ℕ → Message → Message
 first_part width m = part_of m 0 (words_in width m) false
 
+-- what is left behind the part that fills the width; it ends the transaction where the message did
 abbrev pub other_parts : ℕ → Message → Message
 other_parts width m = part_of m (words_in width m) (m.count - words_in width m) m.eom
 

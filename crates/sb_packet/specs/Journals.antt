@@ -13,6 +13,7 @@ use Rattle.sb_packet.specs.declared.entry.Entry.{Entry}
 abbrev pub journal_accesses : List Entry → ℕ → List Access
 journal_accesses journal d = flat_map (λ e. accesses_of e.packet) (filter (λ e. e.device == d) journal)
 
+-- an opcode that asks, where the others answer
 abbrev pub is_request : Op → Bool
 is_request ReqRd = true
 is_request ReqWr = true

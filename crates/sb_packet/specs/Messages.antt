@@ -5,6 +5,7 @@ use Rattle.sb_word.specs.declared.command.Op.TheVariants.{ReqAtomic}
 use Rattle.sb_packet.specs.Spans.{word_count_of, carried_of}
 use Rattle.sb_packet.specs.declared.packet.Packet.{Packet}
 
+-- what a packet, a part or a whole transaction says
 pub record Message : Type 0 where
   pub op : Op
   -- the type of an atomic, and 0 for all else

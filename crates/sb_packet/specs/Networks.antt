@@ -5,6 +5,7 @@ use Rattle.std.specs.Option.{option_map_or}
 use Rattle.sb_packet.specs.Memories.{MemoryState}
 use Rattle.sb_packet.specs.declared.transaction.Txn.{Txn}
 
+-- a host: it issues the transactions of its script, with its own quality of service and protection
 pub record NetHost : Type 0 where
   pub name : List ℕ
   -- its id in packets; no two hosts share one
@@ -13,6 +14,7 @@ pub record NetHost : Type 0 where
   pub prot : ℕ
   pub script : List Txn
 
+-- a router: it hands on what arrives, by the device that it is for
 pub record NetRouter : Type 0 where
   pub name : List ℕ
   -- 0 or 1: on which side of the wire it stands
@@ -20,6 +22,7 @@ pub record NetRouter : Type 0 where
   -- for each device, the link that leads on to it
   pub routes : List (Option ℕ)
 
+-- a device: so many pages of memory from an address on, which begin with the image and zeros behind it
 pub record NetDevice : Type 0 where
   pub name : List ℕ
   pub base : ℕ
@@ -41,6 +44,7 @@ pub record NetLink : Type 0 where
   pub width : ℕ
   pub capacity : ℕ
 
+-- a network, as its lists
 pub record Network : Type 0 where
   pub hosts : List NetHost
   pub routers : List NetRouter

@@ -14,6 +14,7 @@ use Rattle.sb_packet.specs.declared.transaction.Code.TheVariants as the_codes
 use Rattle.sb_packet.specs.declared.transaction.TxnState.{TxnState}
 use Rattle.sb_packet.specs.declared.transaction.TxnState.TheVariants.{Waiting, Posted, Answered}
 
+-- the word for a code
 abbrev pub code_text : Code → List ℕ
 code_text the_codes.Ok = codes "ok"
 code_text the_codes.ExOk = codes "exok"
@@ -45,6 +46,7 @@ image_rows (suc n) bytes = take 32 bytes ∷ image_rows n (drop 32 bytes)
 abbrev pub row_line : ℕ → List ℕ → List ℕ
 row_line k row = if list_all (λ b. b == 0) row then [] else text_line (codes "m" ∷ hex_number 5 (k * 32) ∷ encode_lower row ∷ [])
 
+-- the lines of a memory's rows, in order
 abbrev pub image_lines : List ℕ → List ℕ
 image_lines bytes = flat_map (λ p. row_line p.0 p.1) (enumerate_from 0 (image_rows (length bytes / 32) bytes))
 
@@ -66,10 +68,12 @@ abbrev pub is_printed : Option ℕ → ℕ → Bool
 is_printed None k = true
 is_printed (Some side) k = k == side
 
+-- the first line: the format's version, and the side where only one is printed
 abbrev pub first_line : Option ℕ → List ℕ
 first_line None = text_line (codes "sb" ∷ codes "1" ∷ [])
 first_line (Some side) = text_line (codes "sb" ∷ codes "1" ∷ codes "side" ∷ decimal side ∷ [])
 
+-- the history where it is asked for: how many entries are printed, and a line for each
 abbrev pub history_lines : Network → List Entry → Option ℕ → Bool → List ℕ
 history_lines network journal side false = []
 history_lines network journal side true =

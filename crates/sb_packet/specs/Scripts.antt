@@ -17,6 +17,7 @@ request_of Write = ReqWr
 request_of Posted = ReqWrPosted
 request_of (Atomic type) = ReqAtomic
 
+-- the type of an atomic, and 0 for all else
 abbrev pub atomic_type_of_kind : Kind → ℕ
 atomic_type_of_kind Read = 0
 atomic_type_of_kind Write = 0
@@ -46,6 +47,7 @@ request_message id qos prot i t = record {
   tail = 0;
 }
 
+-- transaction i of a host, as one message
 abbrev pub transaction_message : NetHost → ℕ → Txn → Message
 transaction_message host i t = request_message host.id host.qos host.prot i t
 

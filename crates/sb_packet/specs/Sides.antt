@@ -10,6 +10,7 @@ side_at network (at_router r) = option_map_or (λ router. router.side) (slice_ge
 side_at network (at_host h) = 0
 side_at network (at_device d) = 0
 
+-- a link that leaves from host h
 abbrev pub leaves_from : ℕ → NetLink → Bool
 leaves_from h link = is_host h link.from
   where

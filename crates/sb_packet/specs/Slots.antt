@@ -6,10 +6,11 @@ use Rattle.sb_packet.specs.declared.packet.Packet.{Packet}
 use Rattle.sb_packet.specs.declared.item.Item.{Item}
 use Rattle.sb_packet.specs.declared.item.Item.TheVariants as items
 
--- the first number's low half is the command word, its high half says what the slot holds: 1 is a packet, and 2 a Close
+-- the first number's low half, which is the command word
 abbrev pub word_in : List ℕ → ℕ
 word_in slot = slice_index slot 0 % 2 ^ 32
 
+-- the first number's high half, which says what the slot holds: 1 is a packet, and 2 a Close
 abbrev pub flag_in : List ℕ → ℕ
 flag_in slot = slice_index slot 0 / 2 ^ 32
 

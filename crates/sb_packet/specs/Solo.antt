@@ -11,9 +11,11 @@ use Rattle.sb_packet.specs.declared.transaction.Txn.{Txn}
 abbrev pub solo_device : NetDevice
 solo_device = record { name = codes "mem"; base = 0; pages = 16; readonly = false; image = [] }
 
+-- the one host, which has the whole script
 abbrev pub solo_host : List Txn → NetHost
 solo_host script = record { name = codes "host"; id = 0; qos = 0; prot = 0; script = script }
 
+-- the network of `solo`: the host, a router that leads on to the memory, and the memory
 abbrev pub solo_network : List Txn → Network
 solo_network script = record {
   hosts = solo_host script ∷ [];
@@ -28,6 +30,7 @@ solo_network script = record {
 abbrev pub solo_packets_from : List Txn → ℕ → List Txn → List Message
 solo_packets_from script i txns = flat_map (λ p. if has_address p.1.addr solo_device then transaction_packets (solo_host script) p.0 p.1 else []) (enumerate_from i txns)
 
+-- the packets of a whole script that are aimed at the memory
 abbrev pub solo_packets : List Txn → List Message
 solo_packets script = solo_packets_from script 0 script
 

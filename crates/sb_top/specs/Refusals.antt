@@ -6,6 +6,7 @@ use Rattle.sb_text.specs.declared.line_fault.LineFault.TheVariants as line_fault
 use Rattle.sb_text.specs.declared.script_fault.ScriptFault.{ScriptFault}
 use Rattle.sb_text.specs.declared.script_fault.ScriptFault.TheVariants as script_faults
 
+-- the name of a line's fault
 abbrev pub line_fault_text : LineFault → List ℕ
 line_fault_text line_faults.Verb = codes "verb"
 line_fault_text line_faults.Number = codes "number"

@@ -51,6 +51,7 @@ abbrev pub entries_in : List Txn → ℕ
 entries_in [] = 0
 entries_in (t ∷ txns) = entries_of t + entries_in txns
 
+-- the room for the answers of a whole script
 abbrev pub answer_room_in : List Txn → ℕ
 answer_room_in [] = 0
 answer_room_in (t ∷ txns) = answer_room_of t + answer_room_in txns

@@ -9,6 +9,7 @@ use Rattle.sb_word.specs.declared.fault.WordFault.TheVariants.{Invalid, Opcode, 
 abbrev pub carried_opcodes : List ℕ
 carried_opcodes = 1 ∷ 2 ∷ 3 ∷ 4 ∷ 5 ∷ 9 ∷ []
 
+-- an opcode that is one of them
 abbrev pub is_carried : ℕ → Bool
 is_carried opcode = list_any (λ n. n == opcode) carried_opcodes
 

@@ -1,3 +1,4 @@
+-- A word has at most 8 bytes, and those at the front are what the atomic makes of the old word and the operand.
 use Rattle.std.proofs.Common.{◌≡◌, ◌≤◌, ◌^◌, ◌∙◌, ap, arith, ℕ, List, take, length}
 use Rattle.std.proofs.lemmas.List.{length-take}
 use Rattle.sb_packet.specs.Atomics.{number_of, bytes_of_number, combined}

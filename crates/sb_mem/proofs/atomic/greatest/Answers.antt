@@ -1,3 +1,4 @@
+-- At each of the four word sizes the word has at most 64 bits, and one more than the greatest is 256 to its bytes.
 use Rattle.std.proofs.Common.{◌≡◌, ◌≤◌, ◌+◌, ◌-◌, ◌*◌, ◌/◌, ◌%◌, ◌^◌, refl, arith}
 use Rattle.sb_mem.proofs.TwosComplement.{each_size}
 use Rattle.sb_mem.proofs.atomic.greatest.Goals as goal

@@ -1,3 +1,4 @@
+-- With the sign bit turned over, the order of two words is that of two's complement.
 use Rattle.sb_mem.proofs.TwosComplement.{signed_order}
 use Rattle.sb_mem.proofs.atomic.is_signed_at_most.Goals as goal
 

@@ -1,3 +1,4 @@
+-- Up to 8 bytes, padded with zeros, are worth what they are without the zeros, which is below 256 to their count.
 use Rattle.std.proofs.Common.{◌≡◌, ◌∙◌, ap, List, ℕ}
 use Rattle.std.specs.Int.{from_le_bytes, w64}
 use Rattle.sb_packet.specs.Atomics.{number_of}

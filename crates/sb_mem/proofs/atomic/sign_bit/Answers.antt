@@ -1,3 +1,4 @@
+-- At each of the four word sizes the shift is below 64, and twice the sign bit is 256 to the word's bytes.
 use Rattle.std.proofs.Common.{◌≡◌, ◌<◌, ◌-◌, ◌*◌, ◌%◌, ◌^◌, refl, arith}
 use Rattle.sb_mem.proofs.TwosComplement.{each_size}
 use Rattle.sb_mem.proofs.atomic.sign_bit.Goals as goal

@@ -1,3 +1,4 @@
+-- The wrapped sum, masked by a word's greatest number, is the sum's remainder by 256 to the word's bytes.
 use Rattle.std.proofs.Common.{◌+◌}
 use Rattle.sb_mem.proofs.TwosComplement.{wrapped}
 use Rattle.sb_mem.proofs.atomic.wrapped_sum.Goals as goal

@@ -1,3 +1,4 @@
+-- Where no two reply addresses are the same, each access finds its own answer; a run over joined lists is one and then the other.
 use Rattle.sb_packet.proofs.FoundAnswers.{answers_found, apart_from_rising, answers_in-append, memory_after-append}
 use Rattle.sb_packet.proofs.laws.answers_are_found.Goals as goal
 

@@ -1,3 +1,4 @@
+-- A message's words have its code and its bytes; of joined answers the greater code counts, and the bodies are joined.
 use Rattle.sb_packet.proofs.JoinedAnswers.{answer_body-append, answer_code-append, body_of_message, code_of_message}
 use Rattle.sb_packet.proofs.laws.answers_are_joined.Goals as goal
 

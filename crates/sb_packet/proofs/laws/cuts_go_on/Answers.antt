@@ -1,3 +1,4 @@
+-- A message that is one part is its only one; any other is its first part and then the parts of what is left.
 use Rattle.sb_packet.proofs.CutSteps.{cut_of_one, cut_of_more}
 use Rattle.sb_packet.proofs.laws.cuts_go_on.Goals as goal
 

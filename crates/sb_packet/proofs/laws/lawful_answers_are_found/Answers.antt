@@ -1,3 +1,4 @@
+-- In a lawful journal no two words of a device are answered at one address, so each finds the answer that the device gave.
 use Rattle.sb_packet.specs.Journals.{journal_accesses}
 use Rattle.sb_packet.specs.Networks.{opening_memory}
 use Rattle.sb_packet.proofs.FoundAnswers.{answers_found}

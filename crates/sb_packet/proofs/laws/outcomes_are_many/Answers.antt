@@ -1,3 +1,4 @@
+-- There are as many outcomes as transactions.
 use Rattle.sb_packet.proofs.SoloCounts.{length-solo_outcomes_from}
 use Rattle.sb_packet.proofs.laws.outcomes_are_many.Goals as goal
 

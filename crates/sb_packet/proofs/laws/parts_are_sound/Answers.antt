@@ -1,3 +1,4 @@
+-- The parts of a sound message are sound, and those of a sound whole message are whole and narrow too.
 use Rattle.sb_packet.proofs.FineParts.{fine_cut}
 use Rattle.sb_packet.proofs.SoundParts.{sound_cut}
 use Rattle.sb_packet.proofs.laws.parts_are_sound.Goals as goal

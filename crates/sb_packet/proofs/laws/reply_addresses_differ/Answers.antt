@@ -1,3 +1,4 @@
+-- Reply addresses rise along a script, and their bits from 40 on tell the host.
 use Rattle.sb_packet.proofs.ReplyAddresses.{reply_addresses_rise, reply_addresses_tell}
 use Rattle.sb_packet.proofs.laws.reply_addresses_differ.Goals as goal
 

@@ -1,3 +1,4 @@
+-- A solo journal of a script of transactions is lawful.
 use Rattle.sb_packet.proofs.SoloLawful.{solo_lawful}
 use Rattle.sb_packet.proofs.laws.solo_journals_are_lawful.Goals as goal
 

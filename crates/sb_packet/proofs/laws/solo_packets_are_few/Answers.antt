@@ -1,3 +1,4 @@
+-- A script of transactions has no more packets than words.
 use Rattle.sb_packet.proofs.SoloCounts.{solo_packets_few}
 use Rattle.sb_packet.proofs.laws.solo_packets_are_few.Goals as goal
 

@@ -1,3 +1,4 @@
+-- The results of a run over a solo journal are those of its script.
 use Rattle.sb_packet.proofs.SoloResults.{solo_results_are}
 use Rattle.sb_packet.proofs.laws.solo_results_are_the_journals.Goals as goal
 

@@ -1,3 +1,4 @@
+-- A transaction and its answers end within 2 ^ 56, and their words lie at multiples of the word.
 use Rattle.sb_packet.proofs.Places.{replies_end, reply_address_aligned, transaction_ends, words_aligned}
 use Rattle.sb_packet.proofs.laws.transactions_are_placed.Goals as goal
 

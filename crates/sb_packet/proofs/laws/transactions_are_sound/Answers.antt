@@ -1,3 +1,4 @@
+-- A transaction as one message is sound and whole, so all its packets are, and none speaks of more than 32 bytes.
 use Rattle.std.proofs.Common.{arith}
 use Rattle.sb_packet.specs.Scripts.{request_message}
 use Rattle.sb_packet.proofs.FineParts.{fine_cut, transaction_sound, transaction_whole}

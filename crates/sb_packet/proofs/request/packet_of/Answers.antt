@@ -1,3 +1,4 @@
+-- Packet k begins within the transaction, is part k of its message, and ends no later than the transaction.
 use Rattle.std.proofs.Common.{◌≡◌, ◌≤◌, ◌<◌, ◌+◌, ◌*◌, ◌-◌, ◌^◌, ℕ, ap, sym, arith, ◌∙◌, Some}
 use Rattle.std.specs.Prelude.{nat_le}
 use Rattle.sb_packet.specs.Messages.{Message, message_span}

@@ -1,3 +1,4 @@
+-- A transaction has as many packets as it takes to hold its words.
 use Rattle.std.proofs.Common.{◌∙◌}
 use Rattle.sb_packet.proofs.PacketsOfTransactions.{packets_number}
 use Rattle.sb_packet.proofs.request.packets.Goals as goal

@@ -1,3 +1,4 @@
+-- A part goes to a multiple of its word, is answered at one, and ends within 2 ^ 56.
 use Rattle.std.proofs.Common.{◌≡◌, ◌≤◌, ◌+◌, ◌*◌, ◌^◌, ℕ, ap, arith, ◌∙◌}
 use Rattle.sb_packet.specs.Spans.{span_of}
 use Rattle.sb_packet.proofs.PacketsOfTransactions.{packet_ends}

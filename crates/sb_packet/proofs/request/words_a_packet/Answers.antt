@@ -1,3 +1,4 @@
+-- The words of a packet fill its 32 bytes exactly, and there are at least 4.
 use Rattle.sb_packet.proofs.PacketsOfTransactions.{words_fill, words_are_some}
 use Rattle.sb_packet.proofs.request.words_a_packet.Goals as goal
 

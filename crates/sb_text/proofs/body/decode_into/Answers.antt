@@ -1,3 +1,4 @@
+-- A pair with a byte that is no digit is refused; each other pair adds its byte, until the bytes are what all digits decode to.
 use Rattle.std.proofs.Common.{◌<◌, ◌⊎◌, inl, inr, ⊎_elim, ◌+◌, ◌*◌, slice_index, arith}
 use Rattle.hex.proofs.Pairs.{decode_step, decode_done}
 use Rattle.sb_text.proofs.BodyLemmas.{pair_is, digits_refused}

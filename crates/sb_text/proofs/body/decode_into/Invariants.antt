@@ -1,3 +1,4 @@
+-- The bytes so far, followed by what the rest of the digits decode to, are what all digits decode to.
 use Rattle.std.proofs.Common.{◌≡◌, ◌*◌, take, drop}
 use Rattle.hex.specs.Hex.{decode_pairs}
 use Rattle.hex.proofs.Pairs.{prepend}

@@ -1,3 +1,4 @@
+-- The table has what each byte is worth as a hexadecimal digit, and 255 for a byte that is none.
 use Rattle.std.proofs.Common.{◌≡◌, ◌<◌, ℕ, List, map, get_or, unwrap_or, ap, refl, ◌∙◌, arith}
 use Rattle.std.specs.List.{range_with_len}
 use Rattle.std.proofs.lemmas.List.FromFn.{get_or-map-range_with_len}

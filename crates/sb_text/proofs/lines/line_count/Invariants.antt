@@ -1,3 +1,4 @@
+-- The lines counted so far, and those of the rest, are all lines of the text.
 use Rattle.std.proofs.Common.{◌≡◌, ◌≤◌, ◌+◌, length}
 use Rattle.sb_text.specs.Lines.{lines_of}
 use Rattle.sb_text.proofs.lines.line_count.Given as goal

@@ -1,3 +1,4 @@
+-- A digit moves those before it one place up; if the first ones are worth 2^64 or more, so are all, and else the value is that of all.
 use Rattle.std.proofs.Common.{◌≡◌, ◌≤◌, ◌<◌, ◌+◌, ◌*◌, ◌^◌, ◌∙◌, ℕ, ap, arith, take}
 use Rattle.sb_text.specs.Numerals.{digits_value}
 use Rattle.sb_text.proofs.NumeralLemmas.{digits_more, value_more, too_great, none_if, all_read}

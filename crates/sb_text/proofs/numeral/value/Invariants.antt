@@ -1,3 +1,4 @@
+-- The bytes so far are digits, and the value is theirs.
 use Rattle.std.proofs.Common.{◌≡◌, ◌<◌, ◌^◌, true, take}
 use Rattle.std.specs.List.{list_all}
 use Rattle.sb_text.specs.Numerals.{is_digit_of, digits_value}

@@ -1,3 +1,4 @@
+-- A line's transaction, if it has one, goes behind those so far, and those of the lines that are left still follow.
 use Rattle.std.proofs.Common.{◌+◌, ◌++◌, ◌∙◌, ℕ, List, Ok, length, ap, sym, arith}
 use Rattle.sb_packet.specs.declared.transaction.Txn.{Txn}
 use Rattle.sb_text.specs.Lines.{lines_of}

@@ -1,3 +1,4 @@
+-- The transactions so far, followed by those of the lines that are left, are those of all lines; so the first fault is still ahead.
 use Rattle.std.proofs.Common.{◌≡◌, ◌≤◌, ◌+◌, ◌++◌, List, length, Ok}
 use Rattle.std.specs.Prelude.{All, vec_len}
 use Rattle.sb_packet.specs.Scripts.{IsTransaction}

@@ -1,3 +1,4 @@
+-- The words of the transactions so far are counted.
 use Rattle.std.proofs.Common.{◌≡◌, ◌≤◌, ◌*◌, take}
 use Rattle.sb_text.specs.Scripts.{words_in}
 use Rattle.sb_text.proofs.script.word_count.Given as goal

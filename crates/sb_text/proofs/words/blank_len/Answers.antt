@@ -1,3 +1,4 @@
+-- A blank behind blanks makes their row one byte longer.
 use Rattle.std.proofs.Common.{◌≡◌, true, arith, get_or}
 use Rattle.std.proofs.lemmas.List.Elements.{All-more}
 use Rattle.sb_text.specs.Lines.{is_blank}

@@ -1,3 +1,4 @@
+-- Each byte so far is a blank.
 use Rattle.std.proofs.Common.{◌≡◌, true, take}
 use Rattle.std.specs.Prelude.{All}
 use Rattle.sb_text.specs.Lines.{is_blank}

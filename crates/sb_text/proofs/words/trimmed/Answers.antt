@@ -1,3 +1,4 @@
+-- A line has the same words without the blanks at its front.
 use Rattle.std.proofs.Common.{◌∙◌, ap, sym}
 use Rattle.sb_text.specs.Lines.{words_of}
 use Rattle.sb_text.proofs.WordLemmas.{words_behind_blanks}

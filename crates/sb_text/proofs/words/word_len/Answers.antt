@@ -1,3 +1,4 @@
+-- A byte that is no blank makes the word one byte longer.
 use Rattle.std.proofs.Common.{◌≡◌, ◌<◌, false, arith, get_or, length}
 use Rattle.std.proofs.lemmas.List.Elements.{All-more}
 use Rattle.sb_text.specs.Lines.{is_blank}

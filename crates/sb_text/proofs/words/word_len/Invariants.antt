@@ -1,3 +1,4 @@
+-- No byte so far is a blank.
 use Rattle.std.proofs.Common.{◌≡◌, false, take}
 use Rattle.std.specs.Prelude.{All}
 use Rattle.sb_text.specs.Lines.{is_blank}

@@ -1,3 +1,4 @@
+-- The text that is printed, whole or in part, is the report that the run's journal gives.
 use Rattle.std.proofs.Common.{◌≢◌, ◌∙◌, ℕ, List, ap, arith, subst}
 use Rattle.sb_packet.specs.Memories.{MemoryState}
 use Rattle.sb_top.specs.Outputs.{Gains, GainsPart}

@@ -1,3 +1,4 @@
+-- Where a write fails, what was written is a first part of the usage line, of a report or refusal, or of the line for a long input.
 use Rattle.std.proofs.Common.{◌≢◌, ◌≤◌, ◌∙◌, ◌^◌, inl, inr, refl, sym, arith, length}
 use Rattle.std.proofs.lemmas.Grind.{common_steps}
 use Rattle.sb_top.proofs.OutputLemmas.{written_part}

@@ -1,3 +1,4 @@
+-- Where the input is too long, one byte more than the limit was taken, and the bytes behind these are left.
 use Rattle.std.proofs.Common.{◌≡◌, ◌^◌, ◌+◌, length, arith}
 use Rattle.std.proofs.lemmas.Grind.{common_steps}
 use Rattle.sb_top.proofs.InputLemmas.{left_behind}

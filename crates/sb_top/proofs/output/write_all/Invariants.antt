@@ -1,3 +1,4 @@
+-- The sink gained the text so far, and has not failed.
 use Rattle.std.proofs.Common.{◌≡◌, ◌≤◌, ◌-◌, length, take}
 use Rattle.sb_top.specs.Outputs.{Gains}
 use Rattle.sb_top.proofs.output.write_all.Given as goal

@@ -1,3 +1,4 @@
+-- Up to 32 bytes more add their digits to those printed; where the sink fails, a first part of all digits was written.
 use Rattle.std.proofs.Common.{◌≤◌, ◌+◌, ◌∙◌, length, arith, refl}
 use Rattle.sb_top.proofs.OutputLemmas.{on_err}
 use Rattle.sb_top.proofs.PrintLemmas.{hex_nothing, hex_more, hex_part}

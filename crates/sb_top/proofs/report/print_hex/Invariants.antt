@@ -1,3 +1,4 @@
+-- The digits of the bytes so far are printed or wait, and the sink has not failed.
 use Rattle.std.proofs.Common.{◌≡◌, ◌≤◌, ◌-◌, length, take}
 use Rattle.hex.specs.Hex.{encode_lower}
 use Rattle.sb_top.specs.Outputs.{Prints}

@@ -1,3 +1,4 @@
+-- The lines of the rows so far are printed or wait, and the sink has not failed.
 use Rattle.std.proofs.Common.{◌≡◌, take, length, ◌/◌}
 use Rattle.sb_packet.specs.Reports.{row_line, image_rows}
 use Rattle.sb_top.specs.Outputs.{Prints}

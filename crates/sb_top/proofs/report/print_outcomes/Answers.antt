@@ -1,3 +1,4 @@
+-- One transaction more adds its line, up to the line of the last; where the sink fails, a first part of all lines was written.
 use Rattle.std.proofs.Common.{◌≤◌, ◌<◌, ◌∙◌, [], length, arith}
 use Rattle.sb_packet.specs.Outcomes.{Outcome}
 use Rattle.sb_packet.specs.Reports.{outcome_line}

@@ -1,3 +1,4 @@
+-- One packet more steps memory, journal, body and code; all packets do what the transaction's words do, with 32 bytes of room for each.
 use Rattle.std.proofs.Common.{◌≡◌, ◌≤◌, ◌-◌, ◌++◌, ◌∷◌, [], ◌∙◌, ℕ, List, ap, sym, refl, subst, arith, append_assoc, length, take}
 use Rattle.std.specs.Prelude.{map, max, All}
 use Rattle.std.proofs.lemmas.List.{map-append}

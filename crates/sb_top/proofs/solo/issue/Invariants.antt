@@ -1,3 +1,4 @@
+-- The memory, the journal and the answers are those of the packets so far.
 use Rattle.std.proofs.Common.{◌≡◌, ◌≤◌, ◌+◌, ◌*◌, ◌++◌, [], take, length}
 use Rattle.std.specs.Prelude.{map, flat_map, All}
 use Rattle.sb_packet.specs.Messages.{message_of}

@@ -1,3 +1,4 @@
+-- Losing a transaction that is aimed at no device adds the outcome that the answers to its words come to.
 use Rattle.std.proofs.Common.{◌≡◌, ◌++◌, ◌∷◌, [], ◌∙◌, ap, sym, refl, false}
 use Rattle.sb_packet.specs.Networks.{has_address}
 use Rattle.sb_packet.specs.Outcomes.{Outcome}

@@ -1,3 +1,4 @@
+-- The room so far, and that of the transactions that are left, is the whole room.
 use Rattle.std.proofs.Common.{◌≡◌, ◌≤◌, ◌+◌, ◌*◌, drop}
 use Rattle.sb_top.specs.Steps.{entries_in, answer_room_in}
 use Rattle.sb_top.proofs.solo.room_in.Given as goal

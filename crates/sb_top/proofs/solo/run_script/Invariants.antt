@@ -1,3 +1,4 @@
+-- What the run came to so far, followed by what the transactions that are left come to, is what the whole script comes to; and the room is enough for these.
 use Rattle.std.proofs.Common.{◌≡◌, ◌≤◌, ◌+◌, ◌++◌, [], drop, length}
 use Rattle.std.specs.Prelude.{map, All}
 use Rattle.sb_packet.specs.Messages.{message_of}

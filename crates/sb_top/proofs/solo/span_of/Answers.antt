@@ -1,3 +1,4 @@
+-- A transaction speaks of at most 2048 bytes.
 use Rattle.std.proofs.Common.{arith}
 use Rattle.sb_packet.proofs.ReplyAddresses.{span_of_transaction}
 use Rattle.sb_top.proofs.solo.span_of.Goals as goal

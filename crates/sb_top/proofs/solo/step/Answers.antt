@@ -1,3 +1,4 @@
+-- The code and the body are those of the words' answers, which have at most 32 bytes; where none answers, they are 0 and empty.
 use Rattle.std.proofs.Common.{◌≡◌, ◌∙◌, ap, sym, arith}
 use Rattle.sb_packet.specs.Answers.{answer_code, answer_body}
 use Rattle.sb_packet.specs.Messages.{message_of}

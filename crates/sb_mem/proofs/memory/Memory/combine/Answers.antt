@@ -1,3 +1,4 @@
+-- A refused atomic is answered by zeros; any other stores in its one word what it makes of the old value.
 use Rattle.std.proofs.Common.{◌≡◌, ◌≤◌, ◌^◌, ◌∙◌, ap, sym, arith, ℕ, List, take, replicate}
 use Rattle.std.specs.Prelude.{if◌then◌else◌}
 use Rattle.std.proofs.lemmas.List.{drop-replicate, take-replicate, length-take}

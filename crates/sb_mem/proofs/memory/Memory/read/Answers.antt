@@ -1,3 +1,4 @@
+-- The bytes held at the address stand at the front of the body, so they answer the words of the read.
 use Rattle.std.proofs.Common.{◌∙◌}
 use Rattle.sb_packet.specs.Spans.{span_of}
 use Rattle.sb_mem.proofs.Requests.{read_answers, padded_front}

@@ -1,3 +1,4 @@
+-- A read leaves the memory as it is, a write is answered by 2 where refused and else by 0, and a posted write not at all.
 use Rattle.std.proofs.Common.{◌∙◌, ap, sym, Bool}
 use Rattle.std.specs.Prelude.{if◌then◌else◌}
 use Rattle.sb_mem.proofs.Requests.{read_memory, write_answers, posted_answers}

@@ -1,3 +1,4 @@
+-- A memory that may be written stores what the write carries, and one that may not stays as it is.
 use Rattle.std.proofs.Common.{◌∙◌, ap, sym}
 use Rattle.sb_packet.specs.Memories.{MemoryState}
 use Rattle.sb_packet.specs.Accesses.{accesses_of}

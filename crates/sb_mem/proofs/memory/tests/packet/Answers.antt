@@ -1,3 +1,4 @@
+-- One word at a multiple of 8, with zeros behind its bytes, is a packet, and speaks of at most 8 bytes.
 use Rattle.std.proofs.Common.{◌≡◌, ◌≤◌, ℕ, ◌-◌, ◌%◌, ◌^◌, ◌++◌, refl, ◌∙◌, arith, length, drop, replicate, length-append}
 use Rattle.std.proofs.lemmas.List.{drop_at, length-replicate}
 use Rattle.sb_word.specs.declared.command.Cmd.{Cmd}

@@ -1,3 +1,4 @@
+-- At each of the four word sizes a shift of 1 is the number of bytes, which is at most 8.
 use Rattle.std.proofs.Common.{◌≡◌, ◌≤◌, ◌*◌, ◌%◌, ◌^◌, refl, arith}
 use Rattle.sb_mem.proofs.TwosComplement.{each_size}
 use Rattle.sb_mem.proofs.memory.tests.word_length.Goals as goal

@@ -1,3 +1,4 @@
+-- The next line ends before the first line feed, and the others stand behind it; without a line feed all the text is one line.
 use Rattle.std.proofs.Common.{◌≡◌, ◌<◌, ◌∙◌, ◌+◌, false, take, drop, length, refl, ap, arith, drop-drop}
 use Rattle.std.specs.Prelude.{All}
 use Rattle.std.proofs.Math.Seq.{drop-length}

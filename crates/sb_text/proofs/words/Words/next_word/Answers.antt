@@ -1,3 +1,4 @@
+-- The bytes before the first blank are the next word, and the words behind it are the others.
 use Rattle.std.proofs.Common.{◌<◌, ◌∙◌, length, refl, arith}
 use Rattle.std.proofs.lemmas.Bool.Decides.{nat_tests}
 use Rattle.sb_text.proofs.WordLemmas.{first_word}

@@ -1,3 +1,4 @@
+-- Bytes put behind all others are added to the body of the next outcome, and the outcomes before it stay as they are.
 use Rattle.std.proofs.Common.{◌≡◌, ◌≤◌, ◌-◌, ◌++◌, length, arith}
 use Rattle.std.proofs.lemmas.Grind.{common_steps}
 use Rattle.sb_top.proofs.RowLemmas.{collected_more}
