@@ -26,3 +26,10 @@ def run(program, words, given):
     """The status, the output and the standard error of the program on these words and this input."""
     ran = subprocess.run([program, *words], input=given, capture_output=True, timeout=SECONDS)
     return ran.returncode, ran.stdout, ran.stderr
+
+
+def copy_of_the_crates(folder):
+    """Copies what git tracks into a folder."""
+    files = subprocess.run(["git", "-C", ROOT, "ls-files", "-z"], check=True, stdout=subprocess.PIPE).stdout
+    packed = subprocess.run(["tar", "-C", ROOT, "--null", "-T", "-", "-cf", "-"], input=files, check=True, stdout=subprocess.PIPE).stdout
+    subprocess.run(["tar", "-C", folder, "-xf", "-"], input=packed, check=True)
