@@ -14,6 +14,7 @@ pub mod Scripts
 pub mod Cuts
 pub mod Journals
 pub mod Soundness
+pub mod Plans
 pub mod Answers
 pub mod Outcomes
 pub mod TextLines
