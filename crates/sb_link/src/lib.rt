@@ -2,11 +2,28 @@
 #![tactic(auto)]
 
 mod answers;
+mod ends;
+mod fabric;
 mod flow;
 mod flows;
+mod hand;
+mod places;
 mod plan;
+mod row;
+mod serial;
+mod serial_rx;
+mod serial_tx;
+mod shelf;
+mod told;
 
 pub use answers::{Cause, Pop, Push, Turn};
+pub use ends::{RxEnd, TxEnd};
+pub use fabric::Fabric;
 pub use flow::Flow;
 pub use flows::Flows;
 pub use plan::LinkPlan;
+pub use row::Row;
+pub use serial::SerialFabric;
+pub use serial_rx::SerialRx;
+pub use serial_tx::SerialTx;
+pub use shelf::Shelf;

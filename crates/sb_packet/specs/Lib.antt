@@ -1,4 +1,5 @@
 pub mod Spans
+pub mod Prefixes
 pub mod Ledger
 pub mod Names
 pub mod Padded
@@ -15,6 +16,7 @@ pub mod Cuts
 pub mod Journals
 pub mod Soundness
 pub mod Plans
+pub mod Traffic
 pub mod Answers
 pub mod Outcomes
 pub mod TextLines

@@ -1,13 +1,10 @@
 -- What a ring is made for, and which items may go over it one after another. This project's own.
-use Rattle.std.specs.Prelude.{◌≡◌, ℕ, ◌+◌, ◌/◌, ◌^◌, ◌≤◌, ◌<◌, Bool, true, false, not, if◌then◌else◌, ◌&&◌, ◌||◌, ◌==◌, nat_le, List, [], ◌∷◌, length, take, flat_map, Option, None, slice_index_or}
+use Rattle.std.specs.Prelude.{◌≡◌, ℕ, ◌+◌, ◌/◌, ◌^◌, ◌<◌, Bool, true, false, if◌then◌else◌, ◌&&◌, ◌||◌, ◌==◌, nat_le, List, [], length, take, Option, None, slice_index_or}
 use Rattle.std.specs.List.{position_from}
 use Rattle.std.specs.Option.{option_map, option_map_or}
-use Rattle.sb_packet.specs.Messages.{Message, message_of, message_span}
-use Rattle.sb_packet.specs.Accesses.{Access, accesses_of_item}
+use Rattle.sb_packet.specs.Messages.{Message, message_span}
 use Rattle.sb_packet.specs.Journals.{is_request}
-use Rattle.sb_packet.specs.Soundness.{IsSound, device_place}
-use Rattle.sb_packet.specs.declared.item.Item.{Item}
-use Rattle.sb_packet.specs.declared.item.Item.TheVariants as items
+use Rattle.sb_packet.specs.Soundness.{device_place}
 
 -- what one host asks of one device: the host by its id, the device by its place
 pub record NetFlow : Type 0 where
@@ -74,51 +71,3 @@ goes_through flows f = slice_index_or (slice_index_or flows.through f.host []) f
 -- a message is of a flow that goes over the ring
 abbrev pub is_allowed : RingFlows → Message → Bool
 is_allowed flows m = option_map_or (goes_through flows) (message_flow flows m) false
-
--- the words of items, in order; a Close has none
-abbrev pub item_accesses : List Item → List Access
-item_accesses list = flat_map accesses_of_item list
-
--- an item ends a ring's traffic
-abbrev pub is_close : Item → Bool
-is_close (items.Packet p) = false
-is_close items.Close = true
-
--- a Close stands among the items
-abbrev pub has_close : List Item → Bool
-has_close [] = false
-has_close (item ∷ rest) = is_close item || has_close rest
-
--- the messages of items, in order; a Close says nothing
-abbrev pub item_messages : List Item → List Message
-item_messages [] = []
-item_messages (items.Packet p ∷ rest) = message_of p ∷ item_messages rest
-item_messages (items.Close ∷ rest) = item_messages rest
-
--- a ring is made for such a message: it goes the ring's way, and is of one of the ring's flows
-pub record IsPlanned (plan : RingPlan) (m : Message) : Type 0 where
-  pub direction : is_request m.op ≡ not plan.up
-  pub allowed : is_allowed plan.flows m ≡ true
-
--- a ring can carry such a message: it is narrow enough besides, and an exclusive access is to one word
-pub record IsCarriable (plan : RingPlan) (m : Message) : Type 0 where
-  pub planned : IsPlanned plan m
-  pub narrow : message_span m ≤ plan.width
-  pub single : m.ex ≡ true → m.count ≡ 1
-
--- a Close may always end the traffic, and a packet may go where the ring can carry it
-abbrev pub IsFitFor : RingPlan → Item → Type 0
-IsFitFor plan (items.Packet p) = IsCarriable plan (message_of p)
-IsFitFor plan items.Close = Unit {0}
-
--- An item may follow those that were sent: none of them is a Close, the ring can carry it, and the words in all are within the budget.
-pub record MayFollow (plan : RingPlan) (sent : List Item) (item : Item) : Type 0 where
-  pub unclosed : has_close sent ≡ false
-  pub fit : IsFitFor plan item
-  pub room : length (item_accesses sent) + length (accesses_of_item item) ≤ plan.budget
-
--- A message may be handed on over a ring, behind so many words: it is sound, the ring is made for it, and the words are within the budget.
-pub record MayPass (plan : RingPlan) (words : ℕ) (m : Message) : Type 0 where
-  pub sound : IsSound m
-  pub planned : IsPlanned plan m
-  pub room : words + m.count ≤ plan.budget
