@@ -1,0 +1,5 @@
+pub mod Items
+pub mod PortWords
+pub mod Fitness
+pub mod SameState
+pub mod Turned

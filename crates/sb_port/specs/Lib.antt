@@ -1,0 +1,4 @@
+pub mod Waiting
+pub mod Ports
+pub mod Turns
+pub mod StateOf
