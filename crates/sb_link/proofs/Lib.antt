@@ -1,2 +1,4 @@
 pub mod InTurn
+pub mod Ranges
+pub mod MessageFlows
 pub mod Rows

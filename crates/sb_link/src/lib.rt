@@ -7,6 +7,7 @@ mod fabric;
 mod flow;
 mod flows;
 mod hand;
+mod packet_flow;
 mod places;
 mod plan;
 mod row;
