@@ -1,21 +1,20 @@
 -- What keeps a port fit.
-use Rattle.std.proofs.Common.{◌≡◌, ◌≤◌, ◌<◌, ℕ, suc, ◌+◌, List, [], ◌∷◌, ◌++◌, refl, ap, sym, ◌∙◌, arith, length, drop, false, true, Bool, inl, inr, append_assoc, subst}
-use Rattle.std.specs.Prelude.{flat_map, Some, None, Option, ◌≢◌, All}
+use Rattle.std.proofs.Common.{◌≡◌, ◌≤◌, ℕ, ◌+◌, List, [], ◌∷◌, ◌++◌, refl, ap, sym, ◌∙◌, arith, length, drop, false, true, append_assoc, subst}
+use Rattle.std.specs.Prelude.{flat_map, ◌≢◌, All}
 use Rattle.std.proofs.lemmas.List.{length-append, append-nil}
-use Rattle.std.proofs.lemmas.List.Elements.{All-push, All-head, All-tail, All-append, All-cons, All-nil}
+use Rattle.std.proofs.lemmas.List.Elements.{All-push, All-head, All-tail, All-append, All-nil}
 use Rattle.std.proofs.lemmas.List.FromFn.{length-map-range_with_len}
 use Rattle.std.proofs.lemmas.Grind.{flat_map-append}
 use Rattle.sb_packet.specs.Accesses.{Access, accesses_of, access_at, message_accesses}
 use Rattle.sb_packet.specs.Messages.{Message, message_of}
 use Rattle.sb_packet.specs.Plans.{RingPlan}
-use Rattle.sb_packet.specs.Soundness.{IsSound, IsFine, IsWhole}
+use Rattle.sb_packet.specs.Soundness.{IsSound}
 use Rattle.sb_packet.specs.Spans.{word_count_of}
-use Rattle.sb_packet.specs.Traffic.{IsCarriable, IsPlanned, MayFollow, MayPass, has_close, item_accesses, item_messages}
+use Rattle.sb_packet.specs.Traffic.{IsCarriable, MayFollow, MayPass, has_close, item_accesses, item_messages}
 use Rattle.sb_packet.specs.declared.packet.Packet.{Packet}
-use Rattle.sb_packet.specs.declared.item.Item.{Item}
 use Rattle.sb_packet.specs.declared.item.Item.TheVariants as items
 use Rattle.sb_packet.proofs.FineParts.{packet_whole}
-use Rattle.sb_port.specs.Waiting.{Waiting, listed, offered, released}
+use Rattle.sb_port.specs.Waiting.{listed, offered, released}
 use Rattle.sb_port.specs.Ports.{PortState, IsFit, IsSendable, port_messages, port_accesses}
 use Rattle.sb_port.specs.Turns.{SendsFirst, SendsClose}
 use Rattle.sb_port.proofs.Items.{has_close-packet, has_close-close, item_messages-packet, item_messages-close, item_accesses-messages}

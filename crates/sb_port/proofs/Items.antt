@@ -1,9 +1,9 @@
 -- What items say when one more comes to their end.
-use Rattle.std.proofs.Common.{◌≡◌, List, [], ◌∷◌, ◌++◌, refl, ap, ◌∙◌, sym, true}
-use Rattle.std.specs.Prelude.{flat_map, ◌||◌}
+use Rattle.std.proofs.Common.{◌≡◌, List, [], ◌∷◌, ◌++◌, refl, ap, true}
+use Rattle.std.specs.Prelude.{flat_map}
 use Rattle.sb_packet.specs.Accesses.{Access, message_accesses, accesses_of}
 use Rattle.sb_packet.specs.Messages.{Message, message_of}
-use Rattle.sb_packet.specs.Traffic.{has_close, is_close, item_accesses, item_messages}
+use Rattle.sb_packet.specs.Traffic.{has_close, item_accesses, item_messages}
 use Rattle.sb_packet.specs.declared.packet.Packet.{Packet}
 use Rattle.sb_packet.specs.declared.item.Item.{Item}
 use Rattle.sb_packet.specs.declared.item.Item.TheVariants as items

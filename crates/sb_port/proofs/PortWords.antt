@@ -1,13 +1,13 @@
 -- A turn of a port keeps the words that it was offered, and takes nothing back of what it let go.
-use Rattle.std.proofs.Common.{◌≡◌, ◌+◌, List, [], ◌∷◌, ◌++◌, refl, ap, sym, ◌∙◌, drop, append_assoc, subst, inl, inr}
-use Rattle.std.specs.Prelude.{flat_map, None, Option, Some}
+use Rattle.std.proofs.Common.{◌≡◌, List, [], ◌∷◌, ◌++◌, ap, sym, ◌∙◌, drop, append_assoc, inl, inr}
+use Rattle.std.specs.Prelude.{flat_map}
 use Rattle.std.proofs.lemmas.List.{append-nil}
 use Rattle.sb_packet.specs.Accesses.{message_accesses}
 use Rattle.sb_packet.specs.Messages.{Message, message_of}
 use Rattle.sb_packet.specs.Prefixes.{IsPrefix}
 use Rattle.sb_packet.specs.Traffic.{item_messages}
 use Rattle.sb_packet.specs.declared.item.Item.TheVariants as items
-use Rattle.sb_port.specs.Waiting.{Waiting, listed, released}
+use Rattle.sb_port.specs.Waiting.{listed, released}
 use Rattle.sb_port.specs.Ports.{PortState, port_messages, port_accesses, let_go}
 use Rattle.sb_port.specs.Turns.{SendsFirst, SendsClose, LetsGo, Turned}
 use Rattle.sb_port.specs.declared.port_turn.PortTurn.{PortTurn}

@@ -1,5 +1,5 @@
 -- When a port is fit: what it says of itself is true of its end.
-use Rattle.std.specs.Prelude.{◌≡◌, ◌≢◌, ℕ, ◌+◌, ◌≤◌, ◌⊎◌, Bool, true, false, not, ◌&&◌, ◌||◌, List, [], ◌∷◌, ◌++◌, length, flat_map, All, None, is_none}
+use Rattle.std.specs.Prelude.{◌≡◌, ℕ, ◌≤◌, Bool, true, not, ◌&&◌, ◌||◌, List, [], ◌++◌, length, flat_map, All, None}
 use Rattle.sb_packet.specs.Accesses.{Access, message_accesses}
 use Rattle.sb_packet.specs.Messages.{Message}
 use Rattle.sb_packet.specs.Plans.{RingPlan}

@@ -7,7 +7,8 @@ ghost use Rattle.sb_packet.specs.Journals.{is_request};
 ghost use Rattle.sb_packet.specs.Messages.{message_of};
 ghost use Rattle.sb_packet.specs.Prefixes.{IsPrefix};
 ghost use Rattle.sb_packet.specs.Spans.{word_count_of};
-ghost use Rattle.sb_packet.specs.Traffic.{MayPass};
+ghost use Rattle.sb_packet.specs.Traffic.{IsPlanned, MayPass};
+ghost use Rattle.sb_link.specs.PlanOf.{plan_of};
 ghost use Rattle.sb_port.specs.Waiting.{IsWidth, nothing_waits, offered};
 ghost use Rattle.sb_port.specs.Ports.{IsFit, let_go, owes, port_accesses};
 ghost use Rattle.sb_port.specs.Turns.{TriesClose, TriesFirst, Turned};
@@ -17,7 +18,7 @@ ghost use Rattle.sb_port.specs.contracts.port.OutPort.{the_row};
 use crate::outbox::Outbox;
 use crate::port_turn::PortTurn;
 use crate::sound::is_sound;
-use sb_link::{Push, TxEnd};
+use sb_link::{LinkPlan, Push, TxEnd};
 use sb_packet::{Item, Op, Packet, span};
 
 /// The port through which a node sends over a ring: what it is offered goes out in that order, and a Close behind it.
@@ -45,14 +46,25 @@ fn word_count(packet: &Packet) -> u32
     }
 }
 
-// a packet is of the direction of a ring, which carries answers or requests
-fn goes_up(packet: &Packet) -> bool
-    ensures { result ≡ not (is_request packet.now.cmd.op) }
+// the packet is an answer
+fn is_answer(packet: &Packet) -> bool
+    ensures answer { result ≡ not (is_request packet.now.cmd.op) }
 {
     match packet.cmd.op {
         Op::RespRd | Op::RespWr => true,
         _ => false,
     }
+}
+
+// the ring is made for such a packet: it is of the ring's direction, and of one of its flows
+fn is_planned(plan: &LinkPlan, packet: &Packet) -> bool
+    ensures yes { result ≡ true → IsPlanned (plan_of plan.now) (message_of packet.now) }
+    ensures no { IsPlanned (plan_of plan.now) (message_of packet.now) → result ≡ true }
+{
+    if is_answer(packet) != plan.up {
+        return false;
+    }
+    plan.flows.allows(packet)
 }
 
 impl<T: TxEnd> OutPort<T> {
@@ -91,10 +103,17 @@ impl<T: TxEnd> OutPort<T> {
         ensures yes { result ≡ true → MayPass (T.planned self.now.tx) (length (port_accesses (state_of T.sent self.now))) (message_of packet.now) }
         ensures no { MayPass (T.planned self.now.tx) (length (port_accesses (state_of T.sent self.now))) (message_of packet.now) → result ≡ true }
     {
+        if !is_sound(packet) {
+            return false;
+        }
         let plan = self.tx.plan();
-        is_sound(packet)
-            && goes_up(packet) == plan.up
-            && self.claimed + word_count(packet) <= plan.budget
+        if !is_planned(plan, packet) {
+            return false;
+        }
+        if self.claimed + word_count(packet) > plan.budget {
+            return false;
+        }
+        true
     }
 
     /// Takes a packet to send. The port is ready and was not told to close, and the packet passes.

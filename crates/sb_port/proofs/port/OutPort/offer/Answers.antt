@@ -1,5 +1,5 @@
 -- offer: the packet's words come behind all others, and the port stays fit.
-use Rattle.std.proofs.Common.{◌≡◌, ◌+◌, ◌≤◌, ℕ, sym, subst, ap, ◌∙◌, arith, length}
+use Rattle.std.proofs.Common.{◌+◌, ℕ, sym, subst, ap, ◌∙◌, arith}
 use Rattle.sb_packet.specs.Messages.{message_of}
 use Rattle.sb_port.specs.Ports.{PortState, IsFit, port_accesses}
 use Rattle.sb_port.specs.Waiting.{Waiting, offered}

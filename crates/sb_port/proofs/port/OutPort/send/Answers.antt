@@ -1,9 +1,7 @@
 -- send: the first packet that is owed may be sent, and the port stays fit.
-use Rattle.std.proofs.Common.{◌≡◌, ◌++◌, [], ◌∷◌, sym, subst, drop, refl}
+use Rattle.std.proofs.Common.{sym, subst, drop, refl}
 use Rattle.sb_packet.specs.Plans.{RingPlan}
-use Rattle.sb_packet.specs.declared.item.Item.TheVariants as items
 use Rattle.sb_port.specs.Ports.{PortState, IsFit}
-use Rattle.sb_port.specs.Turns.{SendsFirst}
 use Rattle.sb_port.specs.StateOf.{state_of}
 use Rattle.sb_port.proofs.Fitness.{may_send, fit_sends}
 use Rattle.sb_port.proofs.PortWords.{sends_accesses, sends_goes_on}

@@ -1,8 +1,7 @@
 -- send_close: a Close may be sent, and the port stays fit.
-use Rattle.std.proofs.Common.{◌≡◌, ◌++◌, [], ◌∷◌, sym, subst, refl, true}
+use Rattle.std.proofs.Common.{sym, subst, refl, true}
 use Rattle.sb_packet.specs.Plans.{RingPlan}
 use Rattle.sb_port.specs.Ports.{PortState, IsFit}
-use Rattle.sb_port.specs.Turns.{SendsClose}
 use Rattle.sb_port.specs.StateOf.{state_of}
 use Rattle.sb_port.proofs.Fitness.{may_close, fit_closes}
 use Rattle.sb_port.proofs.PortWords.{closes_accesses, closes_goes_on}
