@@ -22,9 +22,13 @@ is_request ReqAtomic = true
 is_request RespRd = false
 is_request RespWr = false
 
--- the address at the device: where a request goes, and where an answer comes from
+-- the address at the device, of where something goes and where it comes from: a request goes to it, and an answer comes from it
+abbrev pub address_at_device : Op → ℕ → ℕ → ℕ
+address_at_device op dst src = if is_request op then dst else src
+
+-- the address at the device of an access
 abbrev pub device_address : Access → ℕ
-device_address a = if is_request a.op then a.dst else a.src
+device_address a = address_at_device a.op a.dst a.src
 
 -- an access is at that device
 abbrev pub is_at : Network → ℕ → Access → Bool

@@ -26,9 +26,13 @@ solo_network script = record {
   wire = None;
 }
 
+-- the packets of transaction i, where it is aimed at the memory
+abbrev pub aimed_packets : List Txn → ℕ → Txn → List Message
+aimed_packets script i t = if has_address t.addr solo_device then transaction_packets (solo_host script) i t else []
+
 -- the packets of the transactions that are aimed at the memory, in script order, from transaction i on
 abbrev pub solo_packets_from : List Txn → ℕ → List Txn → List Message
-solo_packets_from script i txns = flat_map (λ p. if has_address p.1.addr solo_device then transaction_packets (solo_host script) p.0 p.1 else []) (enumerate_from i txns)
+solo_packets_from script i txns = flat_map (λ p. aimed_packets script p.0 p.1) (enumerate_from i txns)
 
 -- the packets of a whole script that are aimed at the memory
 abbrev pub solo_packets : List Txn → List Message

@@ -3,11 +3,11 @@ use Rattle.std.specs.Prelude.{ℕ, ◌≡◌, ◌≢◌, ◌≤◌, ◌<◌, ◌
 use Rattle.sb_packet.specs.Spans.{carried_by}
 use Rattle.sb_packet.specs.Messages.{Message, message_span}
 use Rattle.sb_packet.specs.Cuts.{is_atomic}
-use Rattle.sb_packet.specs.Journals.{is_request}
+use Rattle.sb_packet.specs.Journals.{address_at_device, is_request}
 
--- the address at the device: where a request goes, and where an answer comes from
+-- the address at the device of a message
 abbrev pub device_place : Message → ℕ
-device_place m = if is_request m.op then m.dst else m.src
+device_place m = address_at_device m.op m.dst m.src
 
 -- the other address: where the answer to a request goes, and where an answer itself goes
 abbrev pub reply_place : Message → ℕ

@@ -48,7 +48,7 @@ impl Name {
     pub fn as_slice(&self) -> &[u8]
         ensures { result.now ≡ self.now }
     {
-        &self.text[..self.len as usize]
+        &self.text[..usize::from(self.len)]
     }
 }
 

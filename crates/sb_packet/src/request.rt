@@ -5,10 +5,11 @@ ghost use Rattle.sb_word.specs.declared.command.Op.TheVariants.{ReqAtomic};
 ghost use Rattle.sb_packet.specs.Spans.{carried_by, carried_of, span_of, word_count_by, word_count_of};
 ghost use Rattle.sb_packet.specs.Messages.{atomic_type_of, message_of};
 ghost use Rattle.sb_packet.specs.Cuts.{cut_parts, part_of};
-ghost use Rattle.sb_packet.specs.Scripts.{atomic_type_of_kind, reply_address as reply_place, request_message, request_of, IsOneWordIfAtomic, IsTransaction};
+ghost use Rattle.sb_packet.specs.Scripts.{atomic_type_of_kind, reply_address, request_message, request_of, IsOneWordIfAtomic, IsTransaction};
 
 use crate::packet::Packet;
 use crate::padding::padded;
+use crate::spans::words_span;
 use crate::transaction::{Kind, Txn};
 use sb_word::{Cmd, Op};
 
@@ -22,7 +23,7 @@ pub fn packets(txn: &Txn, limit: u8) -> u32
     ensures few { result ≤ 64 }
 {
     let words = words_a_packet(txn.size, limit);
-    (txn.count as u32).div_ceil(words)
+    u32::from(txn.count).div_ceil(words)
 }
 
 /// Packet k of a transaction, counted from 0: the transaction is number `index`, below 65,536, in the script of the host
@@ -47,7 +48,7 @@ pub fn packet_of(id: u8, qos: u8, prot: u8, index: u32, txn: &Txn, limit: u8, k:
 {
     let words = words_a_packet(txn.size, limit);
     let from = k * words;
-    let left = txn.count as u32 - from;
+    let left = u32::from(txn.count) - from;
     part(
         id,
         qos,
@@ -69,7 +70,7 @@ fn words_a_packet(size: u8, limit: u8) -> u32
     ensures some { 4 ≤ result }
     ensures most { result ≤ 32 }
 {
-    limit as u32 >> size
+    u32::from(limit) >> size
 }
 
 /// So many words of a transaction, from one on, as a packet.
@@ -93,33 +94,24 @@ fn part(
     requires fits { count * 2 ^ txn.now.size ≤ 32 }
     ensures { message_of result ≡ part_of (request_message id qos prot index txn.now) from count last }
 {
-    let start = span(txn.size, from);
-    let end = span(txn.size, from + count);
+    let start = words_span(txn.size, from);
+    let end = words_span(txn.size, from + count);
     let cmd = command(id, qos, prot, txn, count, last);
     request(
         cmd,
-        txn.addr + start as u64,
-        reply_address(id, index) + start as u64,
-        share(txn, start, end),
+        txn.addr + u64::from(start),
+        first_reply_address(id, index) + u64::from(start),
+        share(txn, start as usize, end as usize),
     )
 }
 
-/// The bytes of so many words.
-fn span(size: u8, count: u32) -> usize
-    requires size { size ≤ 3 }
-    requires few { count ≤ 256 }
-    ensures { result ≡ count * 2 ^ size }
-{
-    (count as usize) << size
-}
-
-/// Where the answers to a transaction go.
-fn reply_address(id: u8, index: u32) -> u64
+/// Where the answer to a transaction's first word goes.
+fn first_reply_address(id: u8, index: u32) -> u64
     requires id { id ≤ 31 }
     requires index { index < 65536 }
-    ensures { result ≡ reply_place id index }
+    ensures { result ≡ reply_address id index }
 {
-    id as u64 * (1 << 40) + index as u64 * (1 << 11)
+    u64::from(id) * (1 << 40) + u64::from(index) * (1 << 11)
 }
 
 /// What a transaction carries between two places of its bytes: nothing where it is a read.

@@ -7,7 +7,7 @@ ghost use Rattle.sb_word.specs.Faults.{word_fault};
 ghost use Rattle.sb_word.specs.Words.{IsWordOf};
 ghost use Rattle.sb_packet.specs.SlotFaults.{carried_in, close_fault, packet_fault, size_in, slot_fault, span_in};
 ghost use Rattle.sb_packet.specs.Slots.{flag_in, slot_of, IsPacketSlot, IsSlotOf};
-ghost use Rattle.sb_packet.specs.Spans.{carried_by, carried_of, span_of};
+ghost use Rattle.sb_packet.specs.Spans.{carried_of, span_of};
 ghost use Rattle.sb_packet.specs.declared.item.Item.{Item};
 ghost use Rattle.sb_packet.specs.declared.item.Item.TheVariants as items;
 ghost use Rattle.sb_packet.specs.declared.item_fault.ItemFault.TheVariants.{Word};
@@ -19,8 +19,8 @@ use crate::slot_body::{body_from, number_at};
 use crate::slot_checks::{
     check_addresses, check_body, check_last, check_number, check_span, check_word, check_zeros,
 };
-use crate::spans::span;
-use sb_word::{Cmd, Op, decode, encode};
+use crate::spans::{carried_span, span};
+use sb_word::{Cmd, decode, encode};
 
 /// The slot of an item.
 ///
@@ -81,7 +81,7 @@ fn packet_from(slot: &[u64; 8]) -> Result<Packet, ItemFault>
     check_span(span)?;
     check_addresses(span, word_size(&cmd), slot[1], slot[2])?;
     let body = body_from(slot);
-    check_body(slot, &body, carried(&cmd, span))?;
+    check_body(slot, &body, carried_span(&cmd))?;
     check_last(slot[7])?;
     Ok(packet(cmd, slot[1], slot[2], body))
 }
@@ -130,16 +130,6 @@ fn word_size(cmd: &Cmd) -> u64
     1 << cmd.size
 }
 
-/// How many bytes the packet of a command carries, of so many that it speaks of.
-fn carried(cmd: &Cmd, span: u32) -> u32
-    ensures { result ≡ carried_by cmd.now.op span }
-{
-    match cmd.op {
-        Op::ReqRd | Op::RespWr => 0,
-        _ => span,
-    }
-}
-
 fn packet(cmd: Cmd, dst: u64, src: u64, body: [u8; 32]) -> Packet
     requires whole { length body ≡ 32 }
     requires fits { span_of cmd ≤ 32 }
@@ -164,7 +154,7 @@ fn packet(cmd: Cmd, dst: u64, src: u64, body: [u8; 32]) -> Packet
 #[cfg(test)]
 mod tests {
     use super::*;
-    use sb_word::WordFault;
+    use sb_word::{Op, WordFault};
 
     const READ: [u64; 8] = [0x0000000110400061, 0x1000, 0x20000000800, 0, 0, 0, 0, 0];
 

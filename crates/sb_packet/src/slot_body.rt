@@ -5,9 +5,11 @@ ghost use Rattle.sb_packet.specs.Atomics.{number_of};
 ghost use Rattle.sb_packet.specs.Memories.{overwritten};
 ghost use Rattle.sb_packet.specs.Slots.{body_in, body_number, number_bytes};
 
+use crate::sizes::BODY_BYTES;
+
 /// Eight bytes of a body as a number.
 #[tactic(auto, unfolding(crate::specs::Slots::number_bytes))]
-pub fn number_at(body: &[u8; 32], place: usize) -> u64
+pub fn number_at(body: &[u8; BODY_BYTES], place: usize) -> u64
     requires { place ≤ 24 }
     ensures number { result ≡ body_number place body.now }
     ensures bytes { number_bytes result ≡ take 8 (drop place body.now) }
@@ -18,7 +20,7 @@ pub fn number_at(body: &[u8; 32], place: usize) -> u64
 }
 
 /// The body that a slot's numbers hold.
-pub fn body_from(slot: &[u64; 8]) -> [u8; 32]
+pub fn body_from(slot: &[u64; 8]) -> [u8; BODY_BYTES]
     ensures body { result ≡ body_in slot.now }
     ensures len { length result ≡ 32 }
     ensures first { body_number 0 result ≡ slice_index slot.now 3 }
@@ -35,10 +37,10 @@ pub fn body_from(slot: &[u64; 8]) -> [u8; 32]
 }
 
 /// Four parts of a body, one after another.
-fn joined(first: &[u8; 8], second: &[u8; 8], third: &[u8; 8], fourth: &[u8; 8]) -> [u8; 32]
+fn joined(first: &[u8; 8], second: &[u8; 8], third: &[u8; 8], fourth: &[u8; 8]) -> [u8; BODY_BYTES]
     ensures { result ≡ first.now ++ second.now ++ third.now ++ fourth.now }
 {
-    let mut body = [0; 32];
+    let mut body = [0; BODY_BYTES];
     put(&mut body, 0, first);
     put(&mut body, 8, second);
     put(&mut body, 16, third);
@@ -47,7 +49,7 @@ fn joined(first: &[u8; 8], second: &[u8; 8], third: &[u8; 8], fourth: &[u8; 8]) 
 }
 
 /// Puts eight bytes into a body.
-fn put(body: &mut [u8; 32], place: usize, part: &[u8; 8])
+fn put(body: &mut [u8; BODY_BYTES], place: usize, part: &[u8; 8])
     requires { place ≤ 24 }
     ensures { body.new ≡ overwritten body.old place part.now }
 {

@@ -8,13 +8,14 @@ ghost use Rattle.sb_packet.specs.SlotFaults.{address_fault, bytes_fault, padding
 ghost use Rattle.sb_packet.specs.Slots.{body_in, number_bytes};
 
 use crate::item_fault::ItemFault;
+use crate::sizes::{ADDRESS_END, BODY_BYTES};
 use crate::slot_body::{bytes_of, is_padded};
 
 pub fn check_span(span: u32) -> Result<(), ItemFault>
     ensures fits { OnOk result (span ≤ 32) }
     ensures fault { result_err result ≡ bytes_fault span }
 {
-    if span > 32 {
+    if span > BODY_BYTES as u32 {
         return Err(ItemFault::Bytes { count: span });
     }
     Ok(())
@@ -40,7 +41,7 @@ fn check_range(span: u32, address: u64) -> Result<(), ItemFault>
     ensures in_range { OnOk result (address + span ≤ 2 ^ 56) }
     ensures fault { result_err result ≡ range_fault span address }
 {
-    if address > (1 << 56) - u64::from(span) {
+    if address > ADDRESS_END - u64::from(span) {
         return Err(ItemFault::Range { address });
     }
     Ok(())

@@ -45,15 +45,15 @@ pub fn encode(cmd: &Cmd) -> u32
     ensures sum { result ≡ word_of cmd.now }
 {
     opcode(cmd.op)
-        + ((cmd.size as u32) << 5)
-        + ((cmd.len as u32) << 8)
-        + ((cmd.qos as u32) << 16)
-        + ((cmd.prot as u32) << 20)
-        + ((cmd.eom as u32) << 22)
-        + ((cmd.eof as u32) << 23)
-        + ((cmd.ex as u32) << 24)
-        + ((cmd.tail as u32) << 25)
-        + ((cmd.host as u32) << 27)
+        + (u32::from(cmd.size) << 5)
+        + (u32::from(cmd.len) << 8)
+        + (u32::from(cmd.qos) << 16)
+        + (u32::from(cmd.prot) << 20)
+        + (u32::from(cmd.eom) << 22)
+        + (u32::from(cmd.eof) << 23)
+        + (u32::from(cmd.ex) << 24)
+        + (u32::from(cmd.tail) << 25)
+        + (u32::from(cmd.host) << 27)
 }
 
 fn opcode(op: Op) -> u32

@@ -1,6 +1,6 @@
 -- Packet k begins within the transaction, is part k of its message, and ends no later than the transaction.
 use Rattle.std.proofs.Common.{◌≡◌, ◌≤◌, ◌<◌, ◌+◌, ◌*◌, ◌-◌, ◌^◌, ℕ, ap, sym, arith, ◌∙◌, Some}
-use Rattle.std.specs.Prelude.{nat_le}
+use Rattle.std.specs.Prelude.{min, nat_le}
 use Rattle.sb_packet.specs.Messages.{Message, message_span}
 use Rattle.sb_packet.specs.Spans.{span_of}
 use Rattle.sb_packet.specs.Cuts.{part_of}
@@ -18,9 +18,10 @@ returns-clause-packet c =
     let t = c.args.txn.now in
     let words = c.words_a_packet-words.result in
     let m = request_message c.args.id c.args.qos c.args.prot c.args.index t in
-    let last = nat_le (t.count - c.args.k * words) words in
+    let before = c.args.k * words in
     packet_at c.args.k c.args.id c.args.qos c.args.prot c.args.index c.args.limit words t c.requires.limit c.words_a_packet-words.ensures.exact c.requires.txn (begins c)
-    ∙ ap (λ (n : ℕ). Some (part_of m (c.args.k * words) n last)) (sym c.min.ensures)
+    ∙ ap (λ (n : ℕ). Some (part_of m before (min (n - before) words) (nat_le (n - before) words))) (sym c.from.ensures)
+    ∙ ap (λ (n : ℕ). Some (part_of m before n (nat_le (c.from.result - before) words))) (sym c.min.ensures)
     ∙ ap (λ (p : Message). Some p) (sym c.part.ensures)
 
 pub returns-clause-last : goal.returns-clause-last
@@ -31,5 +32,6 @@ returns-clause-last c =
     let span : span_of c.part.result.cmd ≡ c.min.result * 2 ^ t.size = ap (λ (m : Message). message_span m) c.part.ensures in
     let below = begins c in
     let least = c.min.ensures in
-    let inside : from + c.min.result ≤ t.count = omega (arith, below, least) in
+    let count = c.from.ensures in
+    let inside : from + c.min.result ≤ t.count = omega (arith, below, least, count) in
     rw (place, span) (packet_ends t.addr from c.min.result t.count t.size inside)
