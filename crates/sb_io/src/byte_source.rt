@@ -6,6 +6,7 @@ ghost use Rattle.sb_io.specs.Sources.{CountsReadFaults, Reads};
 ghost use Rattle.sb_io.specs.Streams.{is_failing as failing_test, read_answer};
 ghost use Rattle.sb_io.specs.declared.source.Got.TheVariants as got;
 
+use crate::piece::copy_front;
 use crate::source::{Got, Source};
 use std::alloc::{AllocError, Global};
 use std::marker::Model;
@@ -83,12 +84,10 @@ impl Source for ByteSource {
             self.faults = self.faults.saturating_add(1);
             return Got::Failed;
         }
-        let rest = &self.bytes[self.place..];
-        if rest.is_empty() {
+        let count = copy_front(&self.bytes[self.place..], self.piece, buf);
+        if count == 0 {
             return Got::End;
         }
-        let count = rest.len().min(self.piece).min(buf.len());
-        buf[..count].copy_from_slice(&rest[..count]);
         self.place += count;
         Got::Bytes(count)
     }

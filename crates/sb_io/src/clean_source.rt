@@ -4,6 +4,7 @@ ghost use Rattle.std.specs.Prelude.{◌≡◌, ◌<◌, Some, length, IfOk};
 ghost use Rattle.sb_io.specs.Sources.{CountsReadFaults, Reads};
 ghost use Rattle.sb_io.specs.Streams.{clean_answer};
 
+use crate::piece::copy_front;
 use crate::source::{Got, Source};
 use std::alloc::{AllocError, Global};
 use std::marker::Model;
@@ -53,12 +54,10 @@ impl Source for CleanSource {
         ensures exact { result ≡ clean_answer self.old (length buf.old) }
         ensures piece { self.new.piece ≡ self.old.piece }
     {
-        let rest = &self.bytes[self.place..];
-        if rest.is_empty() {
+        let count = copy_front(&self.bytes[self.place..], self.piece, buf);
+        if count == 0 {
             return Got::End;
         }
-        let count = rest.len().min(self.piece).min(buf.len());
-        buf[..count].copy_from_slice(&rest[..count]);
         self.place += count;
         Got::Bytes(count)
     }

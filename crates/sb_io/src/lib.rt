@@ -5,6 +5,7 @@ mod byte_sink;
 mod byte_source;
 mod clean_sink;
 mod clean_source;
+mod piece;
 mod reader_source;
 mod sink;
 mod source;

@@ -10,7 +10,7 @@ use std::io::Read;
 pub struct ReaderSource<R: Read> {
     reader: R,
     /// How often it failed; the count stands still at its type's end.
-    pub faults: u64,
+    faults: u64,
 }
 
 impl<R: Read> ReaderSource<R> {

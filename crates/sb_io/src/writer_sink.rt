@@ -11,7 +11,7 @@ use std::io::Write;
 pub struct WriterSink<W: Write> {
     writer: W,
     /// How often it failed; the count stands still at its type's end.
-    pub faults: u64,
+    faults: u64,
 }
 
 impl<W: Write> WriterSink<W> {

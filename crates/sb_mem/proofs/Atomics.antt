@@ -12,7 +12,7 @@ use Rattle.sb_packet.specs.Atomics.{number_of, combined}
 use Rattle.sb_packet.specs.Memories.{MemoryState, loaded, stored, written, write_code, old_bytes, combined_bytes, access_answer, memory_after, answers_in}
 use Rattle.sb_packet.specs.declared.packet.Packet.{Packet}
 use Rattle.sb_packet.proofs.Overwrites.{access_step_taken}
-use Rattle.sb_mem.specs.Replies.{IsAnswerTo, body_of, response_body, response_bytes}
+use Rattle.sb_mem.specs.AnswerPackets.{IsAnswerTo, body_of, answer_packet_body, answer_packet_bytes}
 
 -- an atomic speaks of one word
 pub atomic_span : (p : Packet) → p.cmd.op ≡ ReqAtomic → span_of p.cmd ≡ 2 ^ p.cmd.size
@@ -63,10 +63,10 @@ combined_at p old op long =
     sym (ap (λ (t : ℕ). combined t modulus (number_of old) (number_of a.bytes)) type ∙ ap (λ (operand : List ℕ). combined p.cmd.len modulus (number_of old) (number_of operand)) bytes)
 
 -- zeros are the whole body of the answer to a refused atomic
-pub refused_body : (m : MemoryState) (p : Packet) → p.cmd.op ≡ ReqAtomic → m.readonly ≡ true → replicate 32 0 ≡ response_body m p
+pub refused_body : (m : MemoryState) (p : Packet) → p.cmd.op ≡ ReqAtomic → m.readonly ≡ true → replicate 32 0 ≡ answer_packet_body m p
 refused_body m p op refuses =
     let n = span_of p.cmd in
     let fits : n ≤ 32 = p.fits in
     let whole : n + (32 - n) ≡ 32 = omega arith in
     let zeros : body_of (replicate n 0) ≡ replicate 32 0 = rw length-replicate (replicate-append-replicate n (32 - n) 0 ∙ ap (λ (k : ℕ). replicate k 0) whole) in
-    sym (ap (λ (o : Op). body_of (response_bytes m o p.dst n)) op ∙ ap (λ (r : Bool). body_of (if r then replicate n 0 else loaded m p.dst n)) refuses ∙ zeros)
+    sym (ap (λ (o : Op). body_of (answer_packet_bytes m o p.dst n)) op ∙ ap (λ (r : Bool). body_of (if r then replicate n 0 else loaded m p.dst n)) refuses ∙ zeros)

@@ -13,7 +13,7 @@ use Rattle.sb_packet.specs.Memories.{MemoryState, loaded, stored, written, write
 use Rattle.sb_packet.specs.declared.packet.Packet.{Packet}
 use Rattle.sb_packet.proofs.Shares.{shares_joined, share-take, share-drop, length-share}
 use Rattle.sb_packet.proofs.Overwrites.{access_step_taken, memory_after_unchanged, memory_after_stores, answers_in_unchanged, answers_in_alike}
-use Rattle.sb_mem.specs.Replies.{IsInRange, IsAnswerTo, response_op, response_len}
+use Rattle.sb_mem.specs.AnswerPackets.{IsInRange, IsAnswerTo, answer_op, answer_len}
 
 -- a word of a read leaves the memory as it is
 read_stays : (m : MemoryState) (p : Packet) (j : ℕ) → p.cmd.op ≡ ReqRd → access_step m (access_at (message_of p) j) ≡ m
@@ -89,7 +89,7 @@ pub posted_answers : (m : MemoryState) (p : Packet) → p.cmd.op ≡ ReqWrPosted
 posted_answers m p op = answers_in_alike m.readonly (access_at (message_of p)) (access_at (message_of p)) (λ _. None) (λ n j h. rw op refl) m 0 (word_count_of p.cmd) refl
 
 -- an answer speaks of as many words as its request
-word_count_of_answer : (op : Op) (len : ℕ) → word_count_by (response_op op) (response_len op len) ≡ word_count_by op len
+word_count_of_answer : (op : Op) (len : ℕ) → word_count_by (answer_op op) (answer_len op len) ≡ word_count_by op len
 word_count_of_answer ReqRd len = refl
 word_count_of_answer ReqWr len = refl
 word_count_of_answer ReqWrPosted len = refl
@@ -100,6 +100,6 @@ word_count_of_answer RespWr len = refl
 -- and of as many bytes
 pub span_of_answer : (p a : Packet) → IsAnswerTo p a → span_of a.cmd ≡ span_of p.cmd
 span_of_answer p a answers =
-    ap (λ (o : Op). word_count_by o a.cmd.len * 2 ^ a.cmd.size) answers.op ∙ ap (λ (len : ℕ). word_count_by (response_op p.cmd.op) len * 2 ^ a.cmd.size) answers.len
-    ∙ ap (λ (size : ℕ). word_count_by (response_op p.cmd.op) (response_len p.cmd.op p.cmd.len) * 2 ^ size) answers.size
+    ap (λ (o : Op). word_count_by o a.cmd.len * 2 ^ a.cmd.size) answers.op ∙ ap (λ (len : ℕ). word_count_by (answer_op p.cmd.op) len * 2 ^ a.cmd.size) answers.len
+    ∙ ap (λ (size : ℕ). word_count_by (answer_op p.cmd.op) (answer_len p.cmd.op p.cmd.len) * 2 ^ size) answers.size
     ∙ ap (λ (n : ℕ). n * 2 ^ p.cmd.size) (word_count_of_answer p.cmd.op p.cmd.len)

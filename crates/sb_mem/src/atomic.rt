@@ -1,6 +1,6 @@
 //! What an atomic makes of the old value of a word and its operand, by its type: after UMI, this project's profile.
 
-ghost use Rattle.std.specs.Prelude.{◌≡◌, ◌≤◌, ◌<◌, ◌+◌, ◌*◌, ◌^◌, ◌%◌, length, take, if◌then◌else◌};
+ghost use Rattle.std.specs.Prelude.{◌≡◌, ◌≤◌, ◌<◌, ◌+◌, ◌*◌, ◌^◌, ◌%◌, length, take};
 ghost use Rattle.sb_word.specs.declared.command.Op.TheVariants.{ReqAtomic};
 ghost use Rattle.sb_packet.specs.Messages.{message_of};
 ghost use Rattle.sb_packet.specs.Accesses.{access_at};
@@ -59,8 +59,10 @@ fn combined_word(kind: u8, size: u8, old: u64, operand: u64) -> u64
         AND => old & operand,
         OR => old | operand,
         XOR => old ^ operand,
-        MAX => signed_max(size, old, operand),
-        MIN => signed_min(size, old, operand),
+        MAX if is_signed_at_most(size, old, operand) => operand,
+        MAX => old,
+        MIN if is_signed_at_most(size, old, operand) => old,
+        MIN => operand,
         MAXU => old.max(operand),
         MINU => old.min(operand),
         // SWAP
@@ -74,26 +76,6 @@ fn wrapped_sum(size: u8, a: u64, b: u64) -> u64
     ensures { result ≡ (a + b) % 256 ^ 2 ^ size }
 {
     a.wrapping_add(b) & greatest(size)
-}
-
-/// The greater of two words in two's complement.
-fn signed_max(size: u8, a: u64, b: u64) -> u64
-    requires size { size ≤ 3 }
-    requires a { a < 256 ^ 2 ^ size }
-    requires b { b < 256 ^ 2 ^ size }
-    ensures { result ≡ if signed_le (256 ^ 2 ^ size) a b then b else a }
-{
-    if is_signed_at_most(size, a, b) { b } else { a }
-}
-
-/// The lesser of two words in two's complement.
-fn signed_min(size: u8, a: u64, b: u64) -> u64
-    requires size { size ≤ 3 }
-    requires a { a < 256 ^ 2 ^ size }
-    requires b { b < 256 ^ 2 ^ size }
-    ensures { result ≡ if signed_le (256 ^ 2 ^ size) a b then a else b }
-{
-    if is_signed_at_most(size, a, b) { a } else { b }
 }
 
 /// Tests whether one word is at most another in two's complement: with the sign bit turned over, the order is that

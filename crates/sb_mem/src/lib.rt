@@ -1,8 +1,8 @@
 //! The byte memory of a device.
 #![tactic(auto)]
 
+mod answer;
 mod atomic;
 mod memory;
-mod reply;
 
 pub use memory::Memory;

@@ -6,11 +6,11 @@ ghost use Rattle.sb_packet.specs.Spans.{span_of};
 ghost use Rattle.sb_packet.specs.Accesses.{accesses_of};
 ghost use Rattle.sb_packet.specs.Journals.{is_request};
 ghost use Rattle.sb_packet.specs.Memories.{memory_after, answers_in, overwritten, stored, loaded, write_code};
-ghost use Rattle.sb_mem.specs.Replies.{IsInRange, IsAnswerTo, response_body, response_code};
+ghost use Rattle.sb_mem.specs.AnswerPackets.{IsInRange, IsAnswerTo, answer_packet_body, answer_packet_code};
 
+use crate::answer::answer;
 use crate::atomic::combined_bytes;
-use crate::reply::reply;
-use sb_packet::{Op, Packet, padded, span};
+use sb_packet::{BODY_BYTES, Op, PAGE_BYTES, Packet, padded, span};
 use std::alloc::{AllocError, Global};
 use std::marker::Model;
 
@@ -47,7 +47,7 @@ impl Memory {
         requires fits { length image.now ≤ pages * 4096 }
         ensures { IfOk result (λ m. m ≡ record { base = base; bytes = image.now ++ replicate (pages * 4096 - length image.now) 0; readonly = readonly }) }
     {
-        let size = pages as usize * 4096;
+        let size = pages as usize * PAGE_BYTES as usize;
         let mut bytes = Vec::with_capacity(alloc, size)?;
         bytes.extend_from_slice(image)?;
         bytes.resize(size, 0)?;
@@ -77,8 +77,8 @@ impl Memory {
         ensures no_answers { IfNone result
             (answers_in self.old (accesses_of p.now) ≡ map (λ _. None) (accesses_of p.now)) }
         ensures fields { IfSome result (IsAnswerTo p.now) }
-        ensures code { IfSome result (λ a. a.cmd.tail ≡ response_code self.old p.now.cmd.op) }
-        ensures body { IfSome result (λ a. a.body ≡ response_body self.old p.now) }
+        ensures code { IfSome result (λ a. a.cmd.tail ≡ answer_packet_code self.old p.now.cmd.op) }
+        ensures body { IfSome result (λ a. a.body ≡ answer_packet_body self.old p.now) }
         ensures memory { self.new ≡ memory_after self.old (accesses_of p.now) }
         ensures base { self.new.base ≡ self.old.base }
         ensures size { length self.new.bytes ≡ length self.old.bytes }
@@ -88,7 +88,7 @@ impl Memory {
             Op::ReqRd => Some(self.read(p)),
             Op::ReqWr => {
                 self.write(p);
-                Some(reply(p, self.write_code(), [0; 32]))
+                Some(answer(p, self.write_code(), [0; BODY_BYTES]))
             }
             Op::ReqWrPosted => {
                 self.write(p);
@@ -106,9 +106,9 @@ impl Memory {
         ensures answers { answers_in self.now (accesses_of p.now) ≡ map Some (accesses_of result) }
         ensures fields { IsAnswerTo p.now result }
         ensures code { result.cmd.tail ≡ 0 }
-        ensures body { result.body ≡ response_body self.now p.now }
+        ensures body { result.body ≡ answer_packet_body self.now p.now }
     {
-        reply(p, 0, padded(self.held(p)))
+        answer(p, 0, padded(self.held(p)))
     }
 
     /// Stores what a write carries, where the memory may be written.
@@ -132,19 +132,19 @@ impl Memory {
         ensures answers { answers_in self.old (accesses_of p.now) ≡ map Some (accesses_of result) }
         ensures fields { IsAnswerTo p.now result }
         ensures code { result.cmd.tail ≡ write_code self.old }
-        ensures body { result.body ≡ response_body self.old p.now }
+        ensures body { result.body ≡ answer_packet_body self.old p.now }
         ensures memory { self.new ≡ memory_after self.old (accesses_of p.now) }
         ensures base { self.new.base ≡ self.old.base }
         ensures size { length self.new.bytes ≡ length self.old.bytes }
         ensures readonly { self.new.readonly ≡ self.old.readonly }
     {
         if self.readonly {
-            return reply(p, 2, [0; 32]);
+            return answer(p, 2, [0; BODY_BYTES]);
         }
         let size = span(&p.cmd) as usize;
-        let old: [u8; 32] = padded(self.held(p));
+        let old: [u8; BODY_BYTES] = padded(self.held(p));
         self.store(p.dst, &combined_bytes(p, &old[..size])[..size]);
-        reply(p, 0, old)
+        answer(p, 0, old)
     }
 
     /// The code of an answer to what would write.

@@ -300,22 +300,6 @@ mod tests {
         }
     }
 
-    #[test]
-    fn each_bit_turned_over(rt: HostRuntime) {
-        for turned in 0..512usize {
-            let place = turned / 64;
-            let bit = (turned % 64) as u32;
-            let mut slot = READ;
-            slot[place] ^= 1 << bit;
-            let found = from_slot(&slot);
-            let fault = read_fault_at(place, bit, slot[place]);
-            assert_eq!(rt; found.err(), fault, "at {place}, {bit}");
-            if let Ok(item) = found {
-                assert_eq!(rt; to_slot(&item), slot, "at {place}, {bit}");
-            }
-        }
-    }
-
     /// What becomes of a Close where one bit of a number is turned over, which makes it that value.
     fn close_fault_at(place: usize, bit: u32, value: u64) -> ItemFault
         requires place { place < 8 }
@@ -332,15 +316,25 @@ mod tests {
         }
     }
 
+    /// The 512 bits of `READ`, and then those of a Close.
     #[test]
-    fn each_bit_of_a_close_turned_over(rt: HostRuntime) {
-        for turned in 0..512usize {
-            let place = turned / 64;
+    fn each_bit_turned_over(rt: HostRuntime) {
+        for turned in 0..1024usize {
+            let is_close = turned >= 512;
+            let place = turned / 64 % 8;
             let bit = (turned % 64) as u32;
-            let mut slot = CLOSE;
+            let mut slot = if is_close { CLOSE } else { READ };
             slot[place] ^= 1 << bit;
-            let fault = close_fault_at(place, bit, slot[place]);
-            assert_eq!(rt; from_slot(&slot), Err(fault), "at {place}, {bit}");
+            let fault = if is_close {
+                Some(close_fault_at(place, bit, slot[place]))
+            } else {
+                read_fault_at(place, bit, slot[place])
+            };
+            let found = from_slot(&slot);
+            assert_eq!(rt; found.err(), fault, "at {turned}");
+            if let Ok(item) = found {
+                assert_eq!(rt; to_slot(&item), slot, "at {turned}");
+            }
         }
     }
 }

@@ -12,7 +12,7 @@ ghost use Rattle.sb_packet.specs.Outcomes.{code_numbered, outcome_of};
 ghost use Rattle.sb_packet.specs.Scripts.{transaction_accesses, IsTransaction};
 ghost use Rattle.sb_packet.specs.Solo.{IsSoloJournal, solo_device, solo_host};
 ghost use Rattle.sb_packet.specs.SoloRuns.{solo_answers, solo_memory_from, solo_opening, solo_outcomes_from, solo_step};
-ghost use Rattle.sb_mem.specs.Replies.{IsInRange};
+ghost use Rattle.sb_mem.specs.AnswerPackets.{IsInRange};
 ghost use Rattle.sb_top.specs.Steps.{answer_room_in, answer_room_of, entries_in, entries_of, found, lost_outcome, packet_answers, packets_at, state_by, IsFirstRound};
 
 use crate::outcomes::Outcomes;

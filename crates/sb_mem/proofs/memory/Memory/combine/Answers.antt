@@ -10,8 +10,8 @@ use Rattle.sb_mem.proofs.Atomics.{atomic_span, atomic_memory, atomic_answers, re
 use Rattle.sb_mem.proofs.TwosComplement.{word_length}
 use Rattle.sb_mem.proofs.memory.Memory.combine.Goals as goal
 
-pub reply-requires-clause-padding : goal.reply-requires-clause-padding
-reply-requires-clause-padding c = drop-replicate _ 32 0
+pub answer-requires-clause-padding : goal.answer-requires-clause-padding
+answer-requires-clause-padding c = drop-replicate _ 32 0
 
 pub returns-then-self-clause-answers : goal.returns-then-self-clause-answers
 returns-then-self-clause-answers c =
@@ -20,14 +20,14 @@ returns-then-self-clause-answers c =
     let s = 2 ^ p.cmd.size in
     let short : s ≤ 8 = word_length p.cmd.size p.cmd.size_fits in
     let refuses = ap (λ (m : MemoryState). m.readonly) (sym c.self.view_is) ∙ c.if-self.true in
-    let code : c.reply.result.cmd.tail ≡ write_code m = rw refuses c.reply.ensures.code in
-    let body : take s c.reply.result.body ≡ (if m.readonly then replicate s 0 else loaded m p.dst s) = rw (refuses, c.reply.ensures.body) (take-replicate s 32 0 (omega arith)) in
-    atomic_answers m p c.reply.result c.requires.op c.reply.ensures.fields code body
+    let code : c.answer.result.cmd.tail ≡ write_code m = rw refuses c.answer.ensures.code in
+    let body : take s c.answer.result.body ≡ (if m.readonly then replicate s 0 else loaded m p.dst s) = rw (refuses, c.answer.ensures.body) (take-replicate s 32 0 (omega arith)) in
+    atomic_answers m p c.answer.result c.requires.op c.answer.ensures.fields code body
 
 pub returns-then-self-clause-body : goal.returns-then-self-clause-body
 returns-then-self-clause-body c =
     let refuses = ap (λ (m : MemoryState). m.readonly) (sym c.self.view_is) ∙ c.if-self.true in
-    c.reply.ensures.body ∙ refused_body c.args.self.now c.args.p.now c.requires.op refuses
+    c.answer.ensures.body ∙ refused_body c.args.self.now c.args.p.now c.requires.op refuses
 
 pub slice_bounds-store-end : goal.slice_bounds-store-end
 slice_bounds-store-end c =

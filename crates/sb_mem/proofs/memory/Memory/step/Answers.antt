@@ -9,8 +9,8 @@ returns-in-ReqRd-clause-memory c = sym (read_memory c.args.self.now c.args.p.now
 
 pub returns-in-ReqWr-clause-answers : goal.returns-in-ReqWr-clause-answers
 returns-in-ReqWr-clause-answers c =
-    let code = c.reply.ensures.code ∙ c.write_code.ensures ∙ ap (λ (r : Bool). if r then 2 else 0) c.write.ensures.readonly in
-    write_answers c.args.self.now c.args.p.now c.reply.result c.in-ReqWr.is c.reply.ensures.fields code
+    let code = c.answer.ensures.code ∙ c.write_code.ensures ∙ ap (λ (r : Bool). if r then 2 else 0) c.write.ensures.readonly in
+    write_answers c.args.self.now c.args.p.now c.answer.result c.in-ReqWr.is c.answer.ensures.fields code
 
 pub returns-in-ReqWrPosted-clause-no_answers : goal.returns-in-ReqWrPosted-clause-no_answers
 returns-in-ReqWrPosted-clause-no_answers c = posted_answers c.args.self.now c.args.p.now c.in-ReqWrPosted.is

@@ -12,19 +12,19 @@ pub record IsInRange (m : MemoryState) (p : Packet) : Type 0 where
   pub high : p.dst + span_of p.cmd ≤ m.base + length m.bytes
 
 -- a write is answered by RespWr, and every other request by RespRd
-abbrev pub response_op : Op → Op
-response_op ReqWr = RespWr
-response_op _ = RespRd
+abbrev pub answer_op : Op → Op
+answer_op ReqWr = RespWr
+answer_op _ = RespRd
 
 -- An answer speaks of as many words as its request: `len` stays, but that of an atomic, whose one word is `len` 0.
-abbrev pub response_len : Op → ℕ → ℕ
-response_len ReqAtomic len = 0
-response_len _ len = len
+abbrev pub answer_len : Op → ℕ → ℕ
+answer_len ReqAtomic len = 0
+answer_len _ len = len
 
 -- A packet answers another: it has the opcode of the answer, goes back where the other came from, and keeps all else but code and body.
 pub record IsAnswerTo (p a : Packet) : Type 0 where
-  pub op : a.cmd.op ≡ response_op p.cmd.op
-  pub len : a.cmd.len ≡ response_len p.cmd.op p.cmd.len
+  pub op : a.cmd.op ≡ answer_op p.cmd.op
+  pub len : a.cmd.len ≡ answer_len p.cmd.op p.cmd.len
   pub dst : a.dst ≡ p.src
   pub src : a.src ≡ p.dst
   pub size : a.cmd.size ≡ p.cmd.size
@@ -36,20 +36,20 @@ pub record IsAnswerTo (p a : Packet) : Type 0 where
   pub host : a.cmd.host ≡ p.cmd.host
 
 -- the code of an answer: a memory refuses all but reads where it can't be written
-abbrev pub response_code : MemoryState → Op → ℕ
-response_code m ReqRd = 0
-response_code m _ = write_code m
+abbrev pub answer_packet_code : MemoryState → Op → ℕ
+answer_packet_code m ReqRd = 0
+answer_packet_code m _ = write_code m
 
 -- the bytes that an answer carries, of so many from an address on: those before the step, and zeros where an atomic is refused
-abbrev pub response_bytes : MemoryState → Op → ℕ → ℕ → List ℕ
-response_bytes m ReqRd address count = loaded m address count
-response_bytes m ReqAtomic address count = if m.readonly then replicate count 0 else loaded m address count
-response_bytes m _ address count = []
+abbrev pub answer_packet_bytes : MemoryState → Op → ℕ → ℕ → List ℕ
+answer_packet_bytes m ReqRd address count = loaded m address count
+answer_packet_bytes m ReqAtomic address count = if m.readonly then replicate count 0 else loaded m address count
+answer_packet_bytes m _ address count = []
 
 -- bytes as the body of a packet, with zeros behind them
 abbrev pub body_of : List ℕ → List ℕ
 body_of bytes = bytes ++ replicate (32 - length bytes) 0
 
 -- the body of the answer to a packet
-abbrev pub response_body : MemoryState → Packet → List ℕ
-response_body m p = body_of (response_bytes m p.cmd.op p.dst (span_of p.cmd))
+abbrev pub answer_packet_body : MemoryState → Packet → List ℕ
+answer_packet_body m p = body_of (answer_packet_bytes m p.cmd.op p.dst (span_of p.cmd))

@@ -2,12 +2,12 @@
 
 ghost use Rattle.std.specs.Prelude.{◌≡◌, ◌≤◌, ◌-◌, drop, replicate};
 ghost use Rattle.sb_packet.specs.Spans.{carried_by, span_of};
-ghost use Rattle.sb_mem.specs.Replies.{IsAnswerTo, response_len as len_of_response, response_op as op_of_response};
+ghost use Rattle.sb_mem.specs.AnswerPackets.{IsAnswerTo, answer_len as len_of_answer, answer_op as op_of_answer};
 
-use sb_packet::{Cmd, Op, Packet};
+use sb_packet::{BODY_BYTES, Cmd, Op, Packet};
 
-fn response_op(op: Op) -> Op
-    ensures { result ≡ op_of_response op }
+fn answer_op(op: Op) -> Op
+    ensures { result ≡ op_of_answer op }
 {
     match op {
         Op::ReqWr => Op::RespWr,
@@ -15,8 +15,8 @@ fn response_op(op: Op) -> Op
     }
 }
 
-fn response_len(op: Op, len: u8) -> u8
-    ensures { result ≡ len_of_response op len }
+fn answer_len(op: Op, len: u8) -> u8
+    ensures { result ≡ len_of_answer op len }
 {
     match op {
         Op::ReqAtomic => 0,
@@ -25,18 +25,18 @@ fn response_len(op: Op, len: u8) -> u8
 }
 
 /// The answer to a request, with that code and body.
-pub fn reply(p: &Packet, code: u8, body: [u8; 32]) -> Packet
+pub fn answer(p: &Packet, code: u8, body: [u8; BODY_BYTES]) -> Packet
     requires code { code ≤ 3 }
-    requires padding { drop (carried_by (op_of_response p.now.cmd.op) (span_of p.now.cmd)) body
-        ≡ replicate (32 - carried_by (op_of_response p.now.cmd.op) (span_of p.now.cmd)) 0 }
+    requires padding { drop (carried_by (op_of_answer p.now.cmd.op) (span_of p.now.cmd)) body
+        ≡ replicate (32 - carried_by (op_of_answer p.now.cmd.op) (span_of p.now.cmd)) 0 }
     ensures fields { IsAnswerTo p.now result }
     ensures code { result.cmd.tail ≡ code }
     ensures body { result.body ≡ body }
 {
     let cmd = Cmd {
-        op: response_op(p.cmd.op),
+        op: answer_op(p.cmd.op),
         size: p.cmd.size,
-        len: response_len(p.cmd.op, p.cmd.len),
+        len: answer_len(p.cmd.op, p.cmd.len),
         qos: p.cmd.qos,
         prot: p.cmd.prot,
         eom: p.cmd.eom,
