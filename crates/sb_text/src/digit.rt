@@ -26,5 +26,5 @@ const DIGITS: [u8; 256] = [
 pub fn digit(byte: u8) -> u8
     ensures { result ≡ unwrap_or (hex_digit_value byte) 255 }
 {
-    DIGITS[byte as usize]
+    DIGITS[usize::from(byte)]
 }

@@ -87,7 +87,7 @@ fn word_count(txns: &[Txn]) -> u32
 {
     let mut words = 0;
     for txn in txns {
-        words += txn.count as u32;
+        words += u32::from(txn.count);
     }
     words
 }

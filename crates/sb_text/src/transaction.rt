@@ -8,7 +8,7 @@ ghost use Rattle.sb_text.specs.declared.line_fault.LineFault.TheVariants as faul
 use crate::body::decoded;
 use crate::line_fault::LineFault;
 use crate::numeral::numeral;
-use sb_packet::{Bytes, Kind, Txn};
+use sb_packet::{ADDRESS_END, Bytes, Kind, PAGE_BYTES, Txn};
 use std::alloc::Global;
 
 /// The number of words that a read tells; None where that is no number.
@@ -73,10 +73,10 @@ fn placed(kind: Kind, addr: u64, size: u8, count: u64, body: Bytes) -> Result<Tx
     if addr % word != 0 {
         return Err(LineFault::Aligned);
     }
-    if addr % 4096 + count * word > 4096 {
+    if addr % PAGE_BYTES + count * word > PAGE_BYTES {
         return Err(LineFault::Page);
     }
-    if addr >= 1 << 56 {
+    if addr >= ADDRESS_END {
         return Err(LineFault::Range);
     }
     Ok(Txn {

@@ -89,6 +89,20 @@ impl<'a> Words<'a> {
         !self.rest.is_empty() && self.rest[0] == b'#'
     }
 
+    /// Takes off the first word, which has that length.
+    #[inline(always)]
+    fn first_word(&mut self, len: usize) -> &'a [u8]
+        requires some { 0 < length self.old.rest.now }
+        requires within { len ≤ length self.old.rest.now }
+        requires word { All (λ byte. blank_test byte ≡ false) (take len self.old.rest.now) }
+        requires end { len < length self.old.rest.now → blank_test (slice_index self.old.rest.now len) ≡ true }
+        ensures { words_of self.old.rest.now ≡ result.now ∷ words_of self.new.rest.now }
+    {
+        let (word, rest) = self.rest.split_at(len);
+        *self = Words::new(rest);
+        word
+    }
+
     /// Takes off the next word.
     #[inline(always)]
     pub fn next_word(&mut self) -> Option<&'a [u8]>
@@ -97,9 +111,7 @@ impl<'a> Words<'a> {
         if self.rest.is_empty() {
             return None;
         }
-        let (word, rest) = self.rest.split_at(word_len(self.rest));
-        *self = Words::new(rest);
-        Some(word)
+        Some(self.first_word(word_len(self.rest)))
     }
 
     /// Takes off the next word, which may be long.
@@ -110,8 +122,6 @@ impl<'a> Words<'a> {
         if self.rest.is_empty() {
             return None;
         }
-        let (word, rest) = self.rest.split_at(long_word_len(self.rest));
-        *self = Words::new(rest);
-        Some(word)
+        Some(self.first_word(long_word_len(self.rest)))
     }
 }

@@ -19,4 +19,5 @@ pub returns : goal.returns
 unfolding worth
 returns c =
     let below : c.args.byte < 256 = omega arith in
-    ap (λ (t : List ℕ). get_or t c.args.byte 0) table ∙ get_or-map-range_with_len worth 0 256 c.args.byte c.args.byte 0 below (omega arith)
+    ap (λ (n : ℕ). get_or DIGITS n 0) c.from.ensures
+    ∙ ap (λ (t : List ℕ). get_or t c.args.byte 0) table ∙ get_or-map-range_with_len worth 0 256 c.args.byte c.args.byte 0 below (omega arith)
