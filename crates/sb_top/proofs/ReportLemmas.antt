@@ -13,7 +13,7 @@ use Rattle.sb_packet.specs.SoloRuns.{solo_opening, solo_outcomes_from, solo_memo
 use Rattle.sb_packet.specs.declared.entry.Entry.{Entry}
 use Rattle.sb_packet.specs.declared.transaction.Txn.{Txn}
 use Rattle.sb_packet.proofs.SoloResults.{solo_results_are}
-use Rattle.sb_top.specs.Texts.{title_line, host_front, device_front, last_line, lines_text}
+use Rattle.sb_top.specs.Texts.{title_line, host_line, device_line, last_line, lines_text}
 
 -- four texts one after another
 regrouped : (a b c d : List ℕ) → a ++ (b ++ (c ++ d)) ≡ a ++ (b ++ []) ++ (c ++ []) ++ d
@@ -26,7 +26,7 @@ sixteen = refl
 -- the text of `solo` in its parts
 in_parts : (script : List Txn) (journal : List Entry) (outcomes : List Outcome) (bytes : List ℕ)
     → title_line ++ lines_text outcomes bytes ≡ report_text (solo_network script) (record { outcomes = outcomes ∷ []; images = bytes ∷ [] }) journal false None
-unfolding title_line host_front device_front last_line
+unfolding title_line host_line device_line last_line
 in_parts script journal outcomes bytes =
     let host = text_line (codes "host" ∷ codes "host" ∷ decimal (length outcomes) ∷ []) ++ flat_map (λ p. outcome_line p.0 p.1) (enumerate_from 0 outcomes) in
     let memory : List ℕ → List ℕ = λ pages. text_line (codes "device" ∷ codes "mem" ∷ pages ∷ []) ++ image_lines bytes in

@@ -1,6 +1,5 @@
 -- What a packet does to a memory and a journal.
 use Rattle.std.specs.Prelude.{ℕ, ◌≡◌, ◌+◌, ◌*◌, ◌^◌, List, [], ◌∷◌, filter_map, length, replicate, if◌then◌else◌}
-use Rattle.sb_packet.specs.Messages.{Message}
 use Rattle.sb_packet.specs.Accesses.{Access, accesses_of}
 use Rattle.sb_packet.specs.Memories.{MemoryState, answers_in}
 use Rattle.sb_packet.specs.Networks.{has_address}
@@ -33,10 +32,6 @@ unreached list = filter_map (λ a. unreached_by a.op a) list
 pub record IsFirstRound (e : Entry) : Type 0 where
   pub round : e.round ≡ 0
   pub device : e.device ≡ 0
-
--- the packets of a transaction that the memory steps
-abbrev pub packets_at : ℕ → Txn → List Message
-packets_at i t = if has_address t.addr solo_device then transaction_packets (solo_host []) i t else []
 
 -- how many there are
 abbrev pub entries_of : Txn → ℕ

@@ -11,15 +11,15 @@ unfoldable pub state_front : ℕ → TxnState → List ℕ
 state_front i state = codes "t" ++ 32 ∷ (decimal i ++ 32 ∷ (state_text state ++ 32 ∷ []))
 
 -- the line of the host and the number of its transactions
-unfoldable pub host_front : ℕ → List ℕ
-host_front count = text_line (codes "host" ∷ codes "host" ∷ decimal count ∷ [])
+unfoldable pub host_line : ℕ → List ℕ
+host_line count = text_line (codes "host" ∷ codes "host" ∷ decimal count ∷ [])
 
 -- the first line, the line of the memory, and the last line
 unfoldable pub title_line : List ℕ
 title_line = text_line (codes "sb" ∷ codes "1" ∷ [])
 
-unfoldable pub device_front : List ℕ
-device_front = text_line (codes "device" ∷ codes "mem" ∷ codes "16" ∷ [])
+unfoldable pub device_line : List ℕ
+device_line = text_line (codes "device" ∷ codes "mem" ∷ codes "16" ∷ [])
 
 unfoldable pub last_line : List ℕ
 last_line = text_line (codes "end" ∷ [])
@@ -27,5 +27,5 @@ last_line = text_line (codes "end" ∷ [])
 -- all but the first line, from what became of the transactions and the bytes of the memory
 abbrev pub lines_text : List Outcome → List ℕ → List ℕ
 lines_text outcomes bytes =
-    (host_front (length outcomes) ++ flat_map (λ p. outcome_line p.0 p.1) (enumerate_from 0 outcomes))
-    ++ ((device_front ++ image_lines bytes) ++ last_line)
+    (host_line (length outcomes) ++ flat_map (λ p. outcome_line p.0 p.1) (enumerate_from 0 outcomes))
+    ++ ((device_line ++ image_lines bytes) ++ last_line)

@@ -49,7 +49,7 @@ fn solo<K: Sink>(alloc: Global, input: &[u8], sink: &mut K, journal: &mut Journa
     ensures part { result ≡ 5 → WrotePart (λ text. Ran input.now journal.new.entries text ⊎ Refused input.now journal.new.entries text) (K.held sink.old) (K.held sink.new) }
     ensures silent { result ≡ 6 → K.held sink.new ≡ K.held sink.old }
     ensures no_run { result ≡ 6 → journal.new.entries ≡ [] }
-    ensures write { result ≡ 5 → Rose (K.faults sink.old) (K.faults sink.new) }
+    ensures cause { result ≡ 5 → Rose (K.faults sink.old) (K.faults sink.new) }
     ensures clean { result ≢ 5 → K.faults sink.new ≡ K.faults sink.old }
     ensures others { (result ≡ 0) ⊎ (result ≡ 3) ⊎ (result ≡ 5) ⊎ (result ≡ 6) }
 {
@@ -64,7 +64,7 @@ fn solo<K: Sink>(alloc: Global, input: &[u8], sink: &mut K, journal: &mut Journa
 fn refuse<K: Sink>(fault: ScriptFault, sink: &mut K) -> u8
     ensures refused { result ≡ 3 → Gains (K.held sink.old) (K.held sink.new) (refusal_text fault) }
     ensures part { result ≡ 5 → GainsPart (K.held sink.old) (K.held sink.new) (refusal_text fault) }
-    ensures write { result ≡ 5 → Rose (K.faults sink.old) (K.faults sink.new) }
+    ensures cause { result ≡ 5 → Rose (K.faults sink.old) (K.faults sink.new) }
     ensures clean { result ≢ 5 → K.faults sink.new ≡ K.faults sink.old }
     ensures others { (result ≡ 3) ⊎ (result ≡ 5) }
 {
@@ -81,7 +81,7 @@ fn run<K: Sink>(alloc: Global, script: &[Txn], sink: &mut K, journal: &mut Journ
     ensures part { result ≡ 5 → GainsPart (K.held sink.old) (K.held sink.new) (run_report (solo_network script.now) journal.new.entries false None) }
     ensures silent { result ≡ 6 → K.held sink.new ≡ K.held sink.old }
     ensures no_run { result ≡ 6 → journal.new.entries ≡ [] }
-    ensures write { result ≡ 5 → Rose (K.faults sink.old) (K.faults sink.new) }
+    ensures cause { result ≡ 5 → Rose (K.faults sink.old) (K.faults sink.new) }
     ensures clean { result ≢ 5 → K.faults sink.new ≡ K.faults sink.old }
     ensures others { (result ≡ 0) ⊎ (result ≡ 5) ⊎ (result ≡ 6) }
 {
@@ -114,10 +114,10 @@ pub fn top<S: Source, K: Sink>(
 
     // When each status comes.
     ensures words { asks_solo (map string_bytes words.now) ≡ false → (result ≡ 2) ⊎ (result ≡ 5) }
-    ensures read { result ≡ 4 → Rose (S.faults source.old) (S.faults source.new) }
-    ensures write { result ≡ 5 → Rose (K.faults sink.old) (K.faults sink.new) }
-    ensures no_read_fault { result ≢ 4 → S.faults source.new ≡ S.faults source.old }
-    ensures no_write_fault { result ≢ 5 → K.faults sink.new ≡ K.faults sink.old }
+    ensures read_cause { result ≡ 4 → Rose (S.faults source.old) (S.faults source.new) }
+    ensures write_cause { result ≡ 5 → Rose (K.faults sink.old) (K.faults sink.new) }
+    ensures read_clean { result ≢ 4 → S.faults source.new ≡ S.faults source.old }
+    ensures write_clean { result ≢ 5 → K.faults sink.new ≡ K.faults sink.old }
     ensures others { (result ≡ 0) ⊎ (result ≡ 2) ⊎ (result ≡ 3) ⊎ (result ≡ 4) ⊎ (result ≡ 5) ⊎ (result ≡ 6) ⊎ (result ≡ 7) }
 {
     if !is_solo(words) {

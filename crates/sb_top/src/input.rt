@@ -28,7 +28,7 @@ pub enum ReadFault {
 pub fn read_all<S: Source>(alloc: Global, source: &mut S) -> Result<Vec<u8>, ReadFault>
     ensures limit { IfOk result (λ v. vec_len v ≤ 2 ^ 26) }
     ensures whole { IfOk result (λ v. IsWholeInput (S.left source.old) (S.left source.new) v.items) }
-    ensures failed { IsErrOf result faults.Failed → Rose (S.faults source.old) (S.faults source.new) }
+    ensures cause { IsErrOf result faults.Failed → Rose (S.faults source.old) (S.faults source.new) }
     ensures long { IsErrOf result faults.TooLong → IfSome (S.left source.old) (λ left. 2 ^ 26 < length left) }
     ensures taken { IsErrOf result faults.TooLong → S.left source.new ≡ option_map (drop (2 ^ 26 + 1)) (S.left source.old) }
     ensures clean { (IsErrOf result faults.Failed) ⊎ (S.faults source.new ≡ S.faults source.old) }

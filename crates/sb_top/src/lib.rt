@@ -3,6 +3,7 @@
 
 mod command;
 mod input;
+mod line_buffer;
 mod lines;
 mod outcomes;
 mod output;
@@ -10,7 +11,6 @@ mod refusal;
 mod report;
 mod solo;
 mod status;
-mod waiting;
 
 pub use command::top;
 pub use sb_io::{ReaderSource, WriterSink};

@@ -5,20 +5,20 @@ ghost use Rattle.hex.specs.Hex.{encode_lower, lower_digits};
 ghost use Rattle.std.specs.Prelude.{slice_index};
 ghost use Rattle.sb_packet.specs.TextLines.{hex_number, text_line};
 ghost use Rattle.sb_packet.specs.Reports.{code_text, state_text};
-ghost use Rattle.sb_top.specs.Texts.{host_front, state_front};
+ghost use Rattle.sb_top.specs.Texts.{host_line, state_front};
 
-use crate::waiting::Waiting;
+use crate::line_buffer::LineBuffer;
 use itoa::Buffer;
 use sb_packet::{Code, TxnState};
 
 /// Puts a number in decimal digits.
-pub fn push_number(waiting: &mut Waiting, n: usize)
-    requires { length waiting.old + 40 ≤ 8192 }
-    ensures text { waiting.new ≡ waiting.old ++ decimal n }
-    ensures short { length waiting.new ≤ length waiting.old + 40 }
+pub fn push_number(buffer: &mut LineBuffer, n: usize)
+    requires { length buffer.old + 40 ≤ 8192 }
+    ensures text { buffer.new ≡ buffer.old ++ decimal n }
+    ensures short { length buffer.new ≤ length buffer.old + 40 }
 {
-    let mut buffer = Buffer::new();
-    waiting.push(buffer.format(n).as_bytes());
+    let mut digits = Buffer::new();
+    buffer.push(digits.format(n).as_bytes());
 }
 
 /// The digit of a number below 16.
@@ -30,10 +30,10 @@ fn hex_digit(n: u32) -> u8
 }
 
 /// Puts an offset in five hexadecimal digits.
-fn push_offset(waiting: &mut Waiting, offset: u32)
-    requires { length waiting.old + 5 ≤ 8192 }
-    ensures text { waiting.new ≡ waiting.old ++ hex_number 5 offset }
-    ensures len { length waiting.new ≡ length waiting.old + 5 }
+fn push_offset(buffer: &mut LineBuffer, offset: u32)
+    requires { length buffer.old + 5 ≤ 8192 }
+    ensures text { buffer.new ≡ buffer.old ++ hex_number 5 offset }
+    ensures len { length buffer.new ≡ length buffer.old + 5 }
 {
     let digits = [
         hex_digit(offset / 16 / 16 / 16 / 16 % 16),
@@ -42,7 +42,7 @@ fn push_offset(waiting: &mut Waiting, offset: u32)
         hex_digit(offset / 16 % 16),
         hex_digit(offset % 16),
     ];
-    waiting.push(&digits);
+    buffer.push(&digits);
 }
 
 fn code_word(code: Code) -> &'static [u8]
@@ -69,38 +69,38 @@ fn state_word(state: TxnState) -> &'static [u8]
 }
 
 /// Puts the line of the host and the number of its transactions.
-#[tactic(auto, unfolding(crate::specs::Texts::host_front))]
-pub fn push_host(waiting: &mut Waiting, count: usize)
-    requires { length waiting.old + 64 ≤ 8192 }
-    ensures { waiting.new ≡ waiting.old ++ host_front count }
+#[tactic(auto, unfolding(crate::specs::Texts::host_line))]
+pub fn push_host(buffer: &mut LineBuffer, count: usize)
+    requires { length buffer.old + 64 ≤ 8192 }
+    ensures { buffer.new ≡ buffer.old ++ host_line count }
 {
-    waiting.push(b"host host ");
-    push_number(waiting, count);
-    waiting.push(b"\n");
+    buffer.push(b"host host ");
+    push_number(buffer, count);
+    buffer.push(b"\n");
 }
 
 /// Puts the front of a transaction's line, up to its body.
 #[tactic(auto, unfolding(crate::specs::Texts::state_front))]
-pub fn push_state(waiting: &mut Waiting, index: usize, state: TxnState)
-    requires { length waiting.old + 64 ≤ 8192 }
-    ensures { waiting.new ≡ waiting.old ++ state_front index state }
+pub fn push_state(buffer: &mut LineBuffer, index: usize, state: TxnState)
+    requires { length buffer.old + 64 ≤ 8192 }
+    ensures { buffer.new ≡ buffer.old ++ state_front index state }
 {
-    waiting.push(b"t ");
-    push_number(waiting, index);
-    waiting.push(b" ");
-    waiting.push(state_word(state));
-    waiting.push(b" ");
+    buffer.push(b"t ");
+    push_number(buffer, index);
+    buffer.push(b" ");
+    buffer.push(state_word(state));
+    buffer.push(b" ");
 }
 
 /// Puts the line of a row of 32 bytes at an offset.
-pub fn push_row(waiting: &mut Waiting, offset: u32, row: &[u8])
-    requires room { length waiting.old + 128 ≤ 8192 }
+pub fn push_row(buffer: &mut LineBuffer, offset: u32, row: &[u8])
+    requires room { length buffer.old + 128 ≤ 8192 }
     requires row { length row.now ≤ 32 }
-    ensures { waiting.new ≡ waiting.old ++ text_line (codes "m" ∷ hex_number 5 offset ∷ encode_lower row.now ∷ []) }
+    ensures { buffer.new ≡ buffer.old ++ text_line (codes "m" ∷ hex_number 5 offset ∷ encode_lower row.now ∷ []) }
 {
-    waiting.push(b"m ");
-    push_offset(waiting, offset);
-    waiting.push(b" ");
-    waiting.push_hex(row);
-    waiting.push(b"\n");
+    buffer.push(b"m ");
+    push_offset(buffer, offset);
+    buffer.push(b" ");
+    buffer.push_hex(row);
+    buffer.push(b"\n");
 }

@@ -3,8 +3,8 @@
 ghost use Rattle.std.specs.Prelude.{◌≡◌, ◌≤◌, length};
 ghost use Rattle.sb_top.specs.Refusals.{line_fault_text, refusal_text};
 
+use crate::line_buffer::LineBuffer;
 use crate::lines::push_number;
-use crate::waiting::Waiting;
 use sb_text::{LineFault, ScriptFault};
 
 fn line_fault_word(fault: LineFault) -> &'static [u8]
@@ -25,10 +25,10 @@ fn line_fault_word(fault: LineFault) -> &'static [u8]
 }
 
 /// The line of a fault.
-pub fn refusal(fault: ScriptFault) -> Waiting
+pub fn refusal(fault: ScriptFault) -> LineBuffer
     ensures { result ≡ refusal_text fault }
 {
-    let mut line = Waiting::new();
+    let mut line = LineBuffer::new();
     match fault {
         ScriptFault::Lines { count } => {
             line.push(b"refused lines ");

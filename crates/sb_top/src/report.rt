@@ -8,135 +8,132 @@ ghost use Rattle.sb_io.specs.Counts.{Rose};
 ghost use Rattle.sb_packet.specs.TextLines.{body_text, text_line};
 ghost use Rattle.sb_packet.specs.Reports.{device_lines, host_lines, image_lines, outcome_line, row_line};
 ghost use Rattle.sb_packet.specs.Solo.{solo_device, solo_host};
-ghost use Rattle.sb_top.specs.Outputs.{Gains, GainsPart, Prints};
-ghost use Rattle.sb_top.specs.Texts.{device_front, host_front, last_line, lines_text, state_front, title_line};
+ghost use Rattle.sb_top.specs.Outputs.{Gains, GainsPart, IsPrinted};
+ghost use Rattle.sb_top.specs.Texts.{device_line, host_line, last_line, lines_text, state_front, title_line};
 
+use crate::line_buffer::{LineBuffer, flush, make_room};
 use crate::lines::{push_host, push_row, push_state};
 use crate::outcomes::Outcomes;
 use crate::output::WriteFailed;
-use crate::waiting::{Waiting, flush, make_room};
 use sb_io::Sink;
 use sb_packet::TxnState;
 
+/// The bytes that one row of a memory has.
+const ROW_BYTES: usize = 32;
+
+/// More than any line has up to its body.
+const FRONT_ROOM: usize = 64;
+
+/// More than the line of a row has.
+const ROW_ROOM: usize = 128;
+
 /// Prints a short text.
-fn print<K: Sink>(sink: &mut K, waiting: &mut Waiting, text: &[u8]) -> Result<(), WriteFailed>
+fn print<K: Sink>(sink: &mut K, buffer: &mut LineBuffer, text: &[u8]) -> Result<(), WriteFailed>
     requires { length text.now ≤ 8192 }
-    ensures done { OnOk result (Prints (K.held sink.old) waiting.old (K.held sink.new) waiting.new text.now) }
-    ensures part { OnErr result (GainsPart (K.held sink.old) (K.held sink.new) (waiting.old ++ text.now)) }
-    ensures cause { OnErr result (Rose (K.faults sink.old) (K.faults sink.new)) }
-    ensures clean { OnOk result (K.faults sink.new ≡ K.faults sink.old) }
+    ensures printed { IsPrinted result (K.held sink.old) (K.held sink.new) (K.faults sink.old) (K.faults sink.new) buffer.old buffer.new text.now }
 {
-    make_room(sink, waiting, text.len())?;
-    waiting.push(text);
+    make_room(sink, buffer, text.len())?;
+    buffer.push(text);
     Ok(())
 }
 
 /// Prints at most 32 bytes in hexadecimal digits.
 fn print_digits<K: Sink>(
     sink: &mut K,
-    waiting: &mut Waiting,
+    buffer: &mut LineBuffer,
     bytes: &[u8],
 ) -> Result<(), WriteFailed>
     requires { length bytes.now ≤ 32 }
-    ensures done { OnOk result (Prints (K.held sink.old) waiting.old (K.held sink.new) waiting.new (encode_lower bytes.now)) }
-    ensures part { OnErr result (GainsPart (K.held sink.old) (K.held sink.new) (waiting.old ++ encode_lower bytes.now)) }
-    ensures cause { OnErr result (Rose (K.faults sink.old) (K.faults sink.new)) }
-    ensures clean { OnOk result (K.faults sink.new ≡ K.faults sink.old) }
+    ensures printed { IsPrinted result (K.held sink.old) (K.held sink.new) (K.faults sink.old) (K.faults sink.new) buffer.old buffer.new (encode_lower bytes.now) }
 {
-    make_room(sink, waiting, 64)?;
-    waiting.push_hex(bytes);
+    make_room(sink, buffer, 2 * ROW_BYTES)?;
+    buffer.push_hex(bytes);
     Ok(())
 }
 
 /// Prints any number of bytes in hexadecimal digits.
-fn print_hex<K: Sink>(sink: &mut K, waiting: &mut Waiting, bytes: &[u8]) -> Result<(), WriteFailed>
-    ensures done { OnOk result (Prints (K.held sink.old) waiting.old (K.held sink.new) waiting.new (encode_lower bytes.now)) }
-    ensures part { OnErr result (GainsPart (K.held sink.old) (K.held sink.new) (waiting.old ++ encode_lower bytes.now)) }
-    ensures cause { OnErr result (Rose (K.faults sink.old) (K.faults sink.new)) }
-    ensures clean { OnOk result (K.faults sink.new ≡ K.faults sink.old) }
+fn print_hex<K: Sink>(
+    sink: &mut K,
+    buffer: &mut LineBuffer,
+    bytes: &[u8],
+) -> Result<(), WriteFailed>
+    ensures printed { IsPrinted result (K.held sink.old) (K.held sink.new) (K.faults sink.old) (K.faults sink.new) buffer.old buffer.new (encode_lower bytes.now) }
 {
     let mut at = 0;
     while at < bytes.len() {
-        let count = (bytes.len() - at).min(32);
-        print_digits(sink, waiting, &bytes[at..at + count])?;
+        let count = (bytes.len() - at).min(ROW_BYTES);
+        print_digits(sink, buffer, &bytes[at..at + count])?;
         at += count;
     }
     Ok(())
 }
 
 /// Prints a body, or a dash where it is empty.
-fn print_body<K: Sink>(sink: &mut K, waiting: &mut Waiting, bytes: &[u8]) -> Result<(), WriteFailed>
-    ensures done { OnOk result (Prints (K.held sink.old) waiting.old (K.held sink.new) waiting.new (body_text bytes.now)) }
-    ensures part { OnErr result (GainsPart (K.held sink.old) (K.held sink.new) (waiting.old ++ body_text bytes.now)) }
-    ensures cause { OnErr result (Rose (K.faults sink.old) (K.faults sink.new)) }
-    ensures clean { OnOk result (K.faults sink.new ≡ K.faults sink.old) }
+fn print_body<K: Sink>(
+    sink: &mut K,
+    buffer: &mut LineBuffer,
+    bytes: &[u8],
+) -> Result<(), WriteFailed>
+    ensures printed { IsPrinted result (K.held sink.old) (K.held sink.new) (K.faults sink.old) (K.faults sink.new) buffer.old buffer.new (body_text bytes.now) }
 {
     match bytes {
-        [] => print(sink, waiting, b"-"),
-        _ => print_hex(sink, waiting, bytes),
+        [] => print(sink, buffer, b"-"),
+        _ => print_hex(sink, buffer, bytes),
     }
 }
 
 /// Prints the front of a transaction's line.
 fn print_state<K: Sink>(
     sink: &mut K,
-    waiting: &mut Waiting,
+    buffer: &mut LineBuffer,
     index: usize,
     state: TxnState,
 ) -> Result<(), WriteFailed>
-    ensures done { OnOk result (Prints (K.held sink.old) waiting.old (K.held sink.new) waiting.new (state_front index state)) }
-    ensures part { OnErr result (GainsPart (K.held sink.old) (K.held sink.new) (waiting.old ++ state_front index state)) }
-    ensures cause { OnErr result (Rose (K.faults sink.old) (K.faults sink.new)) }
-    ensures clean { OnOk result (K.faults sink.new ≡ K.faults sink.old) }
+    ensures printed { IsPrinted result (K.held sink.old) (K.held sink.new) (K.faults sink.old) (K.faults sink.new) buffer.old buffer.new (state_front index state) }
 {
-    make_room(sink, waiting, 64)?;
-    push_state(waiting, index, state);
+    make_room(sink, buffer, FRONT_ROOM)?;
+    push_state(buffer, index, state);
     Ok(())
 }
 
 /// Prints the rest of it.
-fn print_rest<K: Sink>(sink: &mut K, waiting: &mut Waiting, body: &[u8]) -> Result<(), WriteFailed>
-    ensures done { OnOk result (Prints (K.held sink.old) waiting.old (K.held sink.new) waiting.new (body_text body.now ++ 10 ∷ [])) }
-    ensures part { OnErr result (GainsPart (K.held sink.old) (K.held sink.new) (waiting.old ++ (body_text body.now ++ 10 ∷ []))) }
-    ensures cause { OnErr result (Rose (K.faults sink.old) (K.faults sink.new)) }
-    ensures clean { OnOk result (K.faults sink.new ≡ K.faults sink.old) }
+fn print_rest<K: Sink>(
+    sink: &mut K,
+    buffer: &mut LineBuffer,
+    body: &[u8],
+) -> Result<(), WriteFailed>
+    ensures printed { IsPrinted result (K.held sink.old) (K.held sink.new) (K.faults sink.old) (K.faults sink.new) buffer.old buffer.new (body_text body.now ++ 10 ∷ []) }
 {
-    print_body(sink, waiting, body)?;
-    print(sink, waiting, b"\n")
+    print_body(sink, buffer, body)?;
+    print(sink, buffer, b"\n")
 }
 
 /// Prints the line of a transaction.
 fn print_outcome<K: Sink>(
     sink: &mut K,
-    waiting: &mut Waiting,
+    buffer: &mut LineBuffer,
     index: usize,
     state: TxnState,
     body: &[u8],
 ) -> Result<(), WriteFailed>
-    ensures done { OnOk result (Prints (K.held sink.old) waiting.old (K.held sink.new) waiting.new (state_front index state ++ (body_text body.now ++ 10 ∷ []))) }
-    ensures part { OnErr result (GainsPart (K.held sink.old) (K.held sink.new) (waiting.old ++ (state_front index state ++ (body_text body.now ++ 10 ∷ [])))) }
-    ensures cause { OnErr result (Rose (K.faults sink.old) (K.faults sink.new)) }
-    ensures clean { OnOk result (K.faults sink.new ≡ K.faults sink.old) }
+    ensures printed { IsPrinted result (K.held sink.old) (K.held sink.new) (K.faults sink.old) (K.faults sink.new) buffer.old buffer.new (state_front index state ++ (body_text body.now ++ 10 ∷ [])) }
 {
-    print_state(sink, waiting, index, state)?;
-    print_rest(sink, waiting, body)
+    print_state(sink, buffer, index, state)?;
+    print_rest(sink, buffer, body)
 }
 
 /// Prints the lines of all transactions, in order.
 fn print_outcomes<K: Sink>(
     sink: &mut K,
-    waiting: &mut Waiting,
+    buffer: &mut LineBuffer,
     outcomes: &Outcomes,
 ) -> Result<(), WriteFailed>
-    ensures done { OnOk result (Prints (K.held sink.old) waiting.old (K.held sink.new) waiting.new (flat_map (λ p. outcome_line p.0 p.1) (enumerate_from 0 outcomes.now.outcomes))) }
-    ensures part { OnErr result (GainsPart (K.held sink.old) (K.held sink.new) (waiting.old ++ flat_map (λ p. outcome_line p.0 p.1) (enumerate_from 0 outcomes.now.outcomes))) }
-    ensures cause { OnErr result (Rose (K.faults sink.old) (K.faults sink.new)) }
-    ensures clean { OnOk result (K.faults sink.new ≡ K.faults sink.old) }
+    ensures printed { IsPrinted result (K.held sink.old) (K.held sink.new) (K.faults sink.old) (K.faults sink.new) buffer.old buffer.new (flat_map (λ p. outcome_line p.0 p.1) (enumerate_from 0 outcomes.now.outcomes)) }
 {
     for index in 0..outcomes.len() {
         print_outcome(
             sink,
-            waiting,
+            buffer,
             index,
             outcomes.state(index),
             outcomes.body(index),
@@ -154,39 +151,38 @@ fn is_zero(row: &[u8]) -> bool
 /// Prints row `k` of a memory, unless it is all zeros.
 fn print_row<K: Sink>(
     sink: &mut K,
-    waiting: &mut Waiting,
+    buffer: &mut LineBuffer,
     k: u32,
     row: &[u8],
 ) -> Result<(), WriteFailed>
     requires place { k * 32 < 2 ^ 32 }
     requires row { length row.now ≤ 32 }
-    ensures done { OnOk result (Prints (K.held sink.old) waiting.old (K.held sink.new) waiting.new (row_line k row.now)) }
-    ensures part { OnErr result (GainsPart (K.held sink.old) (K.held sink.new) (waiting.old ++ row_line k row.now)) }
-    ensures cause { OnErr result (Rose (K.faults sink.old) (K.faults sink.new)) }
-    ensures clean { OnOk result (K.faults sink.new ≡ K.faults sink.old) }
+    ensures printed { IsPrinted result (K.held sink.old) (K.held sink.new) (K.faults sink.old) (K.faults sink.new) buffer.old buffer.new (row_line k row.now) }
 {
     if is_zero(row) {
         return Ok(());
     }
-    make_room(sink, waiting, 128)?;
-    push_row(waiting, k * 32, row);
+    make_room(sink, buffer, ROW_ROOM)?;
+    push_row(buffer, k * ROW_BYTES as u32, row);
     Ok(())
 }
 
 /// Prints the rows of a memory, in order.
 fn print_image<K: Sink>(
     sink: &mut K,
-    waiting: &mut Waiting,
+    buffer: &mut LineBuffer,
     bytes: &[u8],
 ) -> Result<(), WriteFailed>
     requires { length bytes.now ≤ 1048576 }
-    ensures done { OnOk result (Prints (K.held sink.old) waiting.old (K.held sink.new) waiting.new (image_lines bytes.now)) }
-    ensures part { OnErr result (GainsPart (K.held sink.old) (K.held sink.new) (waiting.old ++ image_lines bytes.now)) }
-    ensures cause { OnErr result (Rose (K.faults sink.old) (K.faults sink.new)) }
-    ensures clean { OnOk result (K.faults sink.new ≡ K.faults sink.old) }
+    ensures printed { IsPrinted result (K.held sink.old) (K.held sink.new) (K.faults sink.old) (K.faults sink.new) buffer.old buffer.new (image_lines bytes.now) }
 {
-    for k in 0..bytes.len() / 32 {
-        print_row(sink, waiting, k as u32, &bytes[k * 32..k * 32 + 32])?;
+    for k in 0..bytes.len() / ROW_BYTES {
+        print_row(
+            sink,
+            buffer,
+            k as u32,
+            &bytes[k * ROW_BYTES..k * ROW_BYTES + ROW_BYTES],
+        )?;
     }
     Ok(())
 }
@@ -194,91 +190,77 @@ fn print_image<K: Sink>(
 /// Prints the line of the host.
 fn print_host_line<K: Sink>(
     sink: &mut K,
-    waiting: &mut Waiting,
+    buffer: &mut LineBuffer,
     count: usize,
 ) -> Result<(), WriteFailed>
-    ensures done { OnOk result (Prints (K.held sink.old) waiting.old (K.held sink.new) waiting.new (host_front count)) }
-    ensures part { OnErr result (GainsPart (K.held sink.old) (K.held sink.new) (waiting.old ++ host_front count)) }
-    ensures cause { OnErr result (Rose (K.faults sink.old) (K.faults sink.new)) }
-    ensures clean { OnOk result (K.faults sink.new ≡ K.faults sink.old) }
+    ensures printed { IsPrinted result (K.held sink.old) (K.held sink.new) (K.faults sink.old) (K.faults sink.new) buffer.old buffer.new (host_line count) }
 {
-    make_room(sink, waiting, 64)?;
-    push_host(waiting, count);
+    make_room(sink, buffer, FRONT_ROOM)?;
+    push_host(buffer, count);
     Ok(())
 }
 
 /// Prints the host and its transactions.
 fn print_host<K: Sink>(
     sink: &mut K,
-    waiting: &mut Waiting,
+    buffer: &mut LineBuffer,
     outcomes: &Outcomes,
 ) -> Result<(), WriteFailed>
-    ensures done { OnOk result (Prints (K.held sink.old) waiting.old (K.held sink.new) waiting.new (host_front (length outcomes.now.outcomes) ++ flat_map (λ p. outcome_line p.0 p.1) (enumerate_from 0 outcomes.now.outcomes))) }
-    ensures part { OnErr result (GainsPart (K.held sink.old) (K.held sink.new) (waiting.old ++ (host_front (length outcomes.now.outcomes) ++ flat_map (λ p. outcome_line p.0 p.1) (enumerate_from 0 outcomes.now.outcomes)))) }
-    ensures cause { OnErr result (Rose (K.faults sink.old) (K.faults sink.new)) }
-    ensures clean { OnOk result (K.faults sink.new ≡ K.faults sink.old) }
+    ensures printed { IsPrinted result (K.held sink.old) (K.held sink.new) (K.faults sink.old) (K.faults sink.new) buffer.old buffer.new (host_line (length outcomes.now.outcomes) ++ flat_map (λ p. outcome_line p.0 p.1) (enumerate_from 0 outcomes.now.outcomes)) }
 {
-    print_host_line(sink, waiting, outcomes.len())?;
-    print_outcomes(sink, waiting, outcomes)
+    print_host_line(sink, buffer, outcomes.len())?;
+    print_outcomes(sink, buffer, outcomes)
 }
 
 /// Prints the memory.
 fn print_memory<K: Sink>(
     sink: &mut K,
-    waiting: &mut Waiting,
+    buffer: &mut LineBuffer,
     bytes: &[u8],
 ) -> Result<(), WriteFailed>
     requires { length bytes.now ≤ 1048576 }
-    ensures done { OnOk result (Prints (K.held sink.old) waiting.old (K.held sink.new) waiting.new (device_front ++ image_lines bytes.now)) }
-    ensures part { OnErr result (GainsPart (K.held sink.old) (K.held sink.new) (waiting.old ++ (device_front ++ image_lines bytes.now))) }
-    ensures cause { OnErr result (Rose (K.faults sink.old) (K.faults sink.new)) }
-    ensures clean { OnOk result (K.faults sink.new ≡ K.faults sink.old) }
+    ensures printed { IsPrinted result (K.held sink.old) (K.held sink.new) (K.faults sink.old) (K.faults sink.new) buffer.old buffer.new (device_line ++ image_lines bytes.now) }
 {
-    print(sink, waiting, device_line())?;
-    print_image(sink, waiting, bytes)
+    print(sink, buffer, memory_line())?;
+    print_image(sink, buffer, bytes)
 }
 
 /// Prints the last line.
-fn print_end<K: Sink>(sink: &mut K, waiting: &mut Waiting) -> Result<(), WriteFailed>
-    ensures done { OnOk result (Prints (K.held sink.old) waiting.old (K.held sink.new) waiting.new last_line) }
-    ensures empty { OnOk result (waiting.new ≡ []) }
-    ensures part { OnErr result (GainsPart (K.held sink.old) (K.held sink.new) (waiting.old ++ last_line)) }
-    ensures cause { OnErr result (Rose (K.faults sink.old) (K.faults sink.new)) }
-    ensures clean { OnOk result (K.faults sink.new ≡ K.faults sink.old) }
+fn print_end<K: Sink>(sink: &mut K, buffer: &mut LineBuffer) -> Result<(), WriteFailed>
+    ensures printed { IsPrinted result (K.held sink.old) (K.held sink.new) (K.faults sink.old) (K.faults sink.new) buffer.old buffer.new last_line }
+    ensures empty { OnOk result (buffer.new ≡ []) }
 {
-    print(sink, waiting, end_line())?;
-    flush(sink, waiting)
+    print(sink, buffer, end_line())?;
+    flush(sink, buffer)
 }
 
 /// Prints the memory and the last line.
-fn print_tail<K: Sink>(sink: &mut K, waiting: &mut Waiting, bytes: &[u8]) -> Result<(), WriteFailed>
+fn print_tail<K: Sink>(
+    sink: &mut K,
+    buffer: &mut LineBuffer,
+    bytes: &[u8],
+) -> Result<(), WriteFailed>
     requires { length bytes.now ≤ 1048576 }
-    ensures done { OnOk result (Prints (K.held sink.old) waiting.old (K.held sink.new) waiting.new ((device_front ++ image_lines bytes.now) ++ last_line)) }
-    ensures empty { OnOk result (waiting.new ≡ []) }
-    ensures part { OnErr result (GainsPart (K.held sink.old) (K.held sink.new) (waiting.old ++ ((device_front ++ image_lines bytes.now) ++ last_line))) }
-    ensures cause { OnErr result (Rose (K.faults sink.old) (K.faults sink.new)) }
-    ensures clean { OnOk result (K.faults sink.new ≡ K.faults sink.old) }
+    ensures printed { IsPrinted result (K.held sink.old) (K.held sink.new) (K.faults sink.old) (K.faults sink.new) buffer.old buffer.new ((device_line ++ image_lines bytes.now) ++ last_line) }
+    ensures empty { OnOk result (buffer.new ≡ []) }
 {
-    print_memory(sink, waiting, bytes)?;
-    print_end(sink, waiting)
+    print_memory(sink, buffer, bytes)?;
+    print_end(sink, buffer)
 }
 
 /// Prints all but the first line.
 fn print_lines<K: Sink>(
     sink: &mut K,
-    waiting: &mut Waiting,
+    buffer: &mut LineBuffer,
     outcomes: &Outcomes,
     bytes: &[u8],
 ) -> Result<(), WriteFailed>
     requires { length bytes.now ≤ 1048576 }
-    ensures done { OnOk result (Prints (K.held sink.old) waiting.old (K.held sink.new) waiting.new (lines_text outcomes.now.outcomes bytes.now)) }
-    ensures empty { OnOk result (waiting.new ≡ []) }
-    ensures part { OnErr result (GainsPart (K.held sink.old) (K.held sink.new) (waiting.old ++ lines_text outcomes.now.outcomes bytes.now)) }
-    ensures cause { OnErr result (Rose (K.faults sink.old) (K.faults sink.new)) }
-    ensures clean { OnOk result (K.faults sink.new ≡ K.faults sink.old) }
+    ensures printed { IsPrinted result (K.held sink.old) (K.held sink.new) (K.faults sink.old) (K.faults sink.new) buffer.old buffer.new (lines_text outcomes.now.outcomes bytes.now) }
+    ensures empty { OnOk result (buffer.new ≡ []) }
 {
-    print_host(sink, waiting, outcomes)?;
-    print_tail(sink, waiting, bytes)
+    print_host(sink, buffer, outcomes)?;
+    print_tail(sink, buffer, bytes)
 }
 
 /// Prints the report of a script: what became of its transactions, and the bytes of its memory.
@@ -294,14 +276,14 @@ pub fn print_report<K: Sink>(
     ensures cause { OnErr result (Rose (K.faults sink.old) (K.faults sink.new)) }
     ensures clean { OnOk result (K.faults sink.new ≡ K.faults sink.old) }
 {
-    let mut waiting = Waiting::new();
-    print(sink, &mut waiting, title())?;
-    print_lines(sink, &mut waiting, outcomes, bytes)
+    let mut buffer = LineBuffer::new();
+    print(sink, &mut buffer, title())?;
+    print_lines(sink, &mut buffer, outcomes, bytes)
 }
 
-#[tactic(auto, unfolding(crate::specs::Texts::device_front))]
-fn device_line() -> &'static [u8]
-    ensures text { result.now ≡ device_front }
+#[tactic(auto, unfolding(crate::specs::Texts::device_line))]
+fn memory_line() -> &'static [u8]
+    ensures text { result.now ≡ device_line }
     ensures short { length result.now ≤ 16 }
 {
     b"device mem 16\n"

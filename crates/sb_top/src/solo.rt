@@ -10,21 +10,29 @@ ghost use Rattle.sb_packet.specs.Memories.{memory_after};
 ghost use Rattle.sb_packet.specs.Networks.{has_address};
 ghost use Rattle.sb_packet.specs.Outcomes.{code_numbered, outcome_of};
 ghost use Rattle.sb_packet.specs.Scripts.{transaction_accesses, IsTransaction};
-ghost use Rattle.sb_packet.specs.Solo.{IsSoloJournal, solo_device, solo_host};
+ghost use Rattle.sb_packet.specs.Solo.{IsSoloJournal, aimed_packets, solo_device, solo_host};
 ghost use Rattle.sb_packet.specs.SoloRuns.{solo_answers, solo_memory_from, solo_opening, solo_outcomes_from, solo_step};
 ghost use Rattle.sb_mem.specs.AnswerPackets.{IsInRange};
-ghost use Rattle.sb_top.specs.Steps.{answer_room_in, answer_room_of, entries_in, entries_of, found, lost_outcome, packet_answers, packets_at, state_by, IsFirstRound};
+ghost use Rattle.sb_top.specs.Steps.{answer_room_in, answer_room_of, entries_in, entries_of, found, lost_outcome, packet_answers, state_by, IsFirstRound};
 
 use crate::outcomes::Outcomes;
 use sb_mem::Memory;
-use sb_packet::{Code, Entry, Journal, Kind, Packet, Txn, TxnState, carried, packet_of, packets};
+use sb_packet::{
+    BODY_BYTES, Code, Entry, Journal, Kind, PAGE_BYTES, Packet, Txn, TxnState, carried, packet_of,
+    packets, words_span,
+};
 use std::alloc::{AllocError, Global};
+
+/// The pages of the memory, which begins at address 0.
+const PAGES: u32 = 16;
+
+const MEMORY_BYTES: u64 = PAGES as u64 * PAGE_BYTES;
 
 /// Whether a transaction is aimed at the memory.
 fn is_aimed(txn: &Txn) -> bool
     ensures { result ≡ has_address txn.now.addr solo_device }
 {
-    txn.addr < 16 * 4096
+    txn.addr < MEMORY_BYTES
 }
 
 /// Steps the memory by a packet, and keeps the bytes of its answer. It gives the answer's code, and 0 where there is none.
@@ -63,12 +71,12 @@ fn step(memory: &mut Memory, journal: &mut Journal, outcomes: &mut Outcomes, pac
 }
 
 /// How many bytes a transaction speaks of.
-fn span_of(txn: &Txn) -> usize
+fn transaction_span(txn: &Txn) -> usize
     requires { IsTransaction txn.now }
     ensures span { result ≡ txn.now.count * 2 ^ txn.now.size }
     ensures short { result ≤ 2048 }
 {
-    (txn.count as usize) << txn.size
+    words_span(txn.size, u32::from(txn.count)) as usize
 }
 
 /// A transaction that is aimed at no device is answered with zeros, or dropped where it is posted.
@@ -87,7 +95,7 @@ fn lose(outcomes: &mut Outcomes, txn: &Txn)
         Kind::Posted => outcomes.finish(TxnState::Posted),
         Kind::Write => outcomes.finish(lost),
         Kind::Read | Kind::Atomic(_) => {
-            outcomes.add_zeros(span_of(txn));
+            outcomes.add_zeros(transaction_span(txn));
             outcomes.finish(lost);
         }
     }
@@ -138,10 +146,10 @@ fn issue(memory: &mut Memory, journal: &mut Journal, outcomes: &mut Outcomes, in
     ensures rows { outcomes.new.spare_rows ≡ outcomes.old.spare_rows - 1 }
     ensures room { outcomes.old.spare_bytes ≤ outcomes.new.spare_bytes + 32 * length (transaction_packets (solo_host []) 0 txn.now) }
 {
-    let count = packets(txn, 32);
+    let count = packets(txn, BODY_BYTES as u8);
     let mut code = 0;
     for k in 0..count {
-        let packet = packet_of(0, 0, 0, index, txn, 32, k);
+        let packet = packet_of(0, 0, 0, index, txn, BODY_BYTES as u8, k);
         code = step(memory, journal, outcomes, &packet).max(code);
     }
     outcomes.finish(state_of(txn.kind, code));
@@ -167,7 +175,7 @@ fn perform(
     ensures memory { memory.new ≡ solo_step [] index memory.old txn.now }
     ensures base { memory.new.base ≡ 0 }
     ensures size { length memory.new.bytes ≡ 65536 }
-    ensures packets { map (λ e. message_of e.packet) journal.new.entries ≡ map (λ e. message_of e.packet) journal.old.entries ++ packets_at index txn.now }
+    ensures packets { map (λ e. message_of e.packet) journal.new.entries ≡ map (λ e. message_of e.packet) journal.old.entries ++ aimed_packets [] index txn.now }
     ensures first { All IsFirstRound journal.new.entries }
     ensures spare { journal.old.spare ≡ journal.new.spare + entries_of txn.now }
     ensures outcomes { outcomes.new.outcomes ≡ outcomes.old.outcomes ++ outcome_of txn.now.kind (solo_answers [] index memory.old txn.now) ∷ [] }
@@ -200,15 +208,15 @@ fn room_of(txn: &Txn) -> Room
     ensures short { result.bytes ≤ 2048 }
 {
     if is_aimed(txn) {
-        let entries = packets(txn, 32);
+        let entries = packets(txn, BODY_BYTES as u8);
         Room {
             entries,
-            bytes: 32 * entries as usize,
+            bytes: BODY_BYTES * entries as usize,
         }
     } else {
         Room {
             entries: 0,
-            bytes: span_of(txn),
+            bytes: transaction_span(txn),
         }
     }
 }
@@ -245,7 +253,7 @@ fn new_memory(alloc: Global) -> Result<Memory, AllocError>
     ensures base { IfOk result (λ m. m.base ≡ 0) }
     ensures size { IfOk result (λ m. length m.bytes ≡ 65536) }
 {
-    Memory::new(alloc, 0, 16, false, &[])
+    Memory::new(alloc, 0, PAGES, false, &[])
 }
 
 /// Runs a script against a new memory. It takes all its memory before the first step; where some is missing, the journal

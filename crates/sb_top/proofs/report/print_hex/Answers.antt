@@ -1,5 +1,5 @@
 -- Up to 32 bytes more add their digits to those printed; where the sink fails, a first part of all digits was written.
-use Rattle.std.proofs.Common.{◌≤◌, ◌+◌, ◌∙◌, length, arith, refl}
+use Rattle.std.proofs.Common.{rules, ◌≤◌, ◌+◌, ◌∙◌, length, arith, refl}
 use Rattle.sb_top.proofs.OutputLemmas.{on_err}
 use Rattle.sb_top.proofs.PrintLemmas.{hex_nothing, hex_more, hex_part}
 use Rattle.sb_top.proofs.report.print_hex.Goals as goal
@@ -7,18 +7,25 @@ use Rattle.sb_top.proofs.report.print_hex.Goals as goal
 pub loop-at-init : goal.loop-at-init
 loop-at-init g c = record {
   within = omega arith;
-  printed = hex_nothing (g.K.Sink.held c.args.sink.now) c.args.waiting.now c.args.bytes.now;
+  printed = hex_nothing (g.K.Sink.held c.args.sink.now) c.args.buffer.now c.args.bytes.now;
   clean = refl;
 }
 
-pub returns-in_err-print_digits-clause-part : goal.returns-in_err-print_digits-clause-part
-returns-in_err-print_digits-clause-part g c =
+pub returns-in_err-print_digits : goal.returns-in_err-print_digits
+returns-in_err-print_digits g c =
     let within : c.loop-at.at + c.min-count.result ≤ length c.args.bytes.now = omega arith in
-    on_err _ _ (hex_part _ _ _ _ _ c.args.bytes.now c.loop-at.at c.min-count.result within c.loop-at.invariant.printed c.in_err-print_digits.ensures.part)
+    record {
+      printed = record {
+        done = search rules;
+        part = on_err _ _ (hex_part _ _ _ _ _ c.args.bytes.now c.loop-at.at c.min-count.result within c.loop-at.invariant.printed c.in_err-print_digits.ensures.printed.part);
+        cause = search rules;
+        clean = search rules;
+      };
+    }
 
 pub loop-at-preserved : goal.loop-at-preserved
 loop-at-preserved g c = record {
   within = omega arith;
-  printed = hex_more _ _ _ _ _ _ c.args.bytes.now c.loop-at.at c.min-count.result c.loop-at.invariant.printed c.in_ok-print_digits.ensures.done;
-  clean = c.in_ok-print_digits.ensures.clean ∙ c.loop-at.invariant.clean;
+  printed = hex_more _ _ _ _ _ _ c.args.bytes.now c.loop-at.at c.min-count.result c.loop-at.invariant.printed c.in_ok-print_digits.ensures.printed.done;
+  clean = c.in_ok-print_digits.ensures.printed.clean ∙ c.loop-at.invariant.clean;
 }

@@ -7,7 +7,7 @@ use Rattle.sb_top.proofs.report.print_hex.Given as goal
 abbrev pub invariant-loop-at : goal.invariant-loop-at
 invariant-loop-at g l = record {
   within : l.at ≤ length l.bytes;
-  printed : Prints (g.K.Sink.held l.fn.sink) l.fn.waiting (g.K.Sink.held l.sink) l.waiting (encode_lower (take l.at l.bytes));
+  printed : Prints (g.K.Sink.held l.fn.sink) l.fn.buffer (g.K.Sink.held l.sink) l.buffer (encode_lower (take l.at l.bytes));
   clean : g.K.Sink.faults l.sink ≡ g.K.Sink.faults l.fn.sink;
 }
 

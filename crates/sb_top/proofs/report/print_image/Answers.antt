@@ -1,5 +1,5 @@
 -- One row more adds its line, and all rows are the image's lines; where the sink fails, a first part of these was written.
-use Rattle.std.proofs.Common.{◌≡◌, ◌≤◌, ◌<◌, ◌+◌, ◌-◌, ◌*◌, ◌/◌, ◌∙◌, ℕ, List, [], ap, sym, length, take, drop, get_or, arith}
+use Rattle.std.proofs.Common.{rules, ◌≡◌, ◌≤◌, ◌<◌, ◌+◌, ◌-◌, ◌*◌, ◌/◌, ◌∙◌, ℕ, List, [], ap, sym, length, take, drop, get_or, arith}
 use Rattle.sb_packet.specs.Reports.{row_line, image_rows}
 use Rattle.sb_top.proofs.IndexedLemmas.{line_more, line_part, lines_all, length-image_rows, image_row_at}
 use Rattle.sb_top.proofs.OutputLemmas.{on_err}
@@ -11,14 +11,21 @@ row_is n k bytes below =
     let wide : k * 32 + 32 - k * 32 ≡ 32 = omega arith in
     ap (row_line k) (ap (λ (m : ℕ). take m (drop (k * 32) bytes)) wide ∙ sym (image_row_at n k bytes below))
 
-pub returns-in_err-print_row-clause-part : goal.returns-in_err-print_row-clause-part
-returns-in_err-print_row-clause-part g c =
+pub returns-in_err-print_row : goal.returns-in_err-print_row
+returns-in_err-print_row g c =
     let bytes = c.args.bytes.now in
     let n = length bytes / 32 in
     let k = c.loop-k.k in
     let inside : k < n = omega arith in
     let below : k < length (image_rows n bytes) = rw length-image_rows inside in
-    on_err _ _ (line_part row_line _ _ _ _ _ _ (image_rows n bytes) k [] below (row_is n k bytes inside) c.loop-k.invariant.printed c.in_err-print_row.ensures.part)
+    record {
+      printed = record {
+        done = search rules;
+        part = on_err _ _ (line_part row_line _ _ _ _ _ _ (image_rows n bytes) k [] below (row_is n k bytes inside) c.loop-k.invariant.printed c.in_err-print_row.ensures.printed.part);
+        cause = search rules;
+        clean = search rules;
+      };
+    }
 
 pub loop-k-preserved : goal.loop-k-preserved
 loop-k-preserved g c =
@@ -28,13 +35,20 @@ loop-k-preserved g c =
     let inside : k < n = omega arith in
     let below : k < length (image_rows n bytes) = rw length-image_rows inside in
     record {
-      printed = line_more row_line _ _ _ _ _ _ _ (image_rows n bytes) k [] below (row_is n k bytes inside) c.loop-k.invariant.printed c.in_ok-print_row.ensures.done;
-      clean = c.in_ok-print_row.ensures.clean ∙ c.loop-k.invariant.clean;
+      printed = line_more row_line _ _ _ _ _ _ _ (image_rows n bytes) k [] below (row_is n k bytes inside) c.loop-k.invariant.printed c.in_ok-print_row.ensures.printed.done;
+      clean = c.in_ok-print_row.ensures.printed.clean ∙ c.loop-k.invariant.clean;
     }
 
-pub returns-clause-done : goal.returns-clause-done
-returns-clause-done g c =
+pub returns : goal.returns
+returns g c =
     let bytes = c.args.bytes.now in
     let n = length bytes / 32 in
     let all : length (image_rows n bytes) ≤ c.loop-k.k = rw length-image_rows (omega arith) in
-    lines_all row_line _ _ _ _ (image_rows n bytes) c.loop-k.k all c.loop-k.invariant.printed
+    record {
+      printed = record {
+        done = lines_all row_line _ _ _ _ (image_rows n bytes) c.loop-k.k all c.loop-k.invariant.printed;
+        part = tt;
+        cause = tt;
+        clean = c.loop-k.invariant.clean;
+      };
+    }

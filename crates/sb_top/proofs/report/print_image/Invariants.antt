@@ -7,6 +7,6 @@ use Rattle.sb_top.proofs.report.print_image.Given as goal
 
 abbrev pub invariant-loop-k : goal.invariant-loop-k
 invariant-loop-k g l = record {
-  printed : Prints (g.K.Sink.held l.fn.sink) l.fn.waiting (g.K.Sink.held l.sink) l.waiting (indexed row_line 0 (take l.k (image_rows (length l.bytes / 32) l.bytes)));
+  printed : Prints (g.K.Sink.held l.fn.sink) l.fn.buffer (g.K.Sink.held l.sink) l.buffer (indexed row_line 0 (take l.k (image_rows (length l.bytes / 32) l.bytes)));
   clean : g.K.Sink.faults l.sink ≡ g.K.Sink.faults l.fn.sink;
 }

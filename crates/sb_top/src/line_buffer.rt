@@ -14,12 +14,12 @@ pub const ROOM: usize = 8192;
 
 /// Bytes that wait, which contracts see as their list.
 #[derive(Drop)]
-pub struct Waiting {
+pub struct LineBuffer {
     bytes: [u8; ROOM],
     len: usize,
 }
 
-impl Model for Waiting {
+impl Model for LineBuffer {
     ghost use Rattle.std.specs.Prelude.{◌≡◌, ◌≤◌, ℕ, List, take, length};
 
     ghost Value = { List ℕ };
@@ -29,12 +29,12 @@ impl Model for Waiting {
     ghost invariant = { λ w. (w.len ≤ 8192) × (length w.bytes ≡ 8192) };
 }
 
-impl Waiting {
+impl LineBuffer {
     /// Nothing waits.
-    pub fn new() -> Waiting
+    pub fn new() -> LineBuffer
         ensures { result ≡ [] }
     {
-        Waiting {
+        LineBuffer {
             bytes: [0; ROOM],
             len: 0,
         }
@@ -86,33 +86,33 @@ impl Waiting {
 }
 
 /// Writes all that waits.
-pub fn flush<K: Sink>(sink: &mut K, waiting: &mut Waiting) -> Result<(), WriteFailed>
-    ensures done { OnOk result (Prints (K.held sink.old) waiting.old (K.held sink.new) waiting.new []) }
-    ensures empty { OnOk result (waiting.new ≡ []) }
-    ensures part { OnErr result (GainsPart (K.held sink.old) (K.held sink.new) waiting.old) }
+pub fn flush<K: Sink>(sink: &mut K, buffer: &mut LineBuffer) -> Result<(), WriteFailed>
+    ensures done { OnOk result (Prints (K.held sink.old) buffer.old (K.held sink.new) buffer.new []) }
+    ensures empty { OnOk result (buffer.new ≡ []) }
+    ensures part { OnErr result (GainsPart (K.held sink.old) (K.held sink.new) buffer.old) }
     ensures cause { OnErr result (Rose (K.faults sink.old) (K.faults sink.new)) }
     ensures clean { OnOk result (K.faults sink.new ≡ K.faults sink.old) }
 {
-    write_all(sink, waiting.as_slice())?;
-    waiting.clear();
+    write_all(sink, buffer.as_slice())?;
+    buffer.clear();
     Ok(())
 }
 
 /// Makes room for so many bytes, by writing what waits where there is too little.
 pub fn make_room<K: Sink>(
     sink: &mut K,
-    waiting: &mut Waiting,
+    buffer: &mut LineBuffer,
     space: usize,
 ) -> Result<(), WriteFailed>
     requires { space ≤ 8192 }
-    ensures done { OnOk result (Prints (K.held sink.old) waiting.old (K.held sink.new) waiting.new []) }
-    ensures room { OnOk result (length waiting.new + space ≤ 8192) }
-    ensures part { OnErr result (GainsPart (K.held sink.old) (K.held sink.new) waiting.old) }
+    ensures done { OnOk result (Prints (K.held sink.old) buffer.old (K.held sink.new) buffer.new []) }
+    ensures room { OnOk result (length buffer.new + space ≤ 8192) }
+    ensures part { OnErr result (GainsPart (K.held sink.old) (K.held sink.new) buffer.old) }
     ensures cause { OnErr result (Rose (K.faults sink.old) (K.faults sink.new)) }
     ensures clean { OnOk result (K.faults sink.new ≡ K.faults sink.old) }
 {
-    if waiting.len() + space > ROOM {
-        return flush(sink, waiting);
+    if buffer.len() + space > ROOM {
+        return flush(sink, buffer);
     }
     Ok(())
 }
