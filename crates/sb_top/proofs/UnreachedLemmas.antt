@@ -1,6 +1,6 @@
 -- What becomes of a transaction that is aimed at no device.
 use Rattle.std.proofs.Common.{◌≡◌, ◌<◌, ℕ, zero, suc, ◌+◌, ◌*◌, ◌^◌, List, [], ◌∷◌, ap, ◌∙◌, refl, arith, replicate, zero-mul}
-use Rattle.std.specs.Prelude.{Some, None, map}
+use Rattle.std.specs.Prelude.{Some, None, map, filter_map}
 use Rattle.std.specs.List.{range_with_len}
 use Rattle.std.proofs.lemmas.List.{replicate-append-replicate}
 use Rattle.sb_word.specs.declared.command.Op.{Op}
@@ -17,7 +17,11 @@ use Rattle.sb_packet.specs.declared.transaction.Kind.TheVariants as kinds
 use Rattle.sb_packet.specs.declared.transaction.Txn.{Txn}
 use Rattle.sb_packet.specs.declared.transaction.TxnState.TheVariants.{Answered}
 use Rattle.sb_packet.proofs.JoinedAnswers.{answer_code-append}
-use Rattle.sb_top.specs.Steps.{unreached, lost_outcome}
+use Rattle.sb_top.specs.Steps.{lost_outcome}
+
+-- the answers that some accesses have from no device
+abbrev unreached : List Access → List Access
+unreached list = filter_map (λ a. unreached_by a.op a) list
 
 answers_made : (f g : ℕ → Access) → ((j : ℕ) → unreached_by (f j).op (f j) ≡ Some (g j)) → (a k : ℕ) → unreached (map f (range_with_len a k)) ≡ map g (range_with_len a k)
 answers_made f g gives a zero = refl

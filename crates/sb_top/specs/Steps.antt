@@ -3,7 +3,6 @@ use Rattle.std.specs.Prelude.{ℕ, ◌≡◌, ◌+◌, ◌*◌, ◌^◌, List, [
 use Rattle.sb_packet.specs.Accesses.{Access, accesses_of}
 use Rattle.sb_packet.specs.Memories.{MemoryState, answers_in}
 use Rattle.sb_packet.specs.Networks.{has_address}
-use Rattle.sb_packet.specs.Answers.{unreached_by}
 use Rattle.sb_packet.specs.Outcomes.{Outcome, code_numbered}
 use Rattle.sb_packet.specs.Cuts.{transaction_packets}
 use Rattle.sb_packet.specs.Solo.{solo_device, solo_host}
@@ -23,10 +22,6 @@ found m list = filter_map (λ a. a) (answers_in m list)
 -- the answers to the words of a packet, in order
 abbrev pub packet_answers : MemoryState → Packet → List Access
 packet_answers m p = found m (accesses_of p)
-
--- the answers that no device gives to some accesses
-abbrev pub unreached : List Access → List Access
-unreached list = filter_map (λ a. unreached_by a.op a) list
 
 -- an entry of the one memory, in the one round
 pub record IsFirstRound (e : Entry) : Type 0 where
