@@ -7,10 +7,13 @@ ghost use Rattle.sb_packet.specs.Names.{begins_with_letter as letter_first, is_l
 use crate::padding::padded;
 use std::marker::Model;
 
+/// The most bytes that a name has.
+const MOST_BYTES: usize = 16;
+
 /// A name of 1 to 16 of `a` to `z`, `0` to `9` and `_`, a letter first. Contracts see it as the list of its bytes.
 #[derive(Clone, Copy, Debug, PartialEq, Eq)]
 pub struct Name {
-    text: [u8; 16],
+    text: [u8; MOST_BYTES],
     len: u8,
 }
 

@@ -13,6 +13,12 @@ use crate::spans::words_span;
 use crate::transaction::{Kind, Txn};
 use sb_word::{Cmd, Op};
 
+/// The addresses to which the answers to one host go.
+const HOST_ADDRESSES: u64 = 1 << 40;
+
+/// Those to which the answers to one transaction go.
+const TRANSACTION_ADDRESSES: u64 = 1 << 11;
+
 /// How many packets a transaction is, 1 to 64, where none speaks of more than `limit` bytes, which is 32. It takes no
 /// memory.
 pub fn packets(txn: &Txn, limit: u8) -> u32
@@ -111,7 +117,7 @@ fn first_reply_address(id: u8, index: u32) -> u64
     requires index { index < 65536 }
     ensures { result ≡ reply_address id index }
 {
-    u64::from(id) * (1 << 40) + u64::from(index) * (1 << 11)
+    u64::from(id) * HOST_ADDRESSES + u64::from(index) * TRANSACTION_ADDRESSES
 }
 
 /// What a transaction carries between two places of its bytes: nothing where it is a read.
