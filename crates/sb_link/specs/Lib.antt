@@ -5,3 +5,4 @@ pub mod Told
 pub mod Hands
 pub mod Shelves
 pub mod InTurn
+pub mod Moves
