@@ -6,6 +6,8 @@ mod outbox;
 mod port;
 mod port_turn;
 mod sound;
+#[cfg(test)]
+mod tests;
 
 pub use leg::{InLeg, OutLeg};
 pub use outbox::Outbox;
