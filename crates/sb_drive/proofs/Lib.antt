@@ -1,0 +1,4 @@
+pub mod Places
+pub mod Turned
+pub mod Ended
+pub mod OrderExamples
