@@ -1,0 +1,70 @@
+-- What stays of a node's ports and rings, whatever turns it takes: nothing is taken back.
+use Rattle.std.specs.Prelude.{◌≡◌, ◌≤◌, true, List, [], ◌++◌}
+use Rattle.std.proofs.Common.{refl, sym, ap, ◌∙◌, append_assoc, append-nil, arith}
+use Rattle.sb_packet.specs.Prefixes.{IsPrefix}
+use Rattle.sb_node.specs.Sides.{PortSide, RingSide, let_go, offered}
+
+-- a port is as it was, but for what it was offered, let go, sent and learnt since
+pub record IsKeptPort (before after : PortSide) : Type 0 where
+  pub plan : after.plan ≡ before.plan
+  pub mark : after.mark ≡ before.mark
+  pub offered_more : IsPrefix (offered before) (offered after)
+  pub let_more_go : IsPrefix (let_go before) (let_go after)
+  pub sent_more : IsPrefix before.sent after.sent
+  pub learnt : before.taken ≤ after.taken
+  pub still_told : before.told ≡ true → after.told ≡ true
+
+-- a ring is as it was, but for what was received and learnt since
+pub record IsKeptRing (before after : RingSide) : Type 0 where
+  pub plan : after.plan ≡ before.plan
+  pub mark : after.mark ≡ before.mark
+  pub received_more : IsPrefix before.received after.received
+  pub learnt : before.known ≤ after.known
+
+-- a list begins itself
+pub begins_itself : {A : Type 0} (xs : List A) → IsPrefix xs xs
+begins_itself xs = record { rest = []; joined = append-nil xs }
+
+-- what begins a beginning of a list begins the list
+pub begins_further : {A : Type 0} {xs ys zs : List A} → IsPrefix xs ys → IsPrefix ys zs → IsPrefix xs zs
+begins_further {A} {xs} {ys} {zs} p q = record {
+  rest = p.rest ++ q.rest;
+  joined = sym (append_assoc xs p.rest q.rest) ∙ ap (λ list. list ++ q.rest) p.joined ∙ q.joined;
+}
+
+-- nothing happened to a port
+pub kept_port_same : (port : PortSide) → IsKeptPort port port
+kept_port_same port = record {
+  plan = refl;
+  mark = refl;
+  offered_more = begins_itself (offered port);
+  let_more_go = begins_itself (let_go port);
+  sent_more = begins_itself port.sent;
+  learnt = omega arith;
+  still_told = λ told. told;
+}
+
+-- one thing after another happened to a port
+pub kept_port_then : {x y z : PortSide} → IsKeptPort x y → IsKeptPort y z → IsKeptPort x z
+kept_port_then {x} {y} {z} a b = record {
+  plan = b.plan ∙ a.plan;
+  mark = b.mark ∙ a.mark;
+  offered_more = begins_further a.offered_more b.offered_more;
+  let_more_go = begins_further a.let_more_go b.let_more_go;
+  sent_more = begins_further a.sent_more b.sent_more;
+  learnt = let first = a.learnt in let second = b.learnt in omega (arith, first, second);
+  still_told = λ told. b.still_told (a.still_told told);
+}
+
+-- nothing happened to a ring
+pub kept_ring_same : (ring : RingSide) → IsKeptRing ring ring
+kept_ring_same ring = record { plan = refl; mark = refl; received_more = begins_itself ring.received; learnt = omega arith }
+
+-- one thing after another happened to a ring
+pub kept_ring_then : {x y z : RingSide} → IsKeptRing x y → IsKeptRing y z → IsKeptRing x z
+kept_ring_then {x} {y} {z} a b = record {
+  plan = b.plan ∙ a.plan;
+  mark = b.mark ∙ a.mark;
+  received_more = begins_further a.received_more b.received_more;
+  learnt = let first = a.learnt in let second = b.learnt in omega (arith, first, second);
+}

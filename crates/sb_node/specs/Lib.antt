@@ -1,0 +1,5 @@
+pub mod Sides
+pub mod Kept
+pub mod Turns
+pub mod Idle
+pub mod Found
