@@ -1,18 +1,19 @@
 -- What stays of a node's ports and rings, whatever turns it takes: nothing is taken back.
-use Rattle.std.specs.Prelude.{◌≡◌, ◌≤◌, true, List, [], ◌++◌}
+use Rattle.std.specs.Prelude.{◌≡◌, ◌≤◌, true, List, [], ◌++◌, Option, None, Some}
 use Rattle.std.proofs.Common.{refl, sym, ap, ◌∙◌, append_assoc, append-nil, arith}
 use Rattle.sb_packet.specs.Prefixes.{IsPrefix}
-use Rattle.sb_node.specs.Sides.{PortSide, RingSide, let_go, offered}
+use Rattle.sb_port.specs.Ports.{let_go}
+use Rattle.sb_node.specs.Sides.{PortSide, RingSide, offered_words}
 
 -- a port is as it was, but for what it was offered, let go, sent and learnt since
 pub record IsKeptPort (before after : PortSide) : Type 0 where
   pub plan : after.plan ≡ before.plan
   pub mark : after.mark ≡ before.mark
-  pub offered_more : IsPrefix (offered before) (offered after)
-  pub let_more_go : IsPrefix (let_go before) (let_go after)
-  pub sent_more : IsPrefix before.sent after.sent
+  pub offered_more : IsPrefix (offered_words before) (offered_words after)
+  pub let_more_go : IsPrefix (let_go before.state) (let_go after.state)
+  pub sent_more : IsPrefix before.state.sent after.state.sent
   pub learnt : before.taken ≤ after.taken
-  pub still_told : before.told ≡ true → after.told ≡ true
+  pub still_told : before.state.closing ≡ true → after.state.closing ≡ true
 
 -- a ring is as it was, but for what was received and learnt since
 pub record IsKeptRing (before after : RingSide) : Type 0 where
@@ -37,9 +38,9 @@ pub kept_port_same : (port : PortSide) → IsKeptPort port port
 kept_port_same port = record {
   plan = refl;
   mark = refl;
-  offered_more = begins_itself (offered port);
-  let_more_go = begins_itself (let_go port);
-  sent_more = begins_itself port.sent;
+  offered_more = begins_itself (offered_words port);
+  let_more_go = begins_itself (let_go port.state);
+  sent_more = begins_itself port.state.sent;
   learnt = omega arith;
   still_told = λ told. told;
 }
@@ -68,3 +69,24 @@ kept_ring_then {x} {y} {z} a b = record {
   received_more = begins_further a.received_more b.received_more;
   learnt = let first = a.learnt in let second = b.learnt in omega (arith, first, second);
 }
+
+-- What stands at a place of a node is kept so; an empty place stays empty.
+abbrev pub IsKeptAt : {A : Type 0} → (A → A → Type 0) → Option A → Option A → Type 0
+IsKeptAt kept None None = Unit {0}
+IsKeptAt kept None (Some y) = ⊥
+IsKeptAt kept (Some x) None = ⊥
+IsKeptAt kept (Some x) (Some y) = kept x y
+
+-- nothing happened at a place
+pub kept_at_same : {A : Type 0} (kept : A → A → Type 0) → ((x : A) → kept x x) → (place : Option A) → IsKeptAt kept place place
+kept_at_same kept same None = tt
+kept_at_same kept same (Some x) = same x
+
+-- one thing after another happened at a place
+pub kept_at_then : {A : Type 0} (kept : A → A → Type 0) → ((x y z : A) → kept x y → kept y z → kept x z) → (p q r : Option A) → IsKeptAt kept p q → IsKeptAt kept q r → IsKeptAt kept p r
+kept_at_then kept join None None None a b = tt
+kept_at_then kept join None None (Some z) a b = absurd b
+kept_at_then kept join None (Some y) r a b = absurd a
+kept_at_then kept join (Some x) None r a b = absurd a
+kept_at_then kept join (Some x) (Some y) None a b = absurd b
+kept_at_then kept join (Some x) (Some y) (Some z) a b = join x y z a b

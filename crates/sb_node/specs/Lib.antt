@@ -3,3 +3,4 @@ pub mod Kept
 pub mod Turns
 pub mod Idle
 pub mod Found
+pub mod Steps

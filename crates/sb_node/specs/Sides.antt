@@ -1,24 +1,25 @@
 -- What a node has of its rings: of those that it sends on, and of those that it receives from.
-use Rattle.std.specs.Prelude.{ℕ, ◌+◌, Bool, true, false, ◌&&◌, ◌==◌, not, List, [], ◌∷◌, ◌++◌, length}
+use Rattle.std.specs.Prelude.{ℕ, ◌+◌, Bool, ◌&&◌, ◌||◌, ◌==◌, List, [], ◌∷◌, length, Option, None, Some, is_some}
 use Rattle.std.specs.List.{sum_by, list_all}
 use Rattle.sb_link.specs.Ends.{Mark}
+use Rattle.sb_link.specs.declared.ends.RxEnd as rx
+use Rattle.sb_link.specs.declared.ends.TxEnd as tx
 use Rattle.sb_packet.specs.Plans.{RingPlan}
 use Rattle.sb_packet.specs.Accesses.{Access}
 use Rattle.sb_packet.specs.Traffic.{item_accesses, has_close}
 use Rattle.sb_packet.specs.declared.item.Item.{Item}
+use Rattle.sb_port.specs.Ports.{PortState, port_accesses, let_go, owes}
+use Rattle.sb_port.specs.StateOf.{state_of}
+use Rattle.sb_port.specs.declared.port.OutPort.{OutPort}
 
--- a port of a node
+-- a port of a node, with what its end knows
 pub record PortSide : Type 0 where
   pub plan : RingPlan
   pub mark : Mark
-  -- the items that were sent, those that are to be sent, and the words that wait to be merged with later ones
-  pub sent : List Item
-  pub owed : List Item
-  pub merging : List Access
   -- how many items it has learnt to have been taken
   pub taken : ℕ
-  -- it was told to close
-  pub told : Bool
+  -- what was sent, what is to be sent, and whether it was told to close
+  pub state : PortState
 
 -- a ring that comes into a node
 pub record RingSide : Type 0 where
@@ -28,30 +29,25 @@ pub record RingSide : Type 0 where
   -- how many items it has learnt to have been sent
   pub known : ℕ
 
--- no item of a list
-abbrev pub is_nothing : {A : Type 0} → List A → Bool
-is_nothing [] = true
-is_nothing (x ∷ rest) = false
+-- a port as its node has it
+abbrev pub port_side : {T : Type 0} → tx.Ghosts T → OutPort T → PortSide
+port_side end port = record { plan = end.planned port.tx; mark = end.mark port.tx; taken = end.taken port.tx; state = state_of end.sent port }
 
--- the words that a port has let go: they were sent, or are to be sent
-abbrev pub let_go : PortSide → List Access
-let_go port = item_accesses port.sent ++ item_accesses port.owed
+-- the receiving end of a ring as its node has it
+abbrev pub ring_side : {U : Type 0} → rx.Ghosts U → U → RingSide
+ring_side end ring = record { plan = end.planned ring; mark = end.mark ring; received = end.received ring; known = end.known ring }
 
--- the words that a port was offered: it let them go, or they wait to be merged
-abbrev pub offered : PortSide → List Access
-offered port = let_go port ++ port.merging
+-- the words that a port was offered so far
+abbrev pub offered_words : PortSide → List Access
+offered_words port = port_accesses port.state
 
--- a port has something left to send
+-- a port has something left to send: it owes an item, or holds a message for merging
 abbrev pub has_rest : PortSide → Bool
-has_rest port = not (is_nothing port.owed && is_nothing port.merging)
+has_rest port = owes port.state || is_some port.state.waiting.held
 
 -- a port's ring is full, by what it has learnt
 abbrev pub is_full : PortSide → Bool
-is_full port = length port.sent == port.taken + port.plan.capacity
-
--- a port has sent its Close
-abbrev pub is_closed : PortSide → Bool
-is_closed port = has_close port.sent
+is_full port = length port.state.sent == port.taken + port.plan.capacity
 
 -- the words that came by a ring
 abbrev pub received_words : RingSide → List Access
@@ -65,14 +61,19 @@ is_drained ring = length ring.received == ring.known
 abbrev pub has_ended : RingSide → Bool
 has_ended ring = has_close ring.received
 
--- A node is done where all its rings have given Close, and all its ports have sent theirs.
+-- A node is done where all its ports have sent their Close, and all its rings have given theirs.
 abbrev pub is_done : List PortSide → List RingSide → Bool
-is_done ports rings = list_all is_closed ports && list_all has_ended rings
+is_done ports rings = list_all (λ port. port.state.shut) ports && list_all has_ended rings
 
--- how much a port did so far: the words that it was offered, those that it let go, and the items that it sent
+-- how much a port did so far: the words that it was offered, the messages that it let go, and the items that it sent
 abbrev pub port_moves : PortSide → ℕ
-port_moves port = length (offered port) + length (let_go port) + length port.sent
+port_moves port = length (offered_words port) + length (let_go port.state) + length port.state.sent
 
 -- How much went through a node so far: with what its ports did, the items that it popped.
 abbrev pub node_moves : List PortSide → List RingSide → ℕ
 node_moves ports rings = sum_by port_moves ports + sum_by (λ ring. length ring.received) rings
+
+-- what stands at a place, where it wasn't taken out
+abbrev pub present : {A : Type 0} → Option A → List A
+present None = []
+present (Some x) = x ∷ []

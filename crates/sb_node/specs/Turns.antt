@@ -14,7 +14,7 @@ first_cause (Some cause ∷ rest) = Some cause
 
 -- a port that has something left to send answered that its ring is full
 abbrev pub full_cause : PortSide → Option Cause
-full_cause port = if has_rest port then Some (causes.Full port.plan.ring (length port.sent) port.taken) else None
+full_cause port = if has_rest port then Some (causes.Full port.plan.ring (length port.state.sent) port.taken) else None
 
 -- a ring that hasn't given Close was empty
 abbrev pub empty_cause : RingSide → Option Cause

@@ -1,0 +1,68 @@
+-- What one turn of a port, or one pop, does to a node's side of it, and what the node finds by it.
+use Rattle.std.specs.Prelude.{◌≡◌, ◌<◌, ◌⊎◌, Bool, true, false, ◌∷◌, [], ◌++◌, length, Option, None, Some}
+use Rattle.sb_link.specs.declared.answers.Cause.TheVariants as causes
+use Rattle.sb_packet.specs.Accesses.{accesses_of}
+use Rattle.sb_packet.specs.Messages.{message_of}
+use Rattle.sb_packet.specs.Traffic.{MayFollow, MayPass}
+use Rattle.sb_packet.specs.declared.packet.Packet.{Packet}
+use Rattle.sb_packet.specs.declared.item.Item.{Item}
+use Rattle.sb_port.specs.Ports.{owes}
+use Rattle.sb_node.specs.Sides.{PortSide, RingSide, has_rest, is_full, is_drained, port_moves, offered_words}
+use Rattle.sb_node.specs.Found.{or_else}
+use Rattle.sb_node.specs.declared.findings.Findings.{Findings}
+
+-- a port sent an item, or let go what it held: the node moved
+pub record HasPortMoved (before after : PortSide) (found found_then : Findings) : Type 0 where
+  pub more : port_moves before < port_moves after
+  pub found_move : found_then ≡ record found { moved = true }
+
+-- a port that has something left to send found its ring full
+pub record IsPortFull (before after : PortSide) (found found_then : Findings) : Type 0 where
+  pub same : after.state ≡ before.state
+  pub rest : has_rest after ≡ true
+  pub full : is_full after ≡ true
+  pub found_full : found_then ≡ record found { full = or_else found.full (causes.Full after.plan.ring (length after.state.sent) after.taken) }
+
+-- a port had nothing to send: nothing at all, or what it holds waits for more
+pub record IsPortClear (more : Bool) (before after : PortSide) (found found_then : Findings) : Type 0 where
+  pub same : after.state ≡ before.state
+  pub ready : owes after.state ≡ false
+  pub rest : more ≡ false → has_rest after ≡ false
+  pub found_nothing : found_then ≡ found
+
+-- A port took its turn.
+abbrev pub IsPortTurned : Bool → PortSide → PortSide → Findings → Findings → Type 0
+IsPortTurned more before after found found_then =
+    HasPortMoved before after found found_then ⊎ (IsPortFull before after found found_then ⊎ IsPortClear more before after found found_then)
+
+-- an item was popped
+pub record IsItemPopped (before after : RingSide) (item : Item) (found found_then : Findings) : Type 0 where
+  pub lawful : MayFollow before.plan before.received item
+  pub received : after.received ≡ before.received ++ item ∷ []
+  pub found_move : found_then ≡ record found { moved = true }
+
+-- a ring was found empty
+pub record IsRingEmpty (before after : RingSide) (found found_then : Findings) : Type 0 where
+  pub same : after.received ≡ before.received
+  pub drained : is_drained after ≡ true
+  pub found_empty : found_then ≡ record found { empty = or_else found.empty (causes.Empty after.plan.ring (length after.received) after.known) }
+
+-- A ring was popped.
+abbrev pub IsRingPopped : RingSide → RingSide → Option Item → Findings → Findings → Type 0
+IsRingPopped before after (Some item) found found_then = IsItemPopped before after item found found_then
+IsRingPopped before after None found found_then = IsRingEmpty before after found found_then
+
+-- a packet passed, and a port was offered it
+pub record IsOffered (before after : PortSide) (packet : Packet) : Type 0 where
+  pub passes : MayPass before.plan (length (offered_words before)) (message_of packet)
+  pub words : offered_words after ≡ offered_words before ++ accesses_of packet
+  pub sent : after.state.sent ≡ before.state.sent
+
+-- a packet didn't pass, and was dropped
+pub record IsDropped (before after : PortSide) (packet : Packet) : Type 0 where
+  pub fails : MayPass before.plan (length (offered_words before)) (message_of packet) → ⊥
+  pub same : after ≡ before
+
+-- A packet was handed on to a port: it was offered where it passes, and dropped elsewhere.
+abbrev pub IsHandedOn : PortSide → PortSide → Packet → Type 0
+IsHandedOn before after packet = IsOffered before after packet ⊎ IsDropped before after packet

@@ -1,0 +1,64 @@
+//! What a node does with a port or a ring in its turn.
+
+ghost use Rattle.std.specs.Prelude.{◌≡◌, false};
+ghost use Rattle.sb_port.specs.Ports.{IsFit, owes, port_accesses};
+ghost use Rattle.sb_port.specs.StateOf.{state_of};
+ghost use Rattle.sb_node.specs.Sides.{port_side, ring_side};
+ghost use Rattle.sb_node.specs.Kept.{IsKeptPort, IsKeptRing};
+ghost use Rattle.sb_node.specs.Steps.{IsHandedOn, IsPortTurned, IsRingPopped};
+
+use crate::findings::Findings;
+use sb_link::{Pop, RxEnd, TxEnd};
+use sb_packet::{Item, Packet};
+use sb_port::{OutPort, PortTurn};
+
+/// Turns a port, and notes what it found. `more` says that the node popped or offered something in this turn, so that
+/// more may come. Takes no memory.
+pub fn turn_port<T: TxEnd>(port: &mut OutPort<T>, more: bool, found: &mut Findings)
+    requires fit { IsFit (T.planned port.old.tx) (state_of T.sent port.old) }
+    ensures turned { IsPortTurned more (port_side T.TxEnd port.old) (port_side T.TxEnd port.new) found.old found.new }
+    ensures kept { IsKeptPort (port_side T.TxEnd port.old) (port_side T.TxEnd port.new) }
+    ensures words { port_accesses (state_of T.sent port.new) ≡ port_accesses (state_of T.sent port.old) }
+    ensures told { port.new.closing ≡ port.old.closing }
+    ensures fit { IsFit (T.planned port.new.tx) (state_of T.sent port.new) }
+{
+    let ring = port.tx.plan().ring;
+    match port.turn(more) {
+        PortTurn::Moved => found.add_move(),
+        PortTurn::Full { sent, taken } => found.add_full(ring, sent, taken),
+        PortTurn::Clear => {}
+    }
+}
+
+/// Pops the next item of a ring, and notes what it found. Takes no memory.
+pub fn pop_ring<U: RxEnd>(ring: &mut U, found: &mut Findings) -> Option<Item>
+    ensures popped { IsRingPopped (ring_side U.RxEnd ring.old) (ring_side U.RxEnd ring.new) result found.old found.new }
+    ensures kept { IsKeptRing (ring_side U.RxEnd ring.old) (ring_side U.RxEnd ring.new) }
+{
+    let number = ring.plan().ring;
+    match ring.try_pop() {
+        Pop::Item(item) => {
+            found.add_move();
+            Some(item)
+        }
+        Pop::Empty { received, sent } => {
+            found.add_empty(number, received, sent);
+            None
+        }
+    }
+}
+
+/// Offers a packet to a port that is ready, where it passes, and drops it elsewhere. Takes no memory.
+pub fn hand_on<T: TxEnd>(port: &mut OutPort<T>, packet: &Packet)
+    requires fit { IsFit (T.planned port.old.tx) (state_of T.sent port.old) }
+    requires ready { owes (state_of T.sent port.old) ≡ false }
+    requires untold { port.old.closing ≡ false }
+    ensures handed { IsHandedOn (port_side T.TxEnd port.old) (port_side T.TxEnd port.new) packet.now }
+    ensures kept { IsKeptPort (port_side T.TxEnd port.old) (port_side T.TxEnd port.new) }
+    ensures told { port.new.closing ≡ false }
+    ensures fit { IsFit (T.planned port.new.tx) (state_of T.sent port.new) }
+{
+    if port.passes(packet) {
+        port.offer(packet);
+    }
+}
