@@ -5,7 +5,7 @@ ghost use Rattle.hex.specs.Hex.{encode_lower, lower_digits};
 ghost use Rattle.std.specs.Prelude.{slice_index};
 ghost use Rattle.sb_packet.specs.TextLines.{hex_number, text_line};
 ghost use Rattle.sb_packet.specs.Reports.{code_text, state_text};
-ghost use Rattle.sb_top.specs.Texts.{host_line, state_front};
+ghost use Rattle.sb_top.specs.Texts.{device_line, host_line, last_line, state_front, title_line};
 
 use crate::line_buffer::LineBuffer;
 use itoa::Buffer;
@@ -103,4 +103,31 @@ pub fn push_row(buffer: &mut LineBuffer, offset: u32, row: &[u8])
     buffer.push(b" ");
     buffer.push_hex(row);
     buffer.push(b"\n");
+}
+
+/// The line of the memory.
+#[tactic(auto, unfolding(crate::specs::Texts::device_line))]
+pub fn memory_line() -> &'static [u8]
+    ensures text { result.now ≡ device_line }
+    ensures short { length result.now ≤ 16 }
+{
+    b"device mem 16\n"
+}
+
+/// The last line.
+#[tactic(auto, unfolding(crate::specs::Texts::last_line))]
+pub fn end_line() -> &'static [u8]
+    ensures text { result.now ≡ last_line }
+    ensures short { length result.now ≤ 16 }
+{
+    b"end\n"
+}
+
+/// The first line.
+#[tactic(auto, unfolding(crate::specs::Texts::title_line))]
+pub fn title() -> &'static [u8]
+    ensures text { result.now ≡ title_line }
+    ensures short { length result.now ≤ 16 }
+{
+    b"sb 1\n"
 }

@@ -1,18 +1,17 @@
 //! The report of `solo`, printed through a buffer. Printing takes no memory.
 #![tactic(auto, using(crate::proofs::OutputLemmas::part_first, crate::proofs::PrintLemmas::prints_push, crate::proofs::PrintLemmas::prints_then, crate::proofs::PrintLemmas::prints_part, crate::proofs::PrintLemmas::part_before, crate::proofs::PrintLemmas::prints_flush, crate::proofs::PrintLemmas::part_flush))]
 
-ghost use Rattle.std.specs.Prelude.{◌≡◌, ◌≤◌, ◌<◌, ◌+◌, ◌*◌, ◌^◌, ◌++◌, ◌==◌, [], ◌∷◌, codes, flat_map, length, OnOk, OnErr};
+ghost use Rattle.std.specs.Prelude.{◌≡◌, ◌≤◌, ◌<◌, ◌+◌, ◌*◌, ◌^◌, ◌++◌, ◌==◌, [], ◌∷◌, flat_map, length, OnOk, OnErr};
 ghost use Rattle.std.specs.List.{enumerate_from, list_all};
 ghost use Rattle.hex.specs.Hex.{encode_lower};
 ghost use Rattle.sb_io.specs.Counts.{Rose};
-ghost use Rattle.sb_packet.specs.TextLines.{body_text, text_line};
-ghost use Rattle.sb_packet.specs.Reports.{device_lines, host_lines, image_lines, outcome_line, row_line};
-ghost use Rattle.sb_packet.specs.Solo.{solo_device, solo_host};
+ghost use Rattle.sb_packet.specs.TextLines.{body_text};
+ghost use Rattle.sb_packet.specs.Reports.{image_lines, outcome_line, row_line};
 ghost use Rattle.sb_top.specs.Outputs.{Gains, GainsPart, IsPrinted};
 ghost use Rattle.sb_top.specs.Texts.{device_line, host_line, last_line, lines_text, state_front, title_line};
 
 use crate::line_buffer::{LineBuffer, flush, make_room};
-use crate::lines::{push_host, push_row, push_state};
+use crate::lines::{end_line, memory_line, push_host, push_row, push_state, title};
 use crate::outcomes::Outcomes;
 use crate::output::WriteFailed;
 use sb_io::Sink;
@@ -279,28 +278,4 @@ pub fn print_report<K: Sink>(
     let mut buffer = LineBuffer::new();
     print(sink, &mut buffer, title())?;
     print_lines(sink, &mut buffer, outcomes, bytes)
-}
-
-#[tactic(auto, unfolding(crate::specs::Texts::device_line))]
-fn memory_line() -> &'static [u8]
-    ensures text { result.now ≡ device_line }
-    ensures short { length result.now ≤ 16 }
-{
-    b"device mem 16\n"
-}
-
-#[tactic(auto, unfolding(crate::specs::Texts::last_line))]
-fn end_line() -> &'static [u8]
-    ensures text { result.now ≡ last_line }
-    ensures short { length result.now ≤ 16 }
-{
-    b"end\n"
-}
-
-#[tactic(auto, unfolding(crate::specs::Texts::title_line))]
-fn title() -> &'static [u8]
-    ensures text { result.now ≡ title_line }
-    ensures short { length result.now ≤ 16 }
-{
-    b"sb 1\n"
 }
