@@ -1,4 +1,5 @@
 pub mod InTurn
 pub mod Ranges
 pub mod MessageFlows
+pub mod Pushes
 pub mod Rows

@@ -2,6 +2,8 @@
 #![tactic(auto)]
 
 mod answers;
+#[cfg(test)]
+mod bench;
 mod ends;
 mod fabric;
 mod flow;
@@ -17,6 +19,8 @@ mod serial;
 mod serial_rx;
 mod serial_tx;
 mod shelf;
+#[cfg(test)]
+mod tests;
 mod told;
 
 pub use answers::{Cause, Pop, Push, Turn};

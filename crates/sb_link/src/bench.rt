@@ -1,0 +1,114 @@
+//! A ring under test, over any fabric.
+
+ghost use Rattle.std.specs.Prelude.{◌≡◌, ◌≤◌, true, false, not, [], ◌∷◌, length};
+ghost use Rattle.sb_packet.specs.Journals.{is_request};
+ghost use Rattle.sb_packet.specs.Messages.{message_of};
+ghost use Rattle.sb_packet.specs.Spans.{word_count_of};
+ghost use Rattle.sb_packet.specs.Traffic.{has_close, IsCarriable, item_accesses};
+ghost use Rattle.sb_link.specs.PlanOf.{plan_of};
+
+use crate::answers::{Pop, Push};
+use crate::ends::{RxEnd, TxEnd};
+use crate::fabric::Fabric;
+use crate::plan::LinkPlan;
+use sb_packet::{Cmd, Item, Op, Packet, span};
+use std::alloc::{AllocError, Global};
+
+/// A ring with both ends and the fabric that made it. It sends only what may follow.
+#[derive(Drop)]
+pub(crate) struct Bench<F: Fabric + Drop> {
+    fabric: F,
+    tx: F::Tx,
+    rx: F::Rx,
+    words: u32,
+    closed: bool,
+    ghost open: { closed ≡ false → has_close (F.Tx.sent tx) ≡ false },
+    ghost counted: { length (item_accesses (F.Tx.sent tx)) ≤ words },
+    ghost marks: { F.Tx.mark tx ≡ F.Rx.mark rx },
+    ghost made: { F.made fabric ≡ F.Tx.planned tx ∷ [] },
+    ghost unsettled: { F.settled fabric (F.Tx.planned tx).ring ≡ false },
+}
+
+impl<F: Fabric + Drop> Bench<F> {
+    pub(crate) fn new(fabric: F, alloc: Global, plan: &LinkPlan) -> Result<Bench<F>, AllocError>
+        requires empty { F.made fabric ≡ [] }
+    {
+        let mut fabric = fabric;
+        let (tx, rx) = fabric.make(alloc, plan)?;
+        Ok(Bench {
+            fabric,
+            tx,
+            rx,
+            words: 0,
+            closed: false,
+        })
+    }
+
+    // sends a packet, where it may be sent
+    pub(crate) fn push(&mut self, packet: &Packet) -> Option<Push> {
+        let plan = *self.tx.plan();
+        let words = word_count(&packet.cmd);
+        let sum = u64::from(self.words) + u64::from(words);
+        if self.closed || sum > u64::from(plan.budget) || !carries(&plan, packet) {
+            return None;
+        }
+        self.words += words;
+        Some(self.tx.try_push(&Item::Packet(*packet)))
+    }
+
+    // ends the ring's traffic
+    pub(crate) fn close(&mut self) -> Option<Push> {
+        if self.closed || self.words > self.tx.plan().budget {
+            return None;
+        }
+        self.closed = true;
+        Some(self.tx.try_push(&Item::Close))
+    }
+
+    pub(crate) fn pop(&mut self) -> Pop {
+        self.rx.try_pop()
+    }
+
+    pub(crate) fn hand(&mut self) {
+        F::hand(&mut self.tx, &mut self.rx);
+    }
+
+    pub(crate) fn settle(self) -> F {
+        let Bench {
+            mut fabric, tx, rx, ..
+        } = self;
+        fabric.settle(tx, rx);
+        fabric
+    }
+}
+
+// the plan is made for such a packet
+fn carries(plan: &LinkPlan, p: &Packet) -> bool
+    ensures carriable { result ≡ true → IsCarriable (plan_of plan.now) (message_of p.now) }
+{
+    if is_answer(p.cmd.op) != plan.up {
+        return false;
+    }
+    if !plan.flows.allows(p) {
+        return false;
+    }
+    if span(&p.cmd) > u32::from(plan.width) {
+        return false;
+    }
+    !p.cmd.ex
+}
+
+fn is_answer(op: Op) -> bool
+    ensures answer { result ≡ not (is_request op) }
+{
+    matches!(op, Op::RespRd | Op::RespWr)
+}
+
+fn word_count(cmd: &Cmd) -> u32
+    ensures words { result ≡ word_count_of cmd.now }
+{
+    match cmd.op {
+        Op::ReqAtomic => 1,
+        _ => u32::from(cmd.len) + 1,
+    }
+}
