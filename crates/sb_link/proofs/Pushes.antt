@@ -1,5 +1,5 @@
 -- What a push does to what was sent: whether it is closed, and how many words it has.
-use Rattle.std.proofs.Common.{◌≡◌, ℕ, ◌+◌, ◌≤◌, List, [], ◌∷◌, ◌++◌, Bool, true, false, refl, sym, ap, ◌∙◌, arith, length, length-append}
+use Rattle.std.proofs.Common.{◌≡◌, ℕ, ◌+◌, ◌≤◌, List, [], ◌∷◌, ◌++◌, false, refl, arith, length, length-append}
 use Rattle.std.proofs.lemmas.List.FromFn.{length-map-range_with_len}
 use Rattle.sb_packet.specs.Accesses.{accesses_of, accesses_of_item}
 use Rattle.sb_packet.specs.Spans.{word_count_of}

@@ -1,7 +1,7 @@
 -- Which of a list of ranges has an address, and that no other one has it.
-use Rattle.std.proofs.Common.{◌≡◌, ℕ, zero, suc, ◌+◌, ◌*◌, ◌/◌, ◌%◌, ◌^◌, ◌-◌, ◌<◌, ◌≤◌, List, [], ◌∷◌, length, get_or, map, take, refl, sym, ap, ◌∙◌, arith, Bool, true, false, cond, Some, None, ◌&&◌, nat_le, length-take-le, get_or-take}
-use Rattle.std.specs.Prelude.{if◌then◌else◌, Option, IfSome, slice_index_or}
-use Rattle.std.specs.List.{position_from, zip, range_with_len}
+use Rattle.std.proofs.Common.{◌≡◌, ℕ, zero, suc, ◌+◌, ◌-◌, ◌<◌, ◌≤◌, List, [], ◌∷◌, length, get_or, map, take, refl, sym, ap, ◌∙◌, arith, Bool, true, false, cond, Some, ◌&&◌, nat_le, length-take-le, get_or-take}
+use Rattle.std.specs.Prelude.{Option, slice_index_or}
+use Rattle.std.specs.List.{position_from, zip}
 use Rattle.std.proofs.lemmas.List.FromFn.{take-map-range_with_len, fill_by_all}
 use Rattle.sb_packet.specs.Plans.{AddressRange, holds_span, are_apart, AreApart}
 use Rattle.sb_link.specs.Plans.{ranges_of}

@@ -1,15 +1,17 @@
 //! A ring under test, over any fabric.
 
-ghost use Rattle.std.specs.Prelude.{◌≡◌, ◌≤◌, true, false, not, [], ◌∷◌, length};
+ghost use Rattle.std.specs.Prelude.{◌≡◌, ◌≤◌, true, false, not, [], ◌∷◌, ◌++◌, length, IfOk};
 ghost use Rattle.sb_packet.specs.Journals.{is_request};
 ghost use Rattle.sb_packet.specs.Messages.{message_of};
 ghost use Rattle.sb_packet.specs.Spans.{word_count_of};
 ghost use Rattle.sb_packet.specs.Traffic.{has_close, IsCarriable, item_accesses};
+ghost use Rattle.sb_link.specs.Moves.{held_items};
 ghost use Rattle.sb_link.specs.PlanOf.{plan_of};
 
 use crate::answers::{Pop, Push};
 use crate::ends::{RxEnd, TxEnd};
 use crate::fabric::Fabric;
+use crate::moves::move_item;
 use crate::plan::LinkPlan;
 use sb_packet::{Cmd, Item, Op, Packet, span};
 use std::alloc::{AllocError, Global};
@@ -32,6 +34,8 @@ pub(crate) struct Bench<F: Fabric + Drop> {
 impl<F: Fabric + Drop> Bench<F> {
     pub(crate) fn new(fabric: F, alloc: Global, plan: &LinkPlan) -> Result<Bench<F>, AllocError>
         requires empty { F.made fabric ≡ [] }
+        ensures plan { IfOk result (λ bench. F.Rx.planned bench.rx ≡ plan_of plan.now) }
+        ensures received { IfOk result (λ bench. F.Rx.received bench.rx ≡ []) }
     {
         let mut fabric = fabric;
         let (tx, rx) = fabric.make(alloc, plan)?;
@@ -45,7 +49,10 @@ impl<F: Fabric + Drop> Bench<F> {
     }
 
     // sends a packet, where it may be sent
-    pub(crate) fn push(&mut self, packet: &Packet) -> Option<Push> {
+    pub(crate) fn push(&mut self, packet: &Packet) -> Option<Push>
+        ensures plan { F.Rx.planned self.new.rx ≡ F.Rx.planned self.old.rx }
+        ensures received { F.Rx.received self.new.rx ≡ F.Rx.received self.old.rx }
+    {
         let plan = *self.tx.plan();
         let words = word_count(&packet.cmd);
         let sum = u64::from(self.words) + u64::from(words);
@@ -69,16 +76,91 @@ impl<F: Fabric + Drop> Bench<F> {
         self.rx.try_pop()
     }
 
-    pub(crate) fn hand(&mut self) {
+    // lets the ends meet
+    pub(crate) fn hand(&mut self)
+        ensures plan { F.Rx.planned self.new.rx ≡ F.Rx.planned self.old.rx }
+        ensures received { F.Rx.received self.new.rx ≡ F.Rx.received self.old.rx }
+    {
         F::hand(&mut self.tx, &mut self.rx);
     }
 
+    // moves an item to another ring
+    pub(crate) fn forward<T: TxEnd>(&mut self, held: &mut Option<Item>, tx: &mut T) -> bool
+        requires plans { F.Rx.planned self.old.rx ≡ T.planned tx.old }
+        requires in_order { F.Rx.received self.old.rx ≡ T.sent tx.old ++ held_items held.old }
+        ensures rx_plan { F.Rx.planned self.new.rx ≡ F.Rx.planned self.old.rx }
+        ensures tx_plan { T.planned tx.new ≡ T.planned tx.old }
+        ensures in_order { F.Rx.received self.new.rx ≡ T.sent tx.new ++ held_items held.new }
+        ensures mark { T.mark tx.new ≡ T.mark tx.old }
+    {
+        move_item(&mut self.rx, held, tx)
+    }
+
+    // hands the ends back
     pub(crate) fn settle(self) -> F {
         let Bench {
-            mut fabric, tx, rx, ..
+            mut fabric,
+            tx,
+            rx,
+            ..
         } = self;
         fabric.settle(tx, rx);
         fabric
+    }
+}
+
+/// A ring whose items go on over another one. The plans are the same.
+#[derive(Drop)]
+pub(crate) struct Relay<F: Fabric + Drop> {
+    from: Bench<F>,
+    held: Option<Item>,
+    tx: F::Tx,
+    rx: F::Rx,
+    ghost plans: { F.Rx.planned from.rx ≡ F.Tx.planned tx },
+    ghost in_order: { F.Rx.received from.rx ≡ F.Tx.sent tx ++ held_items held },
+    ghost marks: { F.Tx.mark tx ≡ F.Rx.mark rx },
+}
+
+impl<F: Fabric + Drop> Relay<F> {
+    pub(crate) fn new(
+        fabric: F,
+        next: &mut F,
+        alloc: Global,
+        plan: &LinkPlan,
+    ) -> Result<Relay<F>, AllocError>
+        requires empty { F.made fabric ≡ [] }
+        requires next_empty { F.made next.old ≡ [] }
+    {
+        let from = Bench::new(fabric, alloc, plan)?;
+        let (tx, rx) = next.make(alloc, plan)?;
+        Ok(Relay {
+            from,
+            held: None,
+            tx,
+            rx,
+        })
+    }
+
+    // sends a packet over the first ring
+    pub(crate) fn push(&mut self, packet: &Packet) -> Option<Push> {
+        self.from.push(packet)
+    }
+
+    // moves an item to the second ring, and says whether one was sent there, and which is held
+    pub(crate) fn forward(&mut self) -> (bool, Option<Item>) {
+        let moved = self.from.forward(&mut self.held, &mut self.tx);
+        (moved, self.held)
+    }
+
+    // takes an item from the second ring
+    pub(crate) fn pop(&mut self) -> Pop {
+        self.rx.try_pop()
+    }
+
+    // lets the ends of both rings meet
+    pub(crate) fn hand(&mut self) {
+        self.from.hand();
+        F::hand(&mut self.tx, &mut self.rx);
     }
 }
 

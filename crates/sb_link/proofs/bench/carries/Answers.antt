@@ -3,8 +3,10 @@ use Rattle.std.proofs.Common.{rules, ◌≡◌, ◌≤◌, arith, not, true, fal
 use Rattle.sb_link.proofs.bench.carries.Goals as goal
 
 pub returns : goal.returns
-returns c = record { carriable = λ plain. record {
-  planned = record { direction = grind arith; allowed = search rules };
-  narrow = omega (arith, c.if-span-from.false);
-  single = λ ex. let no_way : ⊥ = cc in absurd no_way;
-} }
+returns c = record {
+  carriable = λ plain. record {
+    planned = record { direction = grind arith; allowed = search rules };
+    narrow = omega (arith, c.if-span-from.false);
+    single = λ ex. let no_way : ⊥ = cc in absurd no_way;
+  };
+}

@@ -1,5 +1,5 @@
 -- hand_over: while items are handed over, and when both ends are told, they keep what they say of themselves.
-use Rattle.std.proofs.Common.{rules, refl, sym, ap, ◌∙◌, subst, ◌≡◌, ◌+◌, ◌≤◌, ◌<◌, ◌++◌, length, ℕ, List, [], ◌∷◌, arith, length-append, append_assoc}
+use Rattle.std.proofs.Common.{rules, refl, sym, ap, ◌∙◌, subst, ◌≡◌, ◌+◌, ◌≤◌, ◌++◌, length, List, [], ◌∷◌, arith, length-append, append_assoc}
 use Rattle.sb_packet.specs.Plans.{RingPlan}
 use Rattle.sb_packet.specs.Traffic.{AreInTurn}
 use Rattle.sb_packet.specs.declared.item.Item.{Item}

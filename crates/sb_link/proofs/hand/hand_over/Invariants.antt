@@ -1,5 +1,4 @@
 -- hand_over: what stays while items are handed over, and why it ends.
-use Rattle.std.proofs.Common.{◌≡◌, ◌++◌, length}
 use Rattle.std.specs.VecDeque.{deque_len}
 use Rattle.sb_link.specs.Hands.{IsHanding}
 use Rattle.sb_link.proofs.hand.hand_over.Given as goal

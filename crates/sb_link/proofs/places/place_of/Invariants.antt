@@ -1,5 +1,5 @@
 -- place_of: no row before this one is of the ring.
-use Rattle.std.proofs.Common.{◌≡◌, ℕ, ◌<◌, ◌≤◌, ◌-◌, length}
+use Rattle.std.proofs.Common.{◌≡◌, ℕ, ◌<◌, ◌-◌, length}
 use Rattle.std.specs.Prelude.{Some, slice_get}
 use Rattle.sb_link.specs.declared.row.Row.{Row}
 use Rattle.sb_link.proofs.places.place_of.Given as goal

@@ -9,11 +9,13 @@ use Rattle.sb_link.proofs.Pushes.{open_after, words_after, packet_words}
 use Rattle.sb_link.proofs.bench.Bench.push.Goals as goal
 
 pub try_push-requires : goal.try_push-requires
-try_push-requires g c = record { lawful = record {
-  unclosed = c.args.self.now.open c.if-self.false;
-  fit = λ p same. let is : c.args.packet.now ≡ p = cc in subst (λ (p : Packet). IsCarriable (g.F.Tx.TxEnd.planned c.args.self.now.tx) (message_of p)) is (subst (λ (plan : RingPlan). IsCarriable plan (message_of c.args.packet.now)) c.plan.ensures.plan (c.if-not-carries.ensures.carriable refl));
-  room = let budget : c.plan.result.now.budget ≡ (g.F.Tx.TxEnd.planned c.args.self.now.tx).budget = ap (λ (plan : RingPlan). plan.budget) c.plan.ensures.plan in omega (arith, budget, c.if-sum-from.false, c.from.ensures, c.from-2.ensures, c.from-else-self.ensures, c.word_count-words.ensures, packet_words c.args.packet.now, c.args.self.now.counted);
-} }
+try_push-requires g c = record {
+  lawful = record {
+    unclosed = c.args.self.now.open c.if-self.false;
+    fit = λ p same. let is : c.args.packet.now ≡ p = cc in subst (λ (p : Packet). IsCarriable (g.F.Tx.TxEnd.planned c.args.self.now.tx) (message_of p)) is (subst (λ (plan : RingPlan). IsCarriable plan (message_of c.args.packet.now)) c.plan.ensures.plan (c.if-not-carries.ensures.carriable refl));
+    room = let budget : c.plan.result.now.budget ≡ (g.F.Tx.TxEnd.planned c.args.self.now.tx).budget = ap (λ (plan : RingPlan). plan.budget) c.plan.ensures.plan in omega (arith, budget, c.if-sum-from.false, c.from.ensures, c.from-2.ensures, c.from-else-self.ensures, c.word_count-words.ensures, packet_words c.args.packet.now, c.args.self.now.counted);
+  };
+}
 
 pub invariant_of-self : goal.invariant_of-self
 invariant_of-self g c = record {

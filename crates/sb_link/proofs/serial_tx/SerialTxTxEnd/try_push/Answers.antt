@@ -1,5 +1,5 @@
 -- try_push: there is a place for the item, and the end keeps what it says of itself.
-use Rattle.std.proofs.Common.{rules, ◌≡◌, ◌+◌, ◌<◌, ◌≤◌, [], ◌∷◌, ◌++◌, length, ℕ, arith, length-append, append_assoc, sym}
+use Rattle.std.proofs.Common.{rules, [], ◌∷◌, ◌++◌, arith, length-append, append_assoc}
 use Rattle.sb_link.specs.PlanOf.{plan_of}
 use Rattle.sb_link.proofs.InTurn.{appended_in_turn, few_before}
 use Rattle.sb_link.proofs.serial_tx.SerialTxTxEnd.try_push.Goals as goal

@@ -1,5 +1,5 @@
 -- keep: the end comes into the row of its ring, and all else stays.
-use Rattle.std.proofs.Common.{◌≡◌, ℕ, ◌<◌, ap, ◌∙◌, sym, subst, List, length}
+use Rattle.std.proofs.Common.{ap, ◌∙◌, List}
 use Rattle.std.specs.Prelude.{Some, slice_get}
 use Rattle.sb_packet.specs.Plans.{RingPlan}
 use Rattle.sb_link.specs.declared.row.Row.{Row}
