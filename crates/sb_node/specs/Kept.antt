@@ -22,6 +22,18 @@ pub record IsKeptRing (before after : RingSide) : Type 0 where
   pub received_more : IsPrefix before.received after.received
   pub learnt : before.known ≤ after.known
 
+-- A port was put back as it was taken out: nothing was offered to it or sent, and no less is known of what was taken.
+pub record IsRestoredPort (before after : PortSide) : Type 0 where
+  pub plan : after.plan ≡ before.plan
+  pub state : after.state ≡ before.state
+  pub learnt : before.taken ≤ after.taken
+
+-- A ring's end was put back as it was taken out: nothing was received, and no less is known of what was sent.
+pub record IsRestoredRing (before after : RingSide) : Type 0 where
+  pub plan : after.plan ≡ before.plan
+  pub received : after.received ≡ before.received
+  pub learnt : before.known ≤ after.known
+
 -- a list begins itself
 pub begins_itself : {A : Type 0} (xs : List A) → IsPrefix xs xs
 begins_itself xs = record { rest = []; joined = append-nil xs }

@@ -1,5 +1,5 @@
 -- What a node has of its rings: of those that it sends on, and of those that it receives from.
-use Rattle.std.specs.Prelude.{ℕ, ◌+◌, Bool, ◌&&◌, ◌||◌, ◌==◌, List, [], ◌∷◌, length, Option, None, Some, is_some}
+use Rattle.std.specs.Prelude.{ℕ, ◌+◌, Bool, false, ◌&&◌, ◌||◌, ◌==◌, List, [], ◌∷◌, length, Option, None, Some, is_some}
 use Rattle.std.specs.List.{sum_by, list_all}
 use Rattle.sb_link.specs.Ends.{Mark}
 use Rattle.sb_link.specs.declared.ends.RxEnd as rx
@@ -8,6 +8,7 @@ use Rattle.sb_packet.specs.Plans.{RingPlan}
 use Rattle.sb_packet.specs.Accesses.{Access}
 use Rattle.sb_packet.specs.Traffic.{item_accesses, has_close}
 use Rattle.sb_packet.specs.declared.item.Item.{Item}
+use Rattle.sb_port.specs.Waiting.{nothing_waits}
 use Rattle.sb_port.specs.Ports.{PortState, port_accesses, let_go, owes}
 use Rattle.sb_port.specs.StateOf.{state_of}
 use Rattle.sb_port.specs.declared.port.OutPort.{OutPort}
@@ -32,6 +33,15 @@ pub record RingSide : Type 0 where
 -- a port as its node has it
 abbrev pub port_side : {T : Type 0} → tx.Ghosts T → OutPort T → PortSide
 port_side end port = record { plan = end.planned port.tx; mark = end.mark port.tx; taken = end.taken port.tx; state = state_of end.sent port }
+
+-- a port over an end at which nothing was sent
+abbrev pub fresh_port : {T : Type 0} → tx.Ghosts T → T → PortSide
+fresh_port end t = record {
+  plan = end.planned t;
+  mark = end.mark t;
+  taken = end.taken t;
+  state = record { sent = []; waiting = nothing_waits (end.planned t).width; closing = false; shut = false; claimed = 0 };
+}
 
 -- the receiving end of a ring as its node has it
 abbrev pub ring_side : {U : Type 0} → rx.Ghosts U → U → RingSide

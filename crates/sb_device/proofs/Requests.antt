@@ -1,0 +1,112 @@
+-- A device serves one request more.
+use Rattle.std.proofs.Common.{◌≡◌, ◌≤◌, ◌+◌, List, [], ◌∷◌, ◌++◌, length, map, refl, sym, ap, ◌∙◌, subst, arith, append-nil, length-append}
+use Rattle.std.specs.Prelude.{Some, None, filter_map, All}
+use Rattle.std.proofs.lemmas.Grind.{flat_map-append}
+use Rattle.std.proofs.lemmas.List.Elements.{filter_map-append, All-nil, All-cons, All-head, All-tail}
+use Rattle.sb_packet.specs.Accesses.{Access, accesses_of, accesses_of_item}
+use Rattle.sb_packet.specs.Memories.{MemoryState, memory_after, answers_in}
+use Rattle.sb_packet.specs.Messages.{message_of}
+use Rattle.sb_packet.specs.Prefixes.{IsSubsequence}
+use Rattle.sb_packet.specs.Soundness.{IsSound}
+use Rattle.sb_packet.specs.Traffic.{item_accesses, item_messages}
+use Rattle.sb_packet.specs.declared.entry.Entry.{Entry}
+use Rattle.sb_packet.specs.declared.packet.Packet.{Packet}
+use Rattle.sb_packet.specs.declared.item.Item.{Item}
+use Rattle.sb_packet.specs.declared.item.Item.TheVariants as items
+use Rattle.sb_packet.proofs.FoundAnswers.{answers_in-append, memory_after-append}
+use Rattle.sb_node.specs.Sides.{PortSide, RingSide, offered_words}
+use Rattle.sb_device.specs.Served.{entry_accesses, answers_to, AreSound, HasServed}
+use Rattle.sb_device.proofs.Subsequences.{more_left_out, more_kept}
+
+-- an entry more, and so the words of its packet
+pub entry_more : (journal : List Entry) (e : Entry) → entry_accesses (journal ++ e ∷ []) ≡ entry_accesses journal ++ accesses_of e.packet
+entry_more journal e = flat_map-append (λ e. accesses_of e.packet) journal (e ∷ []) ∙ ap (λ xs. entry_accesses journal ++ xs) (append-nil (accesses_of e.packet))
+
+-- an item more, and so its words
+pub item_more : (list : List Item) (item : Item) → item_accesses (list ++ item ∷ []) ≡ item_accesses list ++ accesses_of_item item
+item_more list item = flat_map-append accesses_of_item list (item ∷ []) ∙ ap (λ xs. item_accesses list ++ xs) (append-nil (accesses_of_item item))
+
+-- what is found in a list of places that are all filled, or all empty
+pub all_found : (xs : List Access) → filter_map (λ answer. answer) (map Some xs) ≡ xs
+all_found [] = refl
+all_found (x ∷ xs) = ap (λ ys. x ∷ ys) (all_found xs)
+
+pub none_found : (xs : List Access) → filter_map {Y = Access} (λ answer. answer) (map (λ (x : Access). None) xs) ≡ []
+none_found [] = refl
+none_found (x ∷ xs) = none_found xs
+
+-- the answers to more words come behind those to the others
+answers_more : (opening : MemoryState) (words more : List Access) → answers_to opening (words ++ more) ≡ answers_to opening words ++ answers_to (memory_after opening words) more
+answers_more opening words more = ap (filter_map (λ answer. answer)) (answers_in-append opening words more)
+    ∙ filter_map-append (λ answer. answer) (answers_in opening words) (answers_in (memory_after opening words) more)
+
+-- the messages of two lists of items, one behind the other
+messages_joined : (xs ys : List Item) → item_messages (xs ++ ys) ≡ item_messages xs ++ item_messages ys
+messages_joined [] ys = refl
+messages_joined (items.Packet p ∷ xs) ys = ap (λ ms. message_of p ∷ ms) (messages_joined xs ys)
+messages_joined (items.Close ∷ xs) ys = messages_joined xs ys
+
+-- what holds of all of a list holds of its front, and of the rest
+all_front : {A : Type 0} (P : A → Type 0) (xs ys : List A) → All P (xs ++ ys) → All P xs
+all_front P [] ys all = All-nil P
+all_front P (x ∷ xs) ys all = All-cons P x xs (All-head P x (xs ++ ys) all) (all_front P xs ys (All-tail P x (xs ++ ys) all))
+
+all_behind : {A : Type 0} (P : A → Type 0) (xs ys : List A) → All P (xs ++ ys) → All P ys
+all_behind P [] ys all = all
+all_behind P (x ∷ xs) ys all = all_behind P xs ys (All-tail P x (xs ++ ys) all)
+
+-- all packets of a front are sound
+pub front_sound : (front rest : List Item) → AreSound (front ++ rest) → AreSound front
+front_sound front rest sound = all_front IsSound (item_messages front) (item_messages rest) (subst (All IsSound) (messages_joined front rest) sound)
+
+-- the last packet is sound, where all are
+last_sound : (front : List Item) (p : Packet) → AreSound (front ++ items.Packet p ∷ []) → IsSound (message_of p)
+last_sound front p sound = All-head IsSound (message_of p) [] (all_behind IsSound (item_messages front) (message_of p ∷ []) (subst (All IsSound) (messages_joined front (items.Packet p ∷ [])) sound))
+
+-- What is served once more: the request p came in and was journalled, and the memory m answered it by these words.
+module _ (opening m m_then : MemoryState) (journal journal_then : List Entry) (ring ring_then : RingSide) (port port_then : PortSide) (p : Packet) (words : List Access)
+    (before : HasServed opening m journal ring port)
+    (entered : entry_accesses journal_then ≡ entry_accesses journal ++ accesses_of p)
+    (came : ring_then.received ≡ ring.received ++ items.Packet p ∷ [])
+    (plan : port_then.plan ≡ port.plan)
+    (stepped : m_then ≡ memory_after m (accesses_of p))
+    (answers : answers_to m (accesses_of p) ≡ words) where
+  stepped_on : m_then ≡ memory_after opening (entry_accesses journal_then)
+  stepped_on = stepped ∙ ap (λ n. memory_after n (accesses_of p)) before.stepped ∙ sym (memory_after-append opening (entry_accesses journal) (accesses_of p))
+      ∙ ap (memory_after opening) (sym entered)
+
+  answered_on : answers_to opening (entry_accesses journal_then) ≡ answers_to opening (entry_accesses journal) ++ words
+  answered_on = ap (answers_to opening) entered ∙ answers_more opening (entry_accesses journal) (accesses_of p)
+      ∙ ap (λ n. answers_to opening (entry_accesses journal) ++ answers_to n (accesses_of p)) (sym before.stepped) ∙ ap (λ ws. answers_to opening (entry_accesses journal) ++ ws) answers
+
+  fewer : length (answers_to opening (entry_accesses journal_then)) ≤ port_then.plan.budget → length (answers_to opening (entry_accesses journal)) + length words ≤ port.plan.budget
+  fewer few = subst (λ plan. length (answers_to opening (entry_accesses journal)) + length words ≤ plan.budget) plan
+      (subst (λ n. n ≤ port_then.plan.budget) (ap length answered_on ∙ length-append (answers_to opening (entry_accesses journal)) words) few)
+
+  was_sound : AreSound ring_then.received → AreSound ring.received
+  was_sound sound = front_sound ring.received (items.Packet p ∷ []) (subst AreSound came sound)
+
+  now_sound : AreSound ring_then.received → IsSound (message_of p)
+  now_sound sound = last_sound ring.received p (subst AreSound came sound)
+
+  -- the answer was offered
+  pub served_and_offered : offered_words port_then ≡ offered_words port ++ words → HasServed opening m_then journal_then ring_then port_then
+  served_and_offered offered = record {
+    stepped = stepped_on;
+    answered_some = subst (λ xs. IsSubsequence xs (answers_to opening (entry_accesses journal_then))) (sym offered)
+        (subst (λ ys. IsSubsequence (offered_words port ++ words) ys) (sym answered_on) (more_kept words before.answered_some));
+    answered_all = λ sound few. let room = fewer few in
+        offered ∙ ap (λ xs. xs ++ words) (before.answered_all (was_sound sound) (omega (arith, room))) ∙ sym answered_on;
+  }
+
+  -- the answer was dropped, since it wasn't sound or there was no room for its words
+  pub served_and_dropped : offered_words port_then ≡ offered_words port
+      → (IsSound (message_of p) → length (offered_words port) + length words ≤ port.plan.budget → ⊥) → HasServed opening m_then journal_then ring_then port_then
+  served_and_dropped offered fails = record {
+    stepped = stepped_on;
+    answered_some = subst (λ xs. IsSubsequence xs (answers_to opening (entry_accesses journal_then))) (sym offered)
+        (subst (λ ys. IsSubsequence (offered_words port) ys) (sym answered_on) (more_left_out words before.answered_some));
+    answered_all = λ sound few. let room = fewer few in
+        let same = before.answered_all (was_sound sound) (omega (arith, room)) in
+        absurd (fails (now_sound sound) (subst (λ xs. length xs + length words ≤ port.plan.budget) (sym same) room));
+  }

@@ -1,0 +1,5 @@
+pub mod Served
+pub mod Plans
+pub mod Steps
+pub mod Devices
+pub mod SideOf

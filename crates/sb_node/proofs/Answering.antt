@@ -1,0 +1,80 @@
+-- What a node's turn answers: by what it found, and by how much went through it.
+use Rattle.std.proofs.Common.{◌≡◌, ◌≢◌, ◌⊎◌, inl, inr, ℕ, ◌<◌, ◌≤◌, Bool, true, false, true≢false, List, [], ◌∷◌, length, refl, sym, ap, ◌∙◌, arith, length-append}
+use Rattle.std.specs.Prelude.{◌&&◌, ◌||◌, not, Option, Some, None, is_some}
+use Rattle.sb_link.specs.declared.answers.Turn.{Turn}
+use Rattle.sb_link.specs.declared.answers.Turn.TheVariants.{Moved, Idle, Done}
+use Rattle.sb_link.specs.declared.answers.Cause.{Cause}
+use Rattle.sb_packet.specs.Prefixes.{IsPrefix}
+use Rattle.sb_port.specs.Waiting.{Waiting, some_owed}
+use Rattle.sb_port.specs.Ports.{IsFit}
+use Rattle.sb_node.specs.Sides.{PortSide, has_rest, port_moves}
+use Rattle.sb_node.specs.Kept.{IsKeptPort}
+use Rattle.sb_node.specs.Turns.{first_cause, IsAnswered}
+use Rattle.sb_node.specs.Found.{IsTurnOf}
+use Rattle.sb_node.specs.declared.findings.Findings.{Findings}
+
+-- what begins a list isn't longer
+pub prefix_length : {A : Type 0} {xs ys : List A} → IsPrefix xs ys → length xs ≤ length ys
+prefix_length {A} {xs} {ys} p = let longer = length-append xs p.rest in let whole = ap length p.joined in omega (arith, longer, whole)
+
+-- a port that is kept did no less than before
+pub moves_kept : {before after : PortSide} → IsKeptPort before after → port_moves before ≤ port_moves after
+moves_kept kept = let a = prefix_length kept.offered_more in let b = prefix_length kept.let_more_go in let c = prefix_length kept.sent_more in omega (arith, a, b, c)
+
+-- nothing owed, nothing held, and the Close sent: nothing is left to send
+no_rest : (w : Waiting) (closing shut : Bool) → w.owed ≡ [] → w.held ≡ None → shut ≡ true → ((some_owed w || (closing && not shut)) || is_some w.held) ≡ false
+no_rest w closing shut owed held is =
+    ap (λ list. (some_owed (record w { owed = list }) || (closing && not shut)) || is_some w.held) owed
+    ∙ ap (λ h. (false || (closing && not shut)) || is_some h) held
+    ∙ ap (λ b. (closing && not b) || false) is
+    ∙ elim closing as (λ b. ((b && false) || false) ≡ false) [ true ↦ refl | false ↦ refl ]
+
+-- a port that has something left to send hasn't sent its Close
+pub rest_unshut : (port : PortSide) → IsFit port.plan port.state → has_rest port ≡ true → port.state.shut ≡ false
+rest_unshut port fit rest = by_shut port.state.shut refl where
+  by_shut : (b : Bool) → port.state.shut ≡ b → port.state.shut ≡ false
+  by_shut true shut = absurd (true≢false (sym rest ∙ no_rest port.state.waiting port.state.closing port.state.shut (fit.none_owed shut) (fit.none_held shut) shut))
+  by_shut false unshut = unshut
+
+-- two tests that both fail
+neither : (a b : Bool) → (a || b) ≡ false → (a ≡ false) × (b ≡ false)
+neither true b e = absurd (true≢false e)
+neither false b e = (refl, e)
+
+-- where nothing is owed and the Close wasn't sent, the port wasn't told to close
+pub untold : (owing closing shut : Bool) → (owing || (closing && not shut)) ≡ false → shut ≡ false → closing ≡ false
+untold true closing shut e unshut = absurd (true≢false e)
+untold false false shut e unshut = refl
+untold false true false e unshut = absurd (true≢false e)
+untold false true true e unshut = absurd (true≢false unshut)
+
+-- what a node found moved it, and something went through
+pub record HasGone (found : Findings) (before after : ℕ) : Type 0 where
+  pub moved : found.moved ≡ true
+  pub more : before < after
+
+-- it did nothing, and found its cause unless it is done
+pub record HasStood (found : Findings) (before after : ℕ) (done : Bool) (causes_then : List (Option Cause)) (idle : Type 0) : Type 0 where
+  pub unmoved : found.moved ≡ false
+  pub same : after ≡ before
+  pub cause : done ≡ false → (c : Cause) × (first_cause (found.full ∷ found.waits ∷ found.empty ∷ []) ≡ Some c) × (first_cause causes_then ≡ Some c)
+  pub at_rest : idle
+
+-- what the turn answers then
+pub answered_by : (found : Findings) (before after : ℕ) (done : Bool) (list : List (Option Cause)) (idle : Type 0) (answer : Turn) → HasGone found before after ⊎ HasStood found before after done list idle
+    → IsTurnOf found done answer → IsAnswered before after done list answer × (answer ≢ Moved → idle)
+answered_by found before after done list idle Moved (inl gone) told = (gone.more, λ ne. absurd (ne refl))
+answered_by found before after done list idle Done (inl gone) told = absurd (true≢false (sym gone.moved ∙ told.0))
+answered_by found before after done list idle (Idle c) (inl gone) told = absurd (true≢false (sym gone.moved ∙ told.0))
+answered_by found before after done list idle Moved (inr stood) told = absurd (true≢false (sym told ∙ stood.unmoved))
+answered_by found before after done list idle Done (inr stood) told = ((stood.same, told.1), λ ne. stood.at_rest)
+answered_by found before after done list idle (Idle c) (inr stood) told =
+    let f = stood.cause told.1 in
+    let same : Some f.0 ≡ Some c = sym f.1 ∙ told.2 in
+    ((stood.same, told.1, f.2 ∙ same), λ ne. stood.at_rest)
+
+-- a cause was found, unless the node moved or is done
+pub cause_found : (found : Findings) (before after : ℕ) (done : Bool) (list : List (Option Cause)) (idle : Type 0) → HasGone found before after ⊎ HasStood found before after done list idle
+    → found.moved ≡ false → done ≡ false → first_cause (found.full ∷ found.waits ∷ found.empty ∷ []) ≢ None
+cause_found found before after done list idle (inl gone) unmoved undone = λ none. absurd (true≢false (sym gone.moved ∙ unmoved))
+cause_found found before after done list idle (inr stood) unmoved undone = λ none. let f = stood.cause undone in let no_way : Some f.0 ≡ None = sym f.1 ∙ none in let no : ⊥ = cc in absurd no
