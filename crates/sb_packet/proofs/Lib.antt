@@ -29,3 +29,4 @@ pub mod SlotLemmas
 pub mod ZeroBytes
 pub mod SlotFields
 pub mod SlotLaws
+pub mod WayExamples

@@ -17,7 +17,9 @@ pub mod Journals
 pub mod Soundness
 pub mod Plans
 pub mod Traffic
+pub mod Ways
 pub mod Answers
+pub mod Rings
 pub mod Outcomes
 pub mod TextLines
 pub mod Reports

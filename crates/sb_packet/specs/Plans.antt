@@ -61,8 +61,8 @@ goes_home m = is_request m.op || (m.dst / 2 ^ 40 == m.host)
 -- Which host's message it is, and which device has all its bytes; none where no device has them.
 abbrev pub message_flow : RingFlows → Message → Option NetFlow
 message_flow flows m = if goes_home m
-  then option_map (λ d. record { host = m.host; device = d }) (position_from (holds_span (device_place m) (message_span m)) 0 (device_ranges flows))
-  else None
+    then option_map (λ d. record { host = m.host; device = d }) (position_from (holds_span (device_place m) (message_span m)) 0 (device_ranges flows))
+    else None
 
 -- a flow goes over the ring
 abbrev pub goes_through : RingFlows → NetFlow → Bool
