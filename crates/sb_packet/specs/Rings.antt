@@ -1,5 +1,5 @@
 -- What goes over each ring of a network: which flows, how many words at most, and which words in the end. This project's own.
-use Rattle.std.specs.Prelude.{◌≡◌, ℕ, ◌/◌, ◌%◌, Bool, true, false, ◌&&◌, ◌==◌, nat_lt, List, length, filter, map, sum_by, All, IsTrue, Option, Some, None, option_and_then, slice_get, if◌then◌else◌}
+use Rattle.std.specs.Prelude.{◌≡◌, ℕ, ◌/◌, ◌%◌, Bool, true, false, ◌&&◌, ◌==◌, nat_lt, List, [], length, filter, map, sum_by, All, IsTrue, Option, Some, None, option_and_then, slice_get, if◌then◌else◌}
 use Rattle.std.specs.List.{list_any, range_with_len}
 use Rattle.std.specs.Option.{option_map_or}
 use Rattle.sb_word.specs.declared.command.Op.{Op}
@@ -25,9 +25,13 @@ is_upward ring = ring % 2 == 1
 abbrev pub has_link : ℕ → NetWay → Bool
 has_link k way = list_any (λ j. j == k) way.links
 
+-- the ways that have link k among their links
+abbrev pub link_ways : Network → ℕ → List NetWay
+link_ways network k = filter (has_link k) (network_ways network)
+
 -- The ways of the flows that go over a ring: those with the ring's link.
 abbrev pub ring_ways : Network → ℕ → List NetWay
-ring_ways network ring = filter (λ way. option_map_or (λ k. has_link k way) (ring_link network ring) false) (network_ways network)
+ring_ways network ring = option_map_or (link_ways network) (ring_link network ring) []
 
 -- the words that a flow's host asks of its device, in order
 abbrev pub way_accesses : Network → NetWay → List Access

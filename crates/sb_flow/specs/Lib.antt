@@ -1,0 +1,12 @@
+pub mod Rows
+pub mod Firsts
+pub mod Limits
+pub mod Names
+pub mod Ranges
+pub mod Ends
+pub mod Routes
+pub mod Issuable
+pub mod Accepted
+pub mod NetworkOf
+pub mod Tables
+pub mod Gathered

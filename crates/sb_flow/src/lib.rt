@@ -1,0 +1,24 @@
+//! Bundles and ways: which flow goes over which ring.
+#![tactic(auto)]
+
+mod addresses;
+mod bundle;
+mod device_plan;
+mod flow_path;
+mod host_paths;
+mod host_plan;
+mod leg;
+mod link_row;
+mod load;
+mod paths;
+mod place;
+mod router_plan;
+
+pub use addresses::target;
+pub use bundle::Bundle;
+pub use device_plan::DevicePlan;
+pub use host_plan::HostPlan;
+pub use link_row::LinkRow;
+pub use paths::Paths;
+pub use place::Place;
+pub use router_plan::RouterPlan;

@@ -1,0 +1,65 @@
+//! By which links packets go, and what each ring is made for.
+
+ghost use Rattle.std.specs.Prelude.{◌≡◌, ◌*◌, ◌+◌, ◌<◌, ◌≤◌, length, IfOk, IsSome};
+ghost use Rattle.sb_packet.specs.Ways.{link_down, link_up};
+ghost use Rattle.sb_packet.specs.Rings.{ring_link, ring_plan};
+ghost use Rattle.sb_link.specs.PlanOf.{plan_of};
+ghost use Rattle.sb_flow.specs.NetworkOf.{network_of};
+ghost use Rattle.sb_flow.specs.Tables.{paths_of};
+ghost use Rattle.sb_flow.specs.declared.bundle.Bundle.{Bundle as AnyBundle};
+
+use crate::bundle::Bundle;
+use crate::host_paths::HostPaths;
+use crate::load::Load;
+use sb_link::LinkPlan;
+use std::alloc::{AllocError, Global};
+use std::marker::Model;
+
+/// The ways of all flows of a bundle. Contracts see them as a table that the bundle's network determines.
+#[derive(Drop)]
+pub struct Paths {
+    hosts: Vec<HostPaths>,
+    links: Vec<Load>,
+}
+
+impl Model for Paths {
+    ghost use Rattle.sb_flow.specs.Tables.{PathTable};
+
+    ghost Value = { PathTable };
+
+    ghost view = { λ p. record { hosts = p.hosts.items; links = p.links.items } };
+}
+
+impl Paths {
+    /// Follows the routes of each host to each device that its script aims at.
+    pub fn new(alloc: Global, bundle: &Bundle) -> Result<Paths, AllocError>
+        ensures { IfOk result (λ paths. paths ≡ paths_of (network_of bundle.now)) }
+    {
+        unreachable!()
+    }
+
+    /// The link by which the flow of a host, named by its id, to a device leaves a router towards the device. None
+    /// exactly where the flow doesn't pass this router. It takes no memory.
+    pub fn down(&self, router: u8, host: u8, device: u8) -> Option<u8>
+        ensures { (bundle : AnyBundle) → self.now ≡ paths_of (network_of bundle) → result ≡ link_down (network_of bundle) router (record { host = host; device = device }) }
+    {
+        unreachable!()
+    }
+
+    /// The link by which this flow leaves the router towards the host.
+    pub fn up(&self, router: u8, host: u8, device: u8) -> Option<u8>
+        ensures { (bundle : AnyBundle) → self.now ≡ paths_of (network_of bundle) → result ≡ link_up (network_of bundle) router (record { host = host; device = device }) }
+    {
+        unreachable!()
+    }
+
+    /// What a ring is made for. The paths are those of the bundle. Link `k` has ring `2k` for requests and ring
+    /// `2k + 1` for answers; with `n` links, the far ends of the wire have rings `2n` and `2n + 1`. It takes no memory.
+    pub fn plan(&self, bundle: &Bundle, ring: u16) -> LinkPlan
+        requires made { self.now ≡ paths_of (network_of bundle.now) }
+        requires there { IsSome (ring_link (network_of bundle.now) ring) }
+        ensures { plan_of result ≡ ring_plan (network_of bundle.now) ring }
+    {
+        unreachable!()
+    }
+}
