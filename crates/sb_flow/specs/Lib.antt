@@ -10,3 +10,4 @@ pub mod Accepted
 pub mod NetworkOf
 pub mod Tables
 pub mod Gathered
+pub mod LoadOf

@@ -1,6 +1,6 @@
 //! What goes over one link.
 
-use std::marker::Model;
+ghost use Rattle.std.specs.Prelude.{◌≡◌, length};
 
 /// What goes over one link.
 #[derive(Clone, Copy)]
@@ -11,16 +11,5 @@ pub struct Load {
     pub answers: u32,
     /// For each host's id: bit `d` says that its flow to device `d` goes over the link.
     pub through: [u32; 32],
-}
-
-impl Model for Load {
-    ghost use Rattle.std.specs.Prelude.{◌≡◌, map, length};
-    ghost use Rattle.sb_link.specs.Plans.{bits_of};
-    ghost use Rattle.sb_flow.specs.Tables.{LinkTable};
-
-    ghost Value = { LinkTable };
-
-    ghost view = { λ l. record { requests = l.requests; answers = l.answers; through = map bits_of l.through } };
-
-    ghost invariant = { λ l. length l.through ≡ 32 };
+    pub ghost whole: { length through ≡ 32 },
 }

@@ -23,11 +23,13 @@ pub struct Paths {
 }
 
 impl Model for Paths {
+    ghost use Rattle.std.specs.Prelude.{map};
     ghost use Rattle.sb_flow.specs.Tables.{PathTable};
+    ghost use Rattle.sb_flow.specs.LoadOf.{load_of};
 
     ghost Value = { PathTable };
 
-    ghost view = { λ p. record { hosts = p.hosts.items; links = p.links.items } };
+    ghost view = { λ p. record { hosts = p.hosts.items; links = map load_of p.links.items } };
 }
 
 impl Paths {
