@@ -1,1 +1,6 @@
 pub mod Maps
+pub mod LinkMarks
+pub mod Walks
+pub mod ScriptSums
+pub mod FoundHosts
+pub mod Digits

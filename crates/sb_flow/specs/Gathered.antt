@@ -1,5 +1,5 @@
 -- What the tables of hosts say of one link.
-use Rattle.std.specs.Prelude.{ℕ, ◌+◌, ◌*◌, Bool, false, ◌==◌, List, [], ◌∷◌, map, sum_by, slice_index_or, if◌then◌else◌}
+use Rattle.std.specs.Prelude.{ℕ, ◌+◌, ◌*◌, Bool, false, ◌==◌, List, [], ◌∷◌, map, sum_by, slice_get, slice_index_or, if◌then◌else◌, true}
 use Rattle.std.specs.List.{find, range_with_len}
 use Rattle.std.specs.Option.{option_map_or}
 use Rattle.sb_flow.specs.Tables.{FlowTable, HostTable, LinkTable}
@@ -8,18 +8,42 @@ use Rattle.sb_flow.specs.Tables.{FlowTable, HostTable, LinkTable}
 abbrev pub is_on : ℕ → FlowTable → Bool
 is_on k flow = slice_index_or flow.on k false
 
--- a number of the ways that have link k, summed over one host's devices and over all hosts
-abbrev pub on_link : ℕ → (FlowTable → ℕ) → List FlowTable → ℕ
-on_link k number flows = sum_by (λ f. if is_on k f then number f else 0) flows
+-- the words of a way that count where requests go, and where answers go
+abbrev pub counted_words : Bool → FlowTable → ℕ
+counted_words up flow = if up then flow.answered else flow.words
 
-abbrev pub on_link_of_hosts : ℕ → (FlowTable → ℕ) → List HostTable → ℕ
-on_link_of_hosts k number hosts = sum_by (λ h. on_link k number h.flows) hosts
+-- those that go over link k
+abbrev pub words_on : ℕ → Bool → FlowTable → ℕ
+words_on k up flow = if is_on k flow then counted_words up flow else 0
+
+-- the words over link k, from one host and from all
+abbrev pub host_words_on : ℕ → Bool → List FlowTable → ℕ
+host_words_on k up flows = sum_by (words_on k up) flows
+
+abbrev pub all_words_on : ℕ → Bool → List HostTable → ℕ
+all_words_on k up hosts = sum_by (λ h. host_words_on k up h.flows) hosts
 
 -- for each device whether the way to it has link k, as the binary digits of a number, the lowest first
 abbrev pub mask_of : ℕ → List FlowTable → ℕ
 mask_of k [] = 0
 mask_of k (f ∷ flows) = (if is_on k f then 1 else 0) + 2 * mask_of k flows
 
--- the digits of the host with an id; 0 where no host has it
-abbrev pub mask_at : ℕ → List HostTable → ℕ → ℕ
-mask_at k hosts id = option_map_or (λ h. mask_of k h.flows) (find (λ h. h.id == id) hosts) 0
+-- the way to device d, if there is such a device, has link k
+abbrev pub is_device_on : ℕ → List FlowTable → ℕ → Bool
+is_device_on k flows d = option_map_or (is_on k) (slice_get flows d) false
+
+-- the same for each of 32 devices
+abbrev pub devices_on : ℕ → List FlowTable → List Bool
+devices_on k flows = map (is_device_on k flows) (range_with_len 0 32)
+
+-- the ways from the host with an id; none where no host has it
+abbrev pub flows_from : List HostTable → ℕ → List FlowTable
+flows_from hosts id = option_map_or (λ h. h.flows) (find (λ h. h.id == id) hosts) []
+
+-- what goes over link k
+abbrev pub gathered : ℕ → List HostTable → LinkTable
+gathered k hosts = record {
+  requests = all_words_on k false hosts;
+  answers = all_words_on k true hosts;
+  through = map (λ id. devices_on k (flows_from hosts id)) (range_with_len 0 32);
+}

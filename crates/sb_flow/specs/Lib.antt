@@ -9,5 +9,6 @@ pub mod Issuable
 pub mod Accepted
 pub mod NetworkOf
 pub mod Tables
+pub mod Counts
 pub mod Gathered
 pub mod LoadOf

@@ -18,7 +18,7 @@ fn size(device: &DevicePlan) -> u64
 }
 
 /// An address lies in a device's range.
-fn has(device: &DevicePlan, address: u64) -> bool
+pub fn has(device: &DevicePlan, address: u64) -> bool
     ensures { result ≡ has_address address (device_of device.now) }
 {
     device.base <= address && address - device.base < size(device)

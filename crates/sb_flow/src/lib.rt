@@ -5,14 +5,18 @@ mod addresses;
 mod bundle;
 mod device_plan;
 mod flow_path;
+mod gather;
 mod host_paths;
 mod host_plan;
 mod leg;
 mod link_row;
 mod load;
+mod marks;
 mod paths;
 mod place;
 mod router_plan;
+mod script_counts;
+mod walk;
 
 pub use addresses::target;
 pub use bundle::Bundle;
