@@ -4,3 +4,9 @@ pub mod Walks
 pub mod ScriptSums
 pub mod FoundHosts
 pub mod Digits
+pub mod Clashes
+pub mod Singles
+pub mod Pages
+pub mod Apart
+pub mod FlowWords
+pub mod Bundles

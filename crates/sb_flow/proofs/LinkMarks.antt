@@ -4,6 +4,8 @@ use Rattle.std.specs.Prelude.{map, ◌==◌}
 use Rattle.std.specs.List.{list_any, range_with_len}
 use Rattle.std.proofs.lemmas.List.{take_all, take_more}
 use Rattle.std.proofs.lemmas.List.Folds.{list_any-append}
+use Rattle.sb_packet.specs.Networks.{Network}
+use Rattle.sb_flow.specs.Tables.{leg_of, marks_of}
 use Rattle.sb_flow.specs.declared.leg.Leg.{Leg}
 
 -- two tables agree where their functions do
@@ -56,3 +58,12 @@ marks_in-more n i place legs d on more h at so_far marked =
 -- at the end they are those of all legs
 pub marks_in-all : (n i : ℕ) (legs : List Leg) (on : List Bool) → length legs ≤ i → on ≡ marks_in n (take i legs) → on ≡ marks_in n legs
 marks_in-all n i legs on h so_far = rw (take_all i legs h) at so_far
+
+-- a search over what is mapped
+list_any-map : {A B : Type 0} (p : B → Bool) (f : A → B) (xs : List A) → list_any p (map f xs) ≡ list_any (λ x. p (f x)) xs
+list_any-map p f [] = refl
+list_any-map p f (x ∷ xs) = rw (list_any-map p f xs) refl
+
+-- the marks of the legs of links are those of the links
+pub marks_in-legs : (network : Network) (links : List ℕ) → marks_in (length network.links) (map (leg_of network) links) ≡ marks_of network links
+marks_in-legs network links = map_range_agree (λ k. list_any (λ (leg : Leg). leg.link == k) (map (leg_of network) links)) (λ k. list_any (λ j. j == k) links) 0 (length network.links) (λ k low high. list_any-map (λ (leg : Leg). leg.link == k) (leg_of network) links)

@@ -1,6 +1,6 @@
 //! What goes over a link, gathered from the ways of all hosts.
 
-ghost use Rattle.std.specs.Prelude.{◌≡◌, ◌≤◌, ◌<◌, ◌^◌, length, map, true, false, All};
+ghost use Rattle.std.specs.Prelude.{◌≡◌, ◌≤◌, ◌<◌, ◌^◌, ℕ, Bool, length, map, true, false, All, IfOk};
 ghost use Rattle.std.specs.List.{range_with_len};
 ghost use Rattle.sb_flow.specs.Gathered.{all_words_on, flows_from, gathered, host_words_on, is_on, mask_of, words_on};
 ghost use Rattle.sb_flow.specs.LoadOf.{load_of};
@@ -8,6 +8,7 @@ ghost use Rattle.sb_flow.specs.LoadOf.{load_of};
 use crate::flow_path::FlowPath;
 use crate::host_paths::{flows_of, HostPaths};
 use crate::load::Load;
+use std::alloc::{AllocError, Global};
 
 /// A link is on a way.
 fn has_link(flow: &FlowPath, link: usize) -> bool
@@ -92,4 +93,17 @@ pub fn load(hosts: &[HostPaths], link: usize) -> Load
         answers: all_words(hosts, link, true),
         through: through(hosts, link),
     }
+}
+
+/// What goes over each of so many links.
+pub fn loads(alloc: Global, hosts: &[HostPaths], links: usize) -> Result<Vec<Load>, AllocError>
+    requires devices { All (λ h. length h.flows ≤ 32) hosts.now }
+    requires words { (k : ℕ) (up : Bool) → all_words_on k up hosts.now ≤ 262144 }
+    ensures { IfOk result (λ loads. map load_of loads.items ≡ map (λ k. gathered k hosts.now) (range_with_len 0 links)) }
+{
+    let mut loads = Vec::new(alloc);
+    for link in 0..links {
+        loads.push(load(hosts, link))?;
+    }
+    Ok(loads)
 }

@@ -1,10 +1,16 @@
 //! The ways of one host.
 
-ghost use Rattle.std.specs.Prelude.{◌≡◌, ◌==◌, option_copied};
-ghost use Rattle.std.specs.List.{find};
+ghost use Rattle.std.specs.Prelude.{◌≡◌, ◌<◌, ◌==◌, length, map, option_copied, slice_index_or, IfOk};
+ghost use Rattle.std.specs.List.{enumerate_from, find};
+ghost use Rattle.sb_flow.specs.Rows.{host_of};
+ghost use Rattle.sb_flow.specs.NetworkOf.{network_of};
+ghost use Rattle.sb_flow.specs.Tables.{host_table_of};
 ghost use Rattle.sb_flow.specs.Gathered.{flows_from};
+ghost use Rattle.sb_flow.specs.declared.host_plan.HostPlan.{HostPlan as AnyHost};
 
-use crate::flow_path::FlowPath;
+use crate::bundle::Bundle;
+use crate::flow_path::{flow_path, FlowPath};
+use std::alloc::{AllocError, Global};
 use std::marker::Model;
 
 /// The ways from a host, one for each device.
@@ -38,4 +44,30 @@ pub fn flows_of(hosts: &[HostPaths], id: u8) -> &[FlowPath]
         None => &[],
         Some(paths) => paths.flows.as_slice(),
     }
+}
+
+/// The ways from a host of a bundle.
+fn host_paths(alloc: Global, bundle: &Bundle, host: u8) -> Result<HostPaths, AllocError>
+    requires { host < length bundle.now.hosts.items }
+    ensures { (d : AnyHost) → IfOk result (λ paths. paths ≡ host_table_of (network_of bundle.now) host (host_of (slice_index_or bundle.now.hosts.items host d))) }
+{
+    let mut flows = Vec::new(alloc);
+    for device in 0..bundle.devices.len() {
+        let flow = flow_path(alloc, bundle, host, device as u8)?;
+        flows.push(flow)?;
+    }
+    let id = bundle.hosts[usize::from(host)].id;
+    Ok(HostPaths { id, flows })
+}
+
+/// The ways from all hosts of a bundle.
+pub fn all_paths(alloc: Global, bundle: &Bundle) -> Result<Vec<HostPaths>, AllocError>
+    ensures { IfOk result (λ hosts. hosts.items ≡ map (λ p. host_table_of (network_of bundle.now) p.0 p.1) (enumerate_from 0 (network_of bundle.now).hosts)) }
+{
+    let mut hosts = Vec::new(alloc);
+    for host in 0..bundle.hosts.len() {
+        let paths = host_paths(alloc, bundle, host as u8)?;
+        hosts.push(paths)?;
+    }
+    Ok(hosts)
 }
