@@ -1,15 +1,17 @@
 -- What each bundle keeps, in the words of its network.
 use Rattle.std.proofs.Common.{◌≡◌, ◌≤◌, ◌<◌, ℕ, ◌+◌, List, length, get_or, refl, ap, sym, ◌∙◌, arith, map, Bool, [], subst}
 use Rattle.std.specs.Prelude.{All, sum_by, filter, if◌then◌else◌}
+use Rattle.std.specs.Vec.{vec_len}
+use Rattle.std.proofs.Math.ListN.{get_or-map as get_or-map-both}
 use Rattle.std.proofs.lemmas.List.{get_or-map, length-map}
-use Rattle.std.proofs.lemmas.List.Elements.{All-map}
+use Rattle.std.proofs.lemmas.List.Elements.{All-map, All-nil}
 use Rattle.std.proofs.lemmas.List.Sums.{get_or-le-sum_by}
 use Rattle.sb_packet.specs.Networks.{NetDevice, NetHost, Network, has_address}
 use Rattle.sb_packet.specs.Scripts.{IsTransaction}
 use Rattle.sb_packet.specs.Ways.{aims_at, is_aimed_at, way_links}
 use Rattle.sb_packet.specs.Rings.{is_answered, way_accesses}
 use Rattle.std.specs.List.{list_any}
-use Rattle.sb_flow.specs.Rows.{device_of, host_of}
+use Rattle.sb_flow.specs.Rows.{device_of, host_of, link_of}
 use Rattle.sb_flow.specs.Accepted.{IsAccepted}
 use Rattle.sb_flow.specs.NetworkOf.{network_of}
 use Rattle.sb_flow.specs.Counts.{answered_at, words_at}
@@ -91,3 +93,21 @@ flow_table_from network h k links host legs on words answered many legs_are on_a
     ∙ ap (λ (on : List Bool). record { legs = map (leg_of network) (aimed_links network h host k); on = on; words = words; answered = answered }) marked
     ∙ ap (λ (words : ℕ). record { legs = map (leg_of network) (aimed_links network h host k); on = marks_of network (aimed_links network h host k); words = words; answered = answered }) words_are
     ∙ ap (λ (answered : ℕ). record { legs = map (leg_of network) (aimed_links network h host k); on = marks_of network (aimed_links network h host k); words = length (way_accesses network (way_of network h host k)); answered = answered }) answered_are
+
+-- a host that asks for nothing, where one is wanted for what is missing
+pub idle_plan : HostPlan
+idle_plan = record { name = []; id = 0; qos = 0; prot = 0; script = []; lines = All-nil IsTransaction }
+
+-- the hosts and the devices of a bundle's network are as many as the bundle's
+pub host_count : (b : Bundle) → length (network_of b).hosts ≡ vec_len b.hosts
+host_count b = length-map b.hosts.items host_of ∙ sym b.hosts.ok.0
+
+pub device_count : (b : Bundle) → length (network_of b).devices ≡ vec_len b.devices
+device_count b = length-map b.devices.items device_of ∙ sym b.devices.ok.0
+
+pub link_count : (b : Bundle) → length (network_of b).links ≡ vec_len b.links
+link_count b = length-map b.links.items link_of ∙ sym b.links.ok.0
+
+-- a host of the bundle is that of its network
+pub host_of_network : (b : Bundle) (h : ℕ) (d : HostPlan) → get_or (network_of b).hosts h (host_of d) ≡ host_of (get_or b.hosts.items h d)
+host_of_network b h d = get_or-map-both host_of b.hosts.items h d

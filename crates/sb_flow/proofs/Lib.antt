@@ -10,3 +10,4 @@ pub mod Pages
 pub mod Apart
 pub mod FlowWords
 pub mod Bundles
+pub mod Tabled
