@@ -11,3 +11,5 @@ pub mod Apart
 pub mod FlowWords
 pub mod Bundles
 pub mod Tabled
+pub mod FlowWays
+pub mod TableReads

@@ -3,6 +3,7 @@ use Rattle.std.specs.Prelude.{ℕ, ◌+◌, ◌*◌, Bool, false, ◌==◌, List
 use Rattle.std.specs.List.{find, range_with_len}
 use Rattle.std.specs.Option.{option_map_or}
 use Rattle.sb_flow.specs.Tables.{FlowTable, HostTable, LinkTable}
+use Rattle.sb_flow.specs.declared.leg.Leg.{Leg}
 
 -- link k is on a way
 abbrev pub is_on : ℕ → FlowTable → Bool
@@ -39,6 +40,10 @@ devices_on k flows = map (is_device_on k flows) (range_with_len 0 32)
 -- the ways from the host with an id; none where no host has it
 abbrev pub flows_from : List HostTable → ℕ → List FlowTable
 flows_from hosts id = option_map_or (λ h. h.flows) (find (λ h. h.id == id) hosts) []
+
+-- the links of the way from the host with an id to device d; none where there is no such host or device
+abbrev pub legs_at : List HostTable → ℕ → ℕ → List Leg
+legs_at hosts id d = option_map_or (λ f. f.legs) (slice_get (flows_from hosts id) d) []
 
 -- what goes over link k
 abbrev pub gathered : ℕ → List HostTable → LinkTable

@@ -5,11 +5,12 @@ ghost use Rattle.std.specs.List.{enumerate_from, find};
 ghost use Rattle.sb_flow.specs.Rows.{host_of};
 ghost use Rattle.sb_flow.specs.NetworkOf.{network_of};
 ghost use Rattle.sb_flow.specs.Tables.{host_table_of};
-ghost use Rattle.sb_flow.specs.Gathered.{flows_from};
+ghost use Rattle.sb_flow.specs.Gathered.{flows_from, legs_at};
 ghost use Rattle.sb_flow.specs.declared.host_plan.HostPlan.{HostPlan as AnyHost};
 
 use crate::bundle::Bundle;
 use crate::flow_path::{flow_path, FlowPath};
+use crate::leg::Leg;
 use std::alloc::{AllocError, Global};
 use std::marker::Model;
 
@@ -43,6 +44,16 @@ pub fn flows_of(hosts: &[HostPaths], id: u8) -> &[FlowPath]
     match host_with(hosts, id) {
         None => &[],
         Some(paths) => paths.flows.as_slice(),
+    }
+}
+
+/// The links of the way from the host with an id to a device; none where that is no flow.
+pub fn legs_of(hosts: &[HostPaths], id: u8, device: u8) -> &[Leg]
+    ensures { result.now ≡ legs_at hosts.now id device }
+{
+    match flows_of(hosts, id).get(usize::from(device)) {
+        None => &[],
+        Some(flow) => flow.legs.as_slice(),
     }
 }
 

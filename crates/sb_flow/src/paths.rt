@@ -1,7 +1,8 @@
 //! By which links packets go, and what each ring is made for.
 
-ghost use Rattle.std.specs.Prelude.{◌≡◌, ◌*◌, ◌+◌, ◌<◌, ◌≤◌, length, IfOk, IsSome};
-ghost use Rattle.sb_packet.specs.Ways.{link_down, link_up};
+ghost use Rattle.std.specs.Prelude.{◌≡◌, option_copied, option_map, IfOk, IsSome};
+ghost use Rattle.std.specs.List.{find};
+ghost use Rattle.sb_packet.specs.Ways.{is_some_number, link_down, link_up};
 ghost use Rattle.sb_packet.specs.Rings.{ring_link, ring_plan};
 ghost use Rattle.sb_link.specs.PlanOf.{plan_of};
 ghost use Rattle.sb_flow.specs.NetworkOf.{network_of};
@@ -9,11 +10,44 @@ ghost use Rattle.sb_flow.specs.Tables.{paths_of};
 ghost use Rattle.sb_flow.specs.declared.bundle.Bundle.{Bundle as AnyBundle};
 
 use crate::bundle::Bundle;
-use crate::host_paths::HostPaths;
+use crate::gather::loads;
+use crate::host_paths::{all_paths, legs_of, HostPaths};
+use crate::leg::Leg;
 use crate::load::Load;
+use crate::walk::is_number;
 use sb_link::LinkPlan;
 use std::alloc::{AllocError, Global};
 use std::marker::Model;
+
+/// The first of some legs that leaves a router.
+fn leg_from(legs: &[Leg], router: u8) -> Option<&Leg>
+    ensures { option_copied result ≡ find (λ leg. is_some_number router leg.from) legs.now }
+{
+    legs.iter().find(|leg| is_number(leg.from, router))
+}
+
+/// The first of some legs that leads to a router.
+fn leg_to(legs: &[Leg], router: u8) -> Option<&Leg>
+    ensures { option_copied result ≡ find (λ leg. is_some_number router leg.to) legs.now }
+{
+    legs.iter().find(|leg| is_number(leg.to, router))
+}
+
+/// The link of the leg that leaves a router.
+fn link_from(legs: &[Leg], router: u8) -> Option<u8>
+    ensures { result ≡ option_map (λ leg. leg.link) (find (λ leg. is_some_number router leg.from) legs.now) }
+{
+    let leg = leg_from(legs, router)?;
+    Some(leg.link)
+}
+
+/// The link of the leg that leads to a router.
+fn link_to(legs: &[Leg], router: u8) -> Option<u8>
+    ensures { result ≡ option_map (λ leg. leg.link) (find (λ leg. is_some_number router leg.to) legs.now) }
+{
+    let leg = leg_to(legs, router)?;
+    Some(leg.link)
+}
 
 /// The ways of all flows of a bundle. Contracts see them as a table that the bundle's network determines.
 #[derive(Drop)]
@@ -37,7 +71,9 @@ impl Paths {
     pub fn new(alloc: Global, bundle: &Bundle) -> Result<Paths, AllocError>
         ensures { IfOk result (λ paths. paths ≡ paths_of (network_of bundle.now)) }
     {
-        unreachable!()
+        let hosts = all_paths(alloc, bundle)?;
+        let links = loads(alloc, &hosts, bundle.links.len())?;
+        Ok(Paths { hosts, links })
     }
 
     /// The link by which the flow of a host, named by its id, to a device leaves a router towards the device. None
@@ -45,14 +81,14 @@ impl Paths {
     pub fn down(&self, router: u8, host: u8, device: u8) -> Option<u8>
         ensures { (bundle : AnyBundle) → self.now ≡ paths_of (network_of bundle) → result ≡ link_down (network_of bundle) router (record { host = host; device = device }) }
     {
-        unreachable!()
+        link_from(legs_of(&self.hosts, host, device), router)
     }
 
     /// The link by which this flow leaves the router towards the host.
     pub fn up(&self, router: u8, host: u8, device: u8) -> Option<u8>
         ensures { (bundle : AnyBundle) → self.now ≡ paths_of (network_of bundle) → result ≡ link_up (network_of bundle) router (record { host = host; device = device }) }
     {
-        unreachable!()
+        link_to(legs_of(&self.hosts, host, device), router)
     }
 
     /// What a ring is made for. The paths are those of the bundle. Link `k` has ring `2k` for requests and ring
