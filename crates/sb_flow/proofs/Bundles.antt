@@ -111,3 +111,10 @@ link_count b = length-map b.links.items link_of ∙ sym b.links.ok.0
 -- a host of the bundle is that of its network
 pub host_of_network : (b : Bundle) (h : ℕ) (d : HostPlan) → get_or (network_of b).hosts h (host_of d) ≡ host_of (get_or b.hosts.items h d)
 host_of_network b h d = get_or-map-both host_of b.hosts.items h d
+
+-- the limits of a bundle's lists
+pub few_devices : (b : Bundle) → length (network_of b).devices ≤ 32
+few_devices b = grind (arith, b.limits)
+
+pub few_links : (b : Bundle) → length (network_of b).links ≤ 128
+few_links b = grind (arith, b.limits)

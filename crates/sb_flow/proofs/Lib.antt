@@ -13,3 +13,6 @@ pub mod Bundles
 pub mod Tabled
 pub mod FlowWays
 pub mod TableReads
+pub mod WordBounds
+pub mod LinkTables
+pub mod PathTables

@@ -15,6 +15,9 @@ if-le false n = omega arith
 pub words_at-le : (device : NetDevice) (t : Txn) → words_at device t ≤ t.count
 words_at-le device t = if-le (has_address t.addr device) t.count
 
+pub answered_at-le-words : (device : NetDevice) (t : Txn) → answered_at device t ≤ words_at device t
+answered_at-le-words device t = if-le (is_answered_kind t.kind) (words_at device t)
+
 pub answered_at-le : (device : NetDevice) (t : Txn) → answered_at device t ≤ t.count
 answered_at-le device t = omega (arith, if-le (is_answered_kind t.kind) (words_at device t), words_at-le device t)
 
