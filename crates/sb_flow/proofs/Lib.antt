@@ -16,3 +16,5 @@ pub mod TableReads
 pub mod WordBounds
 pub mod LinkTables
 pub mod PathTables
+pub mod RangeTables
+pub mod BundleRanges

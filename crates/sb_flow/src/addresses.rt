@@ -10,7 +10,7 @@ use crate::bundle::Bundle;
 use crate::device_plan::DevicePlan;
 
 /// How many bytes a device has; a page has 4,096.
-fn size(device: &DevicePlan) -> u64
+pub fn size(device: &DevicePlan) -> u64
     ensures { result ≡ device_size (device_of device.now) }
 {
     let pages = device.pages;

@@ -14,6 +14,7 @@ mod load;
 mod marks;
 mod paths;
 mod place;
+mod ranges;
 mod router_plan;
 mod script_counts;
 mod walk;

@@ -1,9 +1,9 @@
 //! By which links packets go, and what each ring is made for.
 
-ghost use Rattle.std.specs.Prelude.{◌≡◌, option_copied, option_map, IfOk, IsSome};
+ghost use Rattle.std.specs.Prelude.{◌≡◌, option_copied, option_map, IfOk, IsSome, if◌then◌else◌};
 ghost use Rattle.std.specs.List.{find};
 ghost use Rattle.sb_packet.specs.Ways.{is_some_number, link_down, link_up};
-ghost use Rattle.sb_packet.specs.Rings.{ring_link, ring_plan};
+ghost use Rattle.sb_packet.specs.Rings.{is_upward, ring_link, ring_plan};
 ghost use Rattle.sb_link.specs.PlanOf.{plan_of};
 ghost use Rattle.sb_flow.specs.NetworkOf.{network_of};
 ghost use Rattle.sb_flow.specs.Tables.{paths_of};
@@ -14,6 +14,7 @@ use crate::gather::loads;
 use crate::host_paths::{all_paths, legs_of, HostPaths};
 use crate::leg::Leg;
 use crate::load::Load;
+use crate::ranges::flows;
 use crate::walk::is_number;
 use sb_link::LinkPlan;
 use std::alloc::{AllocError, Global};
@@ -47,6 +48,38 @@ fn link_to(legs: &[Leg], router: u8) -> Option<u8>
 {
     let leg = leg_to(legs, router)?;
     Some(leg.link)
+}
+
+/// The link whose ring it is.
+fn link_of(bundle: &Bundle, ring: u16) -> Option<u8>
+    ensures { result ≡ ring_link (network_of bundle.now) ring }
+{
+    let link = usize::from(ring / 2);
+    if link < bundle.links.len() {
+        Some(link as u8)
+    } else if link == bundle.links.len() {
+        bundle.wire
+    } else {
+        None
+    }
+}
+
+/// A ring carries answers.
+fn is_up(ring: u16) -> bool
+    ensures { result ≡ is_upward ring }
+{
+    ring % 2 == 1
+}
+
+/// The words over a link, where requests go or where answers go.
+fn budget(load: &Load, up: bool) -> u32
+    ensures { result ≡ (if up then load.now.answers else load.now.requests) }
+{
+    if up {
+        load.answers
+    } else {
+        load.requests
+    }
 }
 
 /// The ways of all flows of a bundle. Contracts see them as a table that the bundle's network determines.
@@ -98,6 +131,19 @@ impl Paths {
         requires there { IsSome (ring_link (network_of bundle.now) ring) }
         ensures { plan_of result ≡ ring_plan (network_of bundle.now) ring }
     {
-        unreachable!()
+        let Some(link) = link_of(bundle, ring) else {
+            unreachable!()
+        };
+        let row = &bundle.links[usize::from(link)];
+        let load = &self.links[usize::from(link)];
+        let up = is_up(ring);
+        LinkPlan {
+            ring,
+            up,
+            width: row.width,
+            capacity: row.capacity,
+            budget: budget(load, up),
+            flows: flows(bundle, load.through),
+        }
     }
 }
