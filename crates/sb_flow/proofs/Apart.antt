@@ -25,7 +25,7 @@ not_both x y a apart in_y in_x =
     let y_high = ltb-true a (y.base + device_size y) ys.1 in
     let x_high = ltb-true a (x.base + device_size x) xs.1 in
     elim (or_cases (nat_le (x.base + device_size x) y.base) (nat_le (y.base + device_size y) x.base) apart) [
-      inl before ↦ omega (arith, leb-true (x.base + device_size x) y.base before, y_low, x_high)
+      | inl before ↦ omega (arith, leb-true (x.base + device_size x) y.base before, y_low, x_high)
       | inr behind ↦ omega (arith, leb-true (y.base + device_size y) x.base behind, x_low, y_high)
     ]
 

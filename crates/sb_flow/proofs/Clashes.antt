@@ -51,13 +51,14 @@ no_clash_behind : {A : Type 0} (clash : A → A → Bool) (before xs : List A) (
 no_clash_behind clash before [] i j d h below low high = absurd (omega (arith, simp (length-append) at high))
 no_clash_behind {A} clash before (x ∷ xs) i j d h below low high =
     elim (cases_eq j (length before)) [
-      inl here ↦ at_once here
+      | inl here ↦ at_once here
       | inr later ↦ subst (λ (all : List A). clash (get_or all j d) (get_or all i d) ≡ false) (append_assoc before (x ∷ []) xs)
-        (no_clash_behind clash (before ++ x ∷ []) xs i j d parts.1 below (omega (arith, length-append before (x ∷ []), low, later)) (subst (λ (all : List A). j < length all) (sym (append_assoc before (x ∷ []) xs)) high))
+          (no_clash_behind clash (before ++ x ∷ []) xs i j d parts.1 below (omega (arith, length-append before (x ∷ []), low, later)) (subst (λ (all : List A). j < length all) (sym (append_assoc before (x ∷ []) xs)) high))
     ]
   where
     parts : (option_map {U = Clash} (λ earlier. record { at = length before; earlier = earlier }) (position_from (λ y. clash x y) 0 before) ≡ None) × (clash_behind clash (before ++ x ∷ []) xs ≡ None)
     parts = option_or-None (option_map {U = Clash} (λ earlier. record { at = length before; earlier = earlier }) (position_from (λ y. clash x y) 0 before)) (clash_behind clash (before ++ x ∷ []) xs) h
+
     at_once : j ≡ length before → clash (get_or (before ++ x ∷ xs) j d) (get_or (before ++ x ∷ xs) i d) ≡ false
     at_once here =
         let front : i < length before = omega arith in

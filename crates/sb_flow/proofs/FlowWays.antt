@@ -62,13 +62,14 @@ module _ {A : Type 0} (p : A → Bool) (aims : ℕ → Bool) (way : ℕ → A) (
   one_among : (a n : ℕ) → a ≤ d → d < a + n → filter p (map way (filter aims (range_with_len a n))) ≡ (if aims d then way d ∷ [] else [])
   one_among a zero low high = absurd (omega arith)
   one_among a (suc n) low high = elim (cases_eq a d) [
-    inl here ↦ rw (← here) (at here (aims a) (one_before (a + 1) n (omega arith)))
+    | inl here ↦ rw (← here) (at here (aims a) (one_before (a + 1) n (omega arith)))
     | inr other ↦ later other (aims a) (one_among (a + 1) n (omega arith) (omega arith))
   ]
     where
       at : a ≡ d → (b : Bool) → filter p (map way (filter aims (range_with_len (a + 1) n))) ≡ [] → filter p (map way (cond b (a ∷ filter aims (range_with_len (a + 1) n)) (filter aims (range_with_len (a + 1) n)))) ≡ (if b then way a ∷ [] else [])
       at here true rest = let same : p (way a) ≡ true = is a ∙ eq-eqb a d here in rw (same, rest) refl
       at here false rest = rest
+
       later : (a ≡ d → ⊥) → (b : Bool) → filter p (map way (filter aims (range_with_len (a + 1) n))) ≡ (if aims d then way d ∷ [] else []) → filter p (map way (cond b (a ∷ filter aims (range_with_len (a + 1) n)) (filter aims (range_with_len (a + 1) n)))) ≡ (if aims d then way d ∷ [] else [])
       later ne true rest = let other : p (way a) ≡ false = is a ∙ ne_eqb a d ne in rw other rest
       later ne false rest = rest
@@ -104,10 +105,11 @@ host_ways_of network h host f = by (host.id == f.host) refl
   where
     way : ℕ → NetWay
     way d = record { host = host; device = d; links = way_links network h d }
+
     by : (b : Bool) → (host.id == f.host) ≡ b → filter (is_way_of f) (host_ways network h host) ≡ (if b then host_way network h host f.device else [])
     by false other = filter-none (is_way_of f) way (filter (aims_at network host) (range_with_len 0 (length network.devices))) (λ d. rw other refl)
     by true same = elim (cases_lt f.device (length network.devices)) [
-      inl there ↦ one_among (is_way_of f) (aims_at network host) way f.device (λ d. rw same refl) 0 (length network.devices) (omega arith) (omega arith)
+      | inl there ↦ one_among (is_way_of f) (aims_at network host) way f.device (λ d. rw same refl) 0 (length network.devices) (omega arith) (omega arith)
       | inr behind ↦ one_behind (is_way_of f) (aims_at network host) way f.device (λ d. rw same refl) 0 (length network.devices) (omega arith) ∙ (rw (aims_nowhere network host f.device behind) refl)
     ]
 
@@ -150,6 +152,7 @@ flow_links-is network f ids =
     one : (b : Bool) (host : NetHost) (links : List ℕ) → option_map_or (λ (w : NetWay). w.links) (slice_get (if b then record { host = host; device = f.device; links = links } ∷ [] else []) 0) [] ≡ (if b then links else [])
     one true host links = refl
     one false host links = refl
+
     by : (found : Option (ℕ × NetHost)) → option_map_or (λ (w : NetWay). w.links) (slice_get (option_map_or (λ (p : ℕ × NetHost). host_way network p.0 p.1 f.device) found []) 0) [] ≡ option_map_or (λ (p : ℕ × NetHost). aimed_links network p.0 p.1 f.device) found []
     by None = refl
     by (Some p) = one (aims_at network p.1 f.device) p.1 (way_links network p.0 f.device)
@@ -163,9 +166,11 @@ flow_on_link network k f ids =
     or-false : (b : Bool) → (b || false) ≡ b
     or-false true = refl
     or-false false = refl
+
     one : (b : Bool) (host : NetHost) (links : List ℕ) → list_any (has_link k) (if b then record { host = host; device = f.device; links = links } ∷ [] else []) ≡ list_any (λ j. j == k) (if b then links else [])
     one true host links = or-false (list_any (λ j. j == k) links)
     one false host links = refl
+
     by : (found : Option (ℕ × NetHost)) → list_any (has_link k) (option_map_or (λ (p : ℕ × NetHost). host_way network p.0 p.1 f.device) found []) ≡ list_any (λ j. j == k) (option_map_or (λ (p : ℕ × NetHost). aimed_links network p.0 p.1 f.device) found [])
     by None = refl
     by (Some p) = one (aims_at network p.1 f.device) p.1 (way_links network p.0 f.device)

@@ -18,3 +18,6 @@ pub mod LinkTables
 pub mod PathTables
 pub mod RangeTables
 pub mod BundleRanges
+pub mod RingPlans
+pub mod RingLinks
+pub mod ReadPlans

@@ -46,6 +46,7 @@ marks_in-push n legs leg = map_range-set (λ k. list_any (λ leg. leg.link == k)
     or-false : (b : Bool) → (b || (false || false)) ≡ b
     or-false true = refl
     or-false false = refl
+
     or-true : (b : Bool) → (b || (true || false)) ≡ true
     or-true true = refl
     or-true false = refl

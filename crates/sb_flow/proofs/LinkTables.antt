@@ -32,11 +32,14 @@ host_words-is network k up h host a (suc n) there =
   where
     way : ℕ → NetWay
     way d = record { host = host; device = d; links = way_links network h d }
+
     rest : List ℕ
     rest = filter (aims_at network host) (range_with_len (a + 1) n)
+
     one : (c : Bool) → (if c then counted_of network up (way a) else 0) + sum_by (counted_of network up) (filter (has_link k) (map way rest)) ≡ sum_by (counted_of network up) (cond c (way a ∷ filter (has_link k) (map way rest)) (filter (has_link k) (map way rest)))
     one true = sym (sum_by-cons (counted_of network up) (way a) (filter (has_link k) (map way rest)))
     one false = omega arith
+
     by : (b : Bool) → sum_by (words_on k up) (map (flow_table_of network h host) (range_with_len (a + 1) n)) ≡ sum_by (counted_of network up) (filter (has_link k) (map way rest))
         → (if slice_index_or (marks_of network (if b then way_links network h a else [])) k false then counted_of network up (way a) else 0) + sum_by (words_on k up) (map (flow_table_of network h host) (range_with_len (a + 1) n)) ≡ sum_by (counted_of network up) (filter (has_link k) (map way (cond b (a ∷ rest) rest)))
     by true same = rw (marked network (way_links network h a) k there, same) (one (list_any (λ j. j == k) (way_links network h a)))
@@ -49,7 +52,7 @@ all_words-is network k up s (host ∷ hosts) there =
     sum_by-cons (λ (t : HostTable). host_words_on k up t.flows) (host_table_of network s host) (map (λ p. host_table_of network p.0 p.1) (enumerate_from (s + 1) hosts))
     ∙ rw (host_words-is network k up s host 0 (length network.devices) there, all_words-is network k up (s + 1) hosts there)
     (sym (ap (sum_by (counted_of network up)) (filter-append (has_link k) (host_ways network s host) (flat_map (λ p. host_ways network p.0 p.1) (enumerate_from (s + 1) hosts)))
-      ∙ sum_by-append (counted_of network up) (filter (has_link k) (host_ways network s host)) (filter (has_link k) (flat_map (λ p. host_ways network p.0 p.1) (enumerate_from (s + 1) hosts)))))
+    ∙ sum_by-append (counted_of network up) (filter (has_link k) (host_ways network s host)) (filter (has_link k) (flat_map (λ p. host_ways network p.0 p.1) (enumerate_from (s + 1) hosts)))))
 
 -- The table of a link.
 pub gathered-is : (network : Network) (k : ℕ) → repeated_id network ≡ None → k < length network.links → gathered k (paths_of network).hosts ≡ link_table_of network k
@@ -61,4 +64,4 @@ gathered-is network k ids there =
     through : map (λ id. devices_on k (flows_from (paths_of network).hosts id)) (range_with_len 0 32) ≡ flow_table (link_ways network k)
     through = map_range_agree (λ id. devices_on k (flows_from (paths_of network).hosts id)) (λ id. map (λ d. list_any (λ way. (way.host.id == id) && (way.device == d)) (link_ways network k)) (range_with_len 0 32)) 0 32
         (λ id low high. map_range_agree (is_device_on k (flows_from (paths_of network).hosts id)) (λ d. list_any (λ way. (way.host.id == id) && (way.device == d)) (link_ways network k)) 0 32
-          (λ d low high. is_device_on-is network k (record { host = id; device = d }) there ∙ sym (flow_on_link network k (record { host = id; device = d }) ids)))
+        (λ d low high. is_device_on-is network k (record { host = id; device = d }) there ∙ sym (flow_on_link network k (record { host = id; device = d }) ids)))

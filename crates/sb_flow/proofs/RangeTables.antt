@@ -28,7 +28,7 @@ slice_get-map f [] k = refl
 slice_get-map f (x ∷ xs) zero = refl
 slice_get-map f (x ∷ xs) (suc k) = slice_get-map f xs k
 
-slice_get-there : {A : Type 0} (xs : List A) (k : ℕ) (d : A) → k < length xs → slice_get xs k ≡ Some (get_or xs k d)
+pub slice_get-there : {A : Type 0} (xs : List A) (k : ℕ) (d : A) → k < length xs → slice_get xs k ≡ Some (get_or xs k d)
 slice_get-there [] k d h = absurd (omega arith)
 slice_get-there (x ∷ xs) zero d h = refl
 slice_get-there (x ∷ xs) (suc k) d h = slice_get-there xs k d (omega arith)
@@ -41,6 +41,7 @@ ranges_are devices base bytes bases sizes = map_range_agree (λ k. record { base
     by : (found : Option DevicePlan) → record { base = option_map_or (λ (d : DevicePlan). d.base) found 0; bytes = option_map_or (λ d. device_size (device_of d)) found 0 } ≡ option_map_or range_of (option_map device_of found) no_range
     by None = refl
     by (Some d) = refl
+
     one : (k : ℕ) → 0 ≤ k → k < 0 + 32 → record { base = slice_index_or base k 0; bytes = slice_index_or bytes k 0 } ≡ option_map_or range_of (slice_get (map device_of devices) k) no_range
     one k low high =
         let there : k < 32 = omega arith in
@@ -57,6 +58,7 @@ used_ranges network few =
   where
     no_device : NetDevice
     no_device = record { name = []; base = 0; pages = 0; readonly = true; image = [] }
+
     one : (k : ℕ) → k < length network.devices → get_or (map range_of network.devices) k no_range ≡ option_map_or range_of (slice_get network.devices k) no_range
     one k h = get_or-map range_of network.devices k no_device no_range h ∙ ap (λ (found : Option NetDevice). option_map_or range_of found no_range) (sym (slice_get-there network.devices k no_device h))
 

@@ -35,6 +35,7 @@ position_from-is p s (suc k) (x ∷ xs) d single h =
     none : (b : Bool) → (b ≡ true → ⊥) → false ≡ b
     none true h = absurd (h refl)
     none false h = refl
+
     later : (b : Bool) (rest : Option ℕ) → p x ≡ b → is_some_number (s + suc k) rest ≡ p (get_or xs k d) → is_some_number (s + suc k) (cond b (Some s) rest) ≡ p (get_or xs k d)
     later true rest at other = ne_eqb s (s + suc k) (λ e. omega arith) ∙ none (p (get_or xs k d)) (λ also. single zero (suc k) d (omega arith) (omega arith) at also)
     later false rest at other = other

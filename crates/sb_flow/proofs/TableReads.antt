@@ -51,9 +51,10 @@ legs_at-is network f = ap (λ (flows : List FlowTable). option_map_or (λ (t : F
   where
     one : (h : ℕ) (host : NetHost) → option_map_or (λ (t : FlowTable). t.legs) (slice_get (map (flow_table_of network h host) (range_with_len 0 (length network.devices))) f.device) [] ≡ map (leg_of network) (aimed_links network h host f.device)
     one h host = elim (cases_lt f.device (length network.devices)) [
-      inl there ↦ let e : 0 + f.device ≡ f.device = omega arith in rw (slice_get-table (flow_table_of network h host) 0 (length network.devices) f.device there, e) refl
+      | inl there ↦ let e : 0 + f.device ≡ f.device = omega arith in rw (slice_get-table (flow_table_of network h host) 0 (length network.devices) f.device there, e) refl
       | inr behind ↦ rw (slice_get-behind (flow_table_of network h host) 0 (length network.devices) f.device behind, aims_nowhere network host f.device behind) refl
     ]
+
     by : (found : Option (ℕ × NetHost)) → option_map_or (λ (t : FlowTable). t.legs) (slice_get (option_map_or (λ (p : ℕ × NetHost). (host_table_of network p.0 p.1).flows) found []) f.device) [] ≡ map (leg_of network) (option_map_or (λ (p : ℕ × NetHost). aimed_links network p.0 p.1 f.device) found [])
     by None = refl
     by (Some p) = one p.0 p.1
@@ -64,11 +65,13 @@ is_device_on-is network k f h = ap (λ (flows : List FlowTable). is_device_on k 
   where
     marked : (links : List ℕ) → slice_index_or (marks_of network links) k false ≡ list_any (λ j. j == k) links
     marked links = get_or-map-range_with_len (λ k. list_any (λ j. j == k) links) 0 (length network.links) k k false h (omega arith)
+
     one : (h : ℕ) (host : NetHost) → is_device_on k (map (flow_table_of network h host) (range_with_len 0 (length network.devices))) f.device ≡ list_any (λ j. j == k) (aimed_links network h host f.device)
     one h host = elim (cases_lt f.device (length network.devices)) [
-      inl there ↦ let e : 0 + f.device ≡ f.device = omega arith in rw (slice_get-table (flow_table_of network h host) 0 (length network.devices) f.device there, e) (marked (aimed_links network h host f.device))
+      | inl there ↦ let e : 0 + f.device ≡ f.device = omega arith in rw (slice_get-table (flow_table_of network h host) 0 (length network.devices) f.device there, e) (marked (aimed_links network h host f.device))
       | inr behind ↦ rw (slice_get-behind (flow_table_of network h host) 0 (length network.devices) f.device behind, aims_nowhere network host f.device behind) refl
     ]
+
     by : (found : Option (ℕ × NetHost)) → is_device_on k (option_map_or (λ (p : ℕ × NetHost). (host_table_of network p.0 p.1).flows) found []) f.device ≡ list_any (λ j. j == k) (option_map_or (λ (p : ℕ × NetHost). aimed_links network p.0 p.1 f.device) found [])
     by None = refl
     by (Some p) = one p.0 p.1

@@ -63,16 +63,25 @@ flow_words-le network k up h host d good lines there = omega (arith, if-le (is_o
 -- what goes over a link from one host is no more than its script
 host_words-le : (network : Network) (k : ℕ) (up : Bool) (h : ℕ) (host : NetHost) → IsAccepted network → All IsTransaction host.script → host_words_on k up (host_table_of network h host).flows ≤ sum_by (λ t. t.count) host.script
 host_words-le network k up h host good lines =
-    omega (arith, sum_by_map (words_on k up) (flow_table_of network h host) (range_with_len 0 (length network.devices)),
+    omega (
+      arith,
+      sum_by_map (words_on k up) (flow_table_of network h host) (range_with_len 0 (length network.devices)),
       sum_range-le (λ d. words_on k up (flow_table_of network h host d)) (λ d. sum_by (words_at (get_or network.devices d no_device)) host.script) 0 (length network.devices) (λ d there. flow_words-le network k up h host d good lines (omega arith)),
-      sum_places (λ (device : NetDevice). sum_by (words_at device) host.script) network.devices no_device, script_at_devices network host.script good)
+      sum_places (λ (device : NetDevice). sum_by (words_at device) host.script) network.devices no_device,
+      script_at_devices network host.script good,
+    )
 
 -- what goes over a link from all hosts is no more than all scripts
 all_words-le : (network : Network) (k : ℕ) (up : Bool) (s : ℕ) (hosts : List NetHost) → IsAccepted network → All (λ h. All IsTransaction h.script) hosts → all_words_on k up (map (λ p. host_table_of network p.0 p.1) (enumerate_from s hosts)) ≤ sum_by (λ h. sum_by (λ t. t.count) h.script) hosts
 all_words-le network k up s [] good lines = omega arith
 all_words-le network k up s (host ∷ hosts) good lines =
-    omega (arith, sum_by-cons (λ (h : HostTable). host_words_on k up h.flows) (host_table_of network s host) (map (λ p. host_table_of network p.0 p.1) (enumerate_from (s + 1) hosts)), sum_by-cons (λ (h : NetHost). sum_by (λ t. t.count) h.script) host hosts,
-      host_words-le network k up s host good (All-head (λ h. All IsTransaction h.script) host hosts lines), all_words-le network k up (s + 1) hosts good (All-tail (λ h. All IsTransaction h.script) host hosts lines))
+    omega (
+      arith,
+      sum_by-cons (λ (h : HostTable). host_words_on k up h.flows) (host_table_of network s host) (map (λ p. host_table_of network p.0 p.1) (enumerate_from (s + 1) hosts)),
+      sum_by-cons (λ (h : NetHost). sum_by (λ t. t.count) h.script) host hosts,
+      host_words-le network k up s host good (All-head (λ h. All IsTransaction h.script) host hosts lines),
+      all_words-le network k up (s + 1) hosts good (All-tail (λ h. All IsTransaction h.script) host hosts lines),
+    )
 
 -- The words over a link, and those that are answered, are at most 262,144.
 pub words_bounded : (network : Network) (k : ℕ) (up : Bool) → IsAccepted network → all_words_on k up (paths_of network).hosts ≤ 262144

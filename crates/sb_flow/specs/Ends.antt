@@ -66,5 +66,5 @@ backward_link network = position_from (λ l. goes_back l.from l.to) 0 network.li
 -- The first host without a link from it, or else the first device without a link to it.
 abbrev pub unlinked_place : Network → Option NetPlace
 unlinked_place network = option_or
-  (option_map at_host (find (λ h. not (list_any (leaves_from h) network.links)) (range_with_len 0 (length network.hosts))))
-  (option_map at_device (find (λ d. not (list_any (leads_to d) network.links)) (range_with_len 0 (length network.devices))))
+    (option_map at_host (find (λ h. not (list_any (leaves_from h) network.links)) (range_with_len 0 (length network.hosts))))
+    (option_map at_device (find (λ d. not (list_any (leads_to d) network.links)) (range_with_len 0 (length network.devices))))

@@ -53,7 +53,12 @@ fn aimed_legs(alloc: Global, bundle: &Bundle, host: u8, device: u8) -> Result<Ve
 }
 
 /// The way from a host of a bundle to one of its devices.
-pub fn flow_path(alloc: Global, bundle: &Bundle, host: u8, device: u8) -> Result<FlowPath, AllocError>
+pub fn flow_path(
+    alloc: Global,
+    bundle: &Bundle,
+    host: u8,
+    device: u8,
+) -> Result<FlowPath, AllocError>
     requires host { host < length bundle.now.hosts.items }
     requires device { device < length bundle.now.devices.items }
     ensures { (d : AnyHost) → IfOk result (λ path. path ≡ flow_table_of (network_of bundle.now) host (host_of (slice_index_or bundle.now.hosts.items host d)) device) }

@@ -6,7 +6,7 @@ ghost use Rattle.sb_flow.specs.Gathered.{all_words_on, flows_from, gathered, hos
 ghost use Rattle.sb_flow.specs.LoadOf.{load_of};
 
 use crate::flow_path::FlowPath;
-use crate::host_paths::{flows_of, HostPaths};
+use crate::host_paths::{HostPaths, flows_of};
 use crate::load::Load;
 use std::alloc::{AllocError, Global};
 

@@ -9,7 +9,7 @@ ghost use Rattle.sb_flow.specs.Gathered.{flows_from, legs_at};
 ghost use Rattle.sb_flow.specs.declared.host_plan.HostPlan.{HostPlan as AnyHost};
 
 use crate::bundle::Bundle;
-use crate::flow_path::{flow_path, FlowPath};
+use crate::flow_path::{FlowPath, flow_path};
 use crate::leg::Leg;
 use std::alloc::{AllocError, Global};
 use std::marker::Model;

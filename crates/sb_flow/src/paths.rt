@@ -11,7 +11,7 @@ ghost use Rattle.sb_flow.specs.declared.bundle.Bundle.{Bundle as AnyBundle};
 
 use crate::bundle::Bundle;
 use crate::gather::loads;
-use crate::host_paths::{all_paths, legs_of, HostPaths};
+use crate::host_paths::{HostPaths, all_paths, legs_of};
 use crate::leg::Leg;
 use crate::load::Load;
 use crate::ranges::flows;
@@ -75,11 +75,7 @@ fn is_up(ring: u16) -> bool
 fn budget(load: &Load, up: bool) -> u32
     ensures { result ≡ (if up then load.now.answers else load.now.requests) }
 {
-    if up {
-        load.answers
-    } else {
-        load.requests
-    }
+    if up { load.answers } else { load.requests }
 }
 
 /// The ways of all flows of a bundle. Contracts see them as a table that the bundle's network determines.

@@ -18,6 +18,6 @@ returns c = λ d.
     let host = host_of (get_or c.args.bundle.now.hosts.items c.args.host d) in
     let id : c.index.result.now.id ≡ host.id = ap (λ (p : HostPlan). p.id) (sym (read_there c.args.bundle.now.hosts.items c.args.host c.index.result.now d c.requires (rw c.from.ensures at c.index.ensures))) in
     let flows : c.loop-device.flows.items ≡ map (flow_table_of (network_of c.args.bundle.now) c.args.host host) (range_with_len 0 (length (network_of c.args.bundle.now).devices)) =
-      table_end (flow_table_of (network_of c.args.bundle.now) c.args.host host) c.loop-device.flows.items c.loop-device.device (length (network_of c.args.bundle.now).devices)
-      (omega (arith, device_count c.args.bundle.now, c.len-device-end.ensures, c.loop-device.auto.device-end)) (omega (arith, device_count c.args.bundle.now, c.len-device-end.ensures, c.loop-device-test.false)) (c.loop-device.invariant d) in
+    table_end (flow_table_of (network_of c.args.bundle.now) c.args.host host) c.loop-device.flows.items c.loop-device.device (length (network_of c.args.bundle.now).devices)
+    (omega (arith, device_count c.args.bundle.now, c.len-device-end.ensures, c.loop-device.auto.device-end)) (omega (arith, device_count c.args.bundle.now, c.len-device-end.ensures, c.loop-device-test.false)) (c.loop-device.invariant d) in
     ap (λ (n : ℕ). record { id = n; flows = c.loop-device.flows.items }) id ∙ ap (λ (ys : List FlowTable). record { id = host.id; flows = ys }) flows

@@ -12,7 +12,8 @@ use Rattle.sb_flow.proofs.ranges.sizes.Goals as goal
 pub loop-place-preserved : goal.loop-place-preserved
 loop-place-preserved c = (
   omega (arith, length-set {A = ℕ}, c.loop-place.invariant.0),
-  λ k below. rw c.size_at.ensures (fill_by_more (λ k. option_map_or (λ (d : DevicePlan). device_size (device_of d)) (slice_get c.args.devices.now k) 0) c.loop-place.sizes c.loop-place.place 0 (omega (arith, c.loop-place.invariant.0)) c.loop-place.invariant.1 k below))
+  λ k below. rw c.size_at.ensures (fill_by_more (λ k. option_map_or (λ (d : DevicePlan). device_size (device_of d)) (slice_get c.args.devices.now k) 0) c.loop-place.sizes c.loop-place.place 0 (omega (arith, c.loop-place.invariant.0)) c.loop-place.invariant.1 k below),
+)
 
 pub returns : goal.returns
 returns c = fill_by_all (λ k. option_map_or (λ (d : DevicePlan). device_size (device_of d)) (slice_get c.args.devices.now k) 0) c.loop-place.sizes 32 0 c.loop-place.invariant.0 (λ k below. c.loop-place.invariant.1 k (omega arith))
