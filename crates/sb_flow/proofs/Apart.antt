@@ -1,15 +1,15 @@
 -- An address is of one device at most.
-use Rattle.std.proofs.Common.{◌≡◌, ◌≤◌, ◌<◌, ℕ, ◌+◌, Bool, true, false, ◌&&◌, ◌||◌, List, [], ◌∷◌, length, get_or, refl, ap, sym, ◌∙◌, arith, Option, Some, None, ltb-true}
-use Rattle.std.specs.Prelude.{nat_le, nat_lt, not, sum_by, if◌then◌else◌}
+use Rattle.std.proofs.Common.{◌≡◌, ◌<◌, ℕ, ◌+◌, true, length, get_or, arith, None, ltb-true}
+use Rattle.std.specs.Prelude.{nat_le, nat_lt, not}
 use Rattle.std.proofs.lemmas.Bool.{and_parts, leb-true, not-false, or_cases}
-use mathlib.Core.Logic.{◌⊎◌, inl, inr}
+use mathlib.Core.Logic.{inl, inr}
 use Rattle.sb_packet.specs.Networks.{NetDevice, Network, device_at, device_size, has_address}
-use Rattle.sb_packet.specs.Plans.{AreApart, are_apart}
+use Rattle.sb_packet.specs.Plans.{are_apart}
 use Rattle.sb_packet.specs.Ways.{is_some_number}
 use Rattle.sb_packet.specs.Rings.{range_of}
 use Rattle.sb_flow.specs.Ranges.{overlapping_device}
 use Rattle.sb_flow.proofs.Clashes.{no_clash}
-use Rattle.sb_flow.proofs.Singles.{IsSingle, position_from-is, sum_by-single}
+use Rattle.sb_flow.proofs.Singles.{IsSingle, position_from-is}
 
 -- each two devices lie apart
 pub devices_apart : (network : Network) (i j : ℕ) (d : NetDevice) → overlapping_device network ≡ None → i < j → j < length network.devices → are_apart (range_of (get_or network.devices j d)) (range_of (get_or network.devices i d)) ≡ true

@@ -1,5 +1,5 @@
 -- What each bundle keeps, in the words of its network.
-use Rattle.std.proofs.Common.{◌≡◌, ◌≤◌, ◌<◌, ℕ, ◌+◌, List, length, get_or, refl, ap, sym, ◌∙◌, arith, map, Bool, [], subst}
+use Rattle.std.proofs.Common.{◌≡◌, ◌≤◌, ◌<◌, ℕ, List, length, get_or, ap, sym, ◌∙◌, arith, map, Bool, []}
 use Rattle.std.specs.Prelude.{All, sum_by, filter, if◌then◌else◌}
 use Rattle.std.specs.Vec.{vec_len}
 use Rattle.std.proofs.Math.ListN.{get_or-map as get_or-map-both}
@@ -15,7 +15,7 @@ use Rattle.sb_flow.specs.Rows.{device_of, host_of, link_of}
 use Rattle.sb_flow.specs.Accepted.{IsAccepted}
 use Rattle.sb_flow.specs.NetworkOf.{network_of}
 use Rattle.sb_flow.specs.Counts.{answered_at, words_at}
-use Rattle.sb_flow.specs.Tables.{FlowTable, aimed_links, flow_table_of, leg_of, marks_of, way_of}
+use Rattle.sb_flow.specs.Tables.{aimed_links, flow_table_of, leg_of, marks_of, way_of}
 use Rattle.sb_flow.specs.declared.leg.Leg.{Leg}
 use Rattle.sb_flow.specs.declared.bundle.Bundle.{Bundle}
 use Rattle.sb_flow.specs.declared.host_plan.HostPlan.{HostPlan}

@@ -1,10 +1,10 @@
 -- A flow has one way: that of the host with its id, where this aims at its device.
-use Rattle.std.proofs.Common.{◌≡◌, ◌≤◌, ◌<◌, ℕ, zero, suc, ◌+◌, Bool, true, false, ◌&&◌, ◌||◌, cond, List, [], ◌∷◌, ◌++◌, length, get_or, refl, ap, sym, ◌∙◌, arith, Option, Some, None, eq-eqb, ne_eqb, append-nil}
+use Rattle.std.proofs.Common.{◌≡◌, ◌≤◌, ◌<◌, ℕ, zero, suc, ◌+◌, Bool, true, false, ◌||◌, cond, List, [], ◌∷◌, ◌++◌, length, get_or, refl, ap, ◌∙◌, arith, Option, Some, None, eq-eqb, ne_eqb, append-nil}
 use Rattle.std.specs.Prelude.{◌==◌, filter, flat_map, map, slice_get, if◌then◌else◌}
 use Rattle.std.specs.List.{enumerate_from, find, list_any, position_from, range_with_len}
 use Rattle.std.specs.Option.{option_map_or}
 use Rattle.std.proofs.lemmas.Bool.{cases_eq, cases_lt, eqb-true}
-use mathlib.Core.Logic.{◌⊎◌, inl, inr}
+use mathlib.Core.Logic.{inl, inr}
 use Rattle.std.proofs.lemmas.List.Elements.{filter-append}
 use Rattle.sb_packet.specs.Networks.{NetHost, Network, has_address}
 use Rattle.sb_packet.specs.Plans.{NetFlow}

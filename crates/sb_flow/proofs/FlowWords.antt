@@ -1,18 +1,17 @@
 -- The words of a flow are those of the transactions at its device.
-use Rattle.std.proofs.Common.{◌≡◌, ◌≤◌, ◌<◌, ℕ, zero, suc, ◌+◌, ◌*◌, ◌%◌, ◌^◌, Bool, true, false, ◌&&◌, cond, List, [], ◌∷◌, ◌++◌, length, get_or, refl, ap, sym, ◌∙◌, arith, Option, Some, None, eq-eqb, length-append}
+use Rattle.std.proofs.Common.{◌≡◌, ◌≤◌, ◌<◌, ℕ, zero, suc, ◌+◌, ◌*◌, ◌%◌, ◌^◌, Bool, true, false, ◌&&◌, cond, List, [], ◌∷◌, length, get_or, refl, ap, sym, ◌∙◌, arith, None, eq-eqb, length-append}
 use Rattle.std.specs.Prelude.{All, ◌==◌, filter, flat_map, map, sum_by, if◌then◌else◌}
 use Rattle.std.specs.List.{AllByRecursion, enumerate_from, range_with_len}
 use Rattle.std.proofs.Math.Nat.{mul-le-mul_right}
 use Rattle.std.proofs.lemmas.Nat.{pow_pos}
 use Rattle.std.proofs.lemmas.List.Elements.{filter-append, recursion_from_All}
 use Rattle.std.proofs.lemmas.List.Sums.{sum_by-cons}
-use Rattle.std.proofs.lemmas.List.FromFn.{length-map-range_with_len}
 use Rattle.sb_packet.specs.Accesses.{Access, access_at}
-use Rattle.sb_packet.specs.Networks.{NetDevice, NetHost, Network, device_at, has_address}
+use Rattle.sb_packet.specs.Networks.{NetDevice, NetHost, Network, has_address}
 use Rattle.sb_packet.specs.Scripts.{IsTransaction, request_of, script_accesses, transaction_accesses, transaction_message}
-use Rattle.sb_packet.specs.Journals.{device_address, flow_part, is_at, is_request}
-use Rattle.sb_packet.specs.Ways.{NetWay, is_aimed_at}
-use Rattle.sb_packet.specs.Rings.{is_answered, way_accesses}
+use Rattle.sb_packet.specs.Journals.{flow_part, is_at, is_request}
+use Rattle.sb_packet.specs.Ways.{is_aimed_at}
+use Rattle.sb_packet.specs.Rings.{is_answered}
 use Rattle.sb_packet.specs.declared.transaction.Txn.{Txn}
 use Rattle.sb_packet.specs.declared.transaction.Kind.{Kind}
 use Rattle.sb_packet.specs.declared.transaction.Kind.TheVariants.{Read, Write, Posted, Atomic}

@@ -1,10 +1,10 @@
 -- What is found of the host with an id.
-use Rattle.std.proofs.Common.{◌≡◌, ◌≤◌, ℕ, Bool, true, false, cond, List, [], ◌∷◌, length, arith, Option, Some, None}
+use Rattle.std.proofs.Common.{◌≤◌, ℕ, Bool, true, false, cond, List, [], ◌∷◌, length, arith, Option, Some}
 use Rattle.std.specs.Prelude.{All, ◌==◌}
 use Rattle.std.specs.List.{find}
 use Rattle.std.specs.Option.{option_map_or}
 use Rattle.std.proofs.lemmas.List.Elements.{All-head, All-tail}
-use Rattle.sb_flow.specs.Tables.{FlowTable, HostTable}
+use Rattle.sb_flow.specs.Tables.{HostTable}
 use Rattle.sb_flow.specs.Gathered.{flows_from}
 
 -- of two hosts that may be found, neither has more flows

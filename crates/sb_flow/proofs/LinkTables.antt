@@ -1,5 +1,5 @@
 -- What is gathered from a network's ways is what goes over each link.
-use Rattle.std.proofs.Common.{◌≡◌, ◌≤◌, ◌<◌, ℕ, zero, suc, ◌+◌, Bool, true, false, ◌&&◌, cond, List, [], ◌∷◌, ◌++◌, length, get_or, refl, ap, sym, ◌∙◌, arith, None}
+use Rattle.std.proofs.Common.{◌≡◌, ◌<◌, ℕ, zero, suc, ◌+◌, Bool, true, false, ◌&&◌, cond, List, [], ◌∷◌, length, refl, ap, sym, ◌∙◌, arith, None}
 use Rattle.std.specs.Prelude.{◌==◌, filter, flat_map, map, slice_index_or, sum_by, if◌then◌else◌}
 use Rattle.std.specs.List.{enumerate_from, list_any, range_with_len}
 use Rattle.std.proofs.lemmas.List.Elements.{filter-append}
@@ -9,8 +9,8 @@ use Rattle.sb_packet.specs.Networks.{NetHost, Network}
 use Rattle.sb_packet.specs.Ways.{NetWay, aims_at, host_ways, way_links}
 use Rattle.sb_packet.specs.Rings.{flow_table, has_link, is_answered, link_ways, way_accesses}
 use Rattle.sb_flow.specs.Names.{repeated_id}
-use Rattle.sb_flow.specs.Tables.{FlowTable, HostTable, LinkTable, flow_table_of, host_table_of, link_table_of, marks_of, paths_of}
-use Rattle.sb_flow.specs.Gathered.{all_words_on, devices_on, flows_from, gathered, host_words_on, is_device_on, is_on, words_on}
+use Rattle.sb_flow.specs.Tables.{HostTable, flow_table_of, host_table_of, link_table_of, marks_of, paths_of}
+use Rattle.sb_flow.specs.Gathered.{all_words_on, devices_on, flows_from, gathered, host_words_on, is_device_on, words_on}
 use Rattle.sb_flow.proofs.LinkMarks.{map_range_agree}
 use Rattle.sb_flow.proofs.FlowWays.{flow_on_link}
 use Rattle.sb_flow.proofs.TableReads.{is_device_on-is}

@@ -1,6 +1,6 @@
 -- All addresses of a page are one device's, or no device's.
-use Rattle.std.proofs.Common.{◌≡◌, ◌≤◌, ◌<◌, ℕ, ◌+◌, ◌*◌, ◌%◌, ◌^◌, Bool, true, false, ◌&&◌, cond, List, [], ◌∷◌, refl, ap, sym, ◌∙◌, arith, Option, Some, None, le-leb, ltb-true, ltb-false, leb-false}
-use Rattle.std.specs.Prelude.{◌==◌, nat_le, nat_lt, not}
+use Rattle.std.proofs.Common.{◌≡◌, ◌<◌, ℕ, ◌+◌, ◌*◌, ◌%◌, ◌^◌, Bool, true, false, List, [], ◌∷◌, refl, arith, None, le-leb, ltb-true, ltb-false, leb-false}
+use Rattle.std.specs.Prelude.{◌==◌, nat_le, nat_lt}
 use Rattle.std.specs.List.{AllByRecursion, position_from}
 use Rattle.std.proofs.lemmas.Bool.{and_parts, eqb-true, leb-true, lt-leb, lt-ltb, le-ltb}
 use Rattle.sb_packet.specs.Networks.{NetDevice, Network, device_at, device_size, has_address}

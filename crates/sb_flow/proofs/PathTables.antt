@@ -1,14 +1,13 @@
 -- The tables that the code fills are the paths of a bundle's network.
-use Rattle.std.proofs.Common.{◌≡◌, ◌≤◌, ◌<◌, ℕ, ◌+◌, Bool, List, length, get_or, refl, ap, sym, ◌∙◌, arith, map, subst}
-use Rattle.std.specs.Prelude.{All, nat_le}
+use Rattle.std.proofs.Common.{◌≡◌, ◌≤◌, ℕ, List, length, get_or, ap, ◌∙◌, arith, map}
+use Rattle.std.specs.Prelude.{All}
 use Rattle.std.specs.List.{enumerate_from, range_with_len}
-use Rattle.std.proofs.lemmas.List.{length-map}
 use Rattle.std.proofs.lemmas.List.Elements.{All-map}
 use Rattle.std.proofs.lemmas.List.FromFn.{length-map-range_with_len}
 use Rattle.sb_packet.specs.Networks.{NetHost, Network}
 use Rattle.sb_flow.specs.Accepted.{IsAccepted}
-use Rattle.sb_flow.specs.Tables.{HostTable, LinkTable, PathTable, flow_table_of, host_table_of, link_table_of, paths_of}
-use Rattle.sb_flow.specs.Gathered.{all_words_on, gathered}
+use Rattle.sb_flow.specs.Tables.{HostTable, LinkTable, flow_table_of, host_table_of, link_table_of, paths_of}
+use Rattle.sb_flow.specs.Gathered.{gathered}
 use Rattle.sb_flow.proofs.LinkMarks.{map_range_agree}
 use Rattle.sb_flow.proofs.LinkTables.{gathered-is}
 

@@ -1,6 +1,6 @@
 -- The link of a ring, and its numbers.
-use Rattle.std.proofs.Common.{◌≡◌, ◌≤◌, ◌<◌, ℕ, zero, suc, ◌+◌, ◌*◌, ◌/◌, Bool, true, false, ◌&&◌, ◌||◌, List, [], ◌∷◌, length, get_or, refl, ap, sym, ◌∙◌, arith, map, Option, Some, None, subst, ltb-true}
-use Rattle.std.specs.Prelude.{◌==◌, nat_le, nat_lt, slice_get, IsTrue, if◌then◌else◌}
+use Rattle.std.proofs.Common.{◌≡◌, ◌≤◌, ◌<◌, ℕ, ◌/◌, Bool, true, false, ◌&&◌, List, [], ◌∷◌, length, get_or, refl, ap, sym, ◌∙◌, arith, Option, Some, None, subst, ltb-true}
+use Rattle.std.specs.Prelude.{◌==◌, nat_le, nat_lt, slice_get, if◌then◌else◌}
 use Rattle.std.specs.List.{AllByRecursion, list_all}
 use Rattle.std.proofs.lemmas.Bool.{and_parts, eqb-true, leb-true}
 use Rattle.std.proofs.lemmas.List.{get_or-map, length-map}
@@ -11,12 +11,11 @@ use Rattle.sb_link.specs.Plans.{IsRingWidth}
 use Rattle.sb_flow.specs.Accepted.{IsAccepted}
 use Rattle.sb_flow.specs.Ends.{is_width_now}
 use Rattle.sb_flow.specs.Limits.{is_limited, is_limited_link}
-use Rattle.sb_flow.specs.Names.{is_link_there, is_there, names_what_is_there}
+use Rattle.sb_flow.specs.Names.{is_link_there, is_there}
 use Rattle.sb_flow.specs.Rows.{link_of}
 use Rattle.sb_flow.specs.NetworkOf.{network_of}
 use Rattle.sb_flow.specs.declared.bundle.Bundle.{Bundle}
 use Rattle.sb_flow.specs.declared.link_row.LinkRow.{LinkRow}
-use Rattle.sb_flow.proofs.Bundles.{accepted}
 use Rattle.sb_flow.proofs.Clashes.{all_pass}
 use Rattle.sb_flow.proofs.RangeTables.{slice_get-there}
 

@@ -1,20 +1,15 @@
 -- A ring's plan, from the tables of its link.
-use Rattle.std.proofs.Common.{◌≡◌, ◌≤◌, ◌<◌, ℕ, zero, suc, ◌+◌, ◌*◌, ◌/◌, Bool, true, false, ◌&&◌, List, [], ◌∷◌, length, get_or, refl, ap, sym, ◌∙◌, arith, map, Option, Some, None, subst, ltb-true, eq-eqb}
-use Rattle.std.specs.Prelude.{◌==◌, filter, nat_lt, option_and_then, slice_get, sum_by, IsTrue, if◌then◌else◌}
-use Rattle.std.specs.List.{AllByRecursion, list_all, range_with_len}
+use Rattle.std.proofs.Common.{◌≡◌, ◌≤◌, ◌<◌, ℕ, Bool, true, false, List, [], length, get_or, refl, ap, sym, ◌∙◌, arith, map, Option, Some}
+use Rattle.std.specs.Prelude.{filter, option_and_then, slice_get, sum_by, if◌then◌else◌}
 use Rattle.std.specs.Option.{option_map_or}
-use Rattle.std.specs.Vec.{vec_len}
-use Rattle.std.proofs.lemmas.Bool.{and_parts, leb-true}
 use Rattle.std.proofs.lemmas.List.{get_or-map, length-map}
-use Rattle.std.proofs.lemmas.List.Elements.{All-from_recursion, All-get_or}
 use Rattle.std.proofs.lemmas.List.FromFn.{get_or-map-range_with_len, length-map-range_with_len}
 use Rattle.sb_packet.specs.Networks.{NetLink, Network}
 use Rattle.sb_packet.specs.Plans.{RingFlows, RingPlan}
 use Rattle.sb_packet.specs.Ways.{NetWay}
 use Rattle.sb_packet.specs.Rings.{counted_accesses, flow_table, is_answered, is_upward, link_ways, network_ranges, ring_link, ring_plan, way_accesses}
 use Rattle.sb_flow.specs.Accepted.{IsAccepted}
-use Rattle.sb_flow.specs.Tables.{LinkTable, PathTable, link_table_of, paths_of}
-use Rattle.sb_flow.specs.Gathered.{gathered}
+use Rattle.sb_flow.specs.Tables.{LinkTable, link_table_of, paths_of}
 use Rattle.sb_flow.specs.LoadOf.{load_of}
 use Rattle.sb_flow.specs.declared.load.Load.{Load}
 use Rattle.sb_flow.proofs.LinkTables.{gathered-is}

@@ -1,17 +1,17 @@
 -- What is read in the tables of a network's paths.
-use Rattle.std.proofs.Common.{◌≡◌, ◌≤◌, ◌<◌, ℕ, zero, suc, ◌+◌, Bool, true, false, cond, List, [], ◌∷◌, length, get_or, refl, ap, sym, ◌∙◌, arith, Option, Some, None}
-use Rattle.std.specs.Prelude.{◌==◌, map, option_map, slice_get, slice_index_or, if◌then◌else◌}
+use Rattle.std.proofs.Common.{◌≡◌, ◌≤◌, ◌<◌, ℕ, zero, suc, ◌+◌, Bool, true, false, cond, List, [], ◌∷◌, length, refl, ap, sym, ◌∙◌, arith, Option, Some, None}
+use Rattle.std.specs.Prelude.{◌==◌, map, option_map, slice_get, slice_index_or}
 use Rattle.std.specs.List.{enumerate_from, find, list_any, range_with_len}
 use Rattle.std.specs.Option.{option_map_or}
 use Rattle.std.proofs.lemmas.Bool.{cases_lt}
 use Rattle.std.proofs.lemmas.List.FromFn.{get_or-map-range_with_len}
-use mathlib.Core.Logic.{◌⊎◌, inl, inr}
+use mathlib.Core.Logic.{inl, inr}
 use Rattle.sb_packet.specs.Networks.{NetHost, Network}
 use Rattle.sb_packet.specs.Plans.{NetFlow}
-use Rattle.sb_packet.specs.Ways.{aims_at, flow_links, is_some_number, link_down, link_up, router_after, router_before, way_links}
+use Rattle.sb_packet.specs.Ways.{is_some_number, link_down, link_up, router_after, router_before}
 use Rattle.sb_flow.specs.Names.{repeated_id}
 use Rattle.sb_flow.specs.Tables.{FlowTable, HostTable, aimed_links, flow_table_of, host_table_of, leg_of, marks_of, paths_of}
-use Rattle.sb_flow.specs.Gathered.{flows_from, is_device_on, is_on, legs_at}
+use Rattle.sb_flow.specs.Gathered.{flows_from, is_device_on, legs_at}
 use Rattle.sb_flow.specs.declared.leg.Leg.{Leg}
 use Rattle.sb_flow.proofs.FlowWays.{aims_nowhere, flow_links-is, found_links}
 

@@ -1,5 +1,5 @@
 -- A way is walked link by link.
-use Rattle.std.proofs.Common.{◌≡◌, ℕ, zero, suc, ◌+◌, ◌-◌, ◌<◌, List, [], ◌∷◌, ◌++◌, length, refl, ap, sym, ◌∙◌, arith, Option, Some, None, append_assoc, append-nil}
+use Rattle.std.proofs.Common.{◌≡◌, ℕ, zero, suc, ◌+◌, ◌-◌, ◌<◌, List, [], ◌∷◌, ◌++◌, refl, sym, ◌∙◌, arith, Option, Some, None, append_assoc, append-nil}
 use Rattle.std.specs.Prelude.{map}
 use Rattle.sb_packet.specs.Networks.{Network}
 use Rattle.sb_packet.specs.Ways.{links_from, next_link}

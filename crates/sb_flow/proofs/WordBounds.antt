@@ -1,6 +1,6 @@
 -- No link has more words than all scripts together.
-use Rattle.std.proofs.Common.{◌≡◌, ◌≤◌, ◌<◌, ℕ, zero, suc, ◌+◌, Bool, true, false, cond, List, [], ◌∷◌, length, get_or, refl, ap, sym, ◌∙◌, arith}
-use Rattle.std.specs.Prelude.{All, map, sum_by, if◌then◌else◌}
+use Rattle.std.proofs.Common.{◌≡◌, ◌≤◌, ◌<◌, ℕ, zero, suc, ◌+◌, Bool, true, false, List, [], ◌∷◌, length, get_or, refl, ap, sym, ◌∙◌, arith}
+use Rattle.std.specs.Prelude.{All, map, sum_by}
 use Rattle.std.specs.List.{enumerate_from, range_with_len}
 use Rattle.std.proofs.lemmas.List.Elements.{All-head, All-tail}
 use Rattle.std.proofs.lemmas.List.FromFn.{fill_by_all}
@@ -10,8 +10,7 @@ use Rattle.sb_packet.specs.Scripts.{IsTransaction}
 use Rattle.sb_packet.specs.declared.transaction.Txn.{Txn}
 use Rattle.sb_flow.specs.Accepted.{IsAccepted}
 use Rattle.sb_flow.specs.Counts.{answered_at, words_at}
-use Rattle.sb_flow.specs.Limits.{word_count}
-use Rattle.sb_flow.specs.Tables.{FlowTable, HostTable, flow_table_of, host_table_of, paths_of}
+use Rattle.sb_flow.specs.Tables.{HostTable, flow_table_of, host_table_of, paths_of}
 use Rattle.sb_flow.specs.Gathered.{all_words_on, counted_words, host_words_on, is_on, words_on}
 use Rattle.sb_flow.proofs.Maps.{sum_by_map}
 use Rattle.sb_flow.proofs.ScriptSums.{answered_at-le-words, if-le}

@@ -1,5 +1,5 @@
 -- A host's script has lines that can be issued, and that it has them is one fact.
-use Rattle.std.specs.Prelude.{ℕ, ◌≡◌, ◌≤◌, ◌*◌, ◌^◌, List, length, All}
+use Rattle.std.specs.Prelude.{ℕ, ◌*◌, ◌^◌, List, All}
 use Rattle.std.specs.Coded.{coded_list, coded_ℕ, Coded-set, le_prop, Unit-prop}
 use Rattle.sb_packet.specs.Scripts.{HasBody, IsOneWordIfAtomic, IsTransaction}
 use Rattle.sb_packet.specs.declared.transaction.Kind.{Kind}

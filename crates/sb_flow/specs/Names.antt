@@ -1,5 +1,5 @@
 -- Names and ids: no two things share one, and what is named is there. This project's own.
-use Rattle.std.specs.Prelude.{ℕ, Bool, true, ◌&&◌, ◌==◌, nat_lt, List, ◌++◌, length, map, bytes_eq, Option, Some, None}
+use Rattle.std.specs.Prelude.{ℕ, Bool, true, ◌&&◌, ◌==◌, nat_lt, ◌++◌, length, map, bytes_eq, Option}
 use Rattle.std.specs.List.{list_all}
 use Rattle.std.specs.Option.{option_map_or}
 use Rattle.sb_packet.specs.Networks.{NetPlace, Network, at_host, at_router, at_device}

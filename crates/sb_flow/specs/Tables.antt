@@ -1,7 +1,6 @@
 -- What a value of `Paths` holds: for each host and device the way between them, and for each link what goes over it.
-use Rattle.std.specs.Prelude.{ℕ, ◌+◌, Bool, false, ◌&&◌, ◌==◌, not, List, [], length, filter, map, sum_by, Option, slice_index_or, if◌then◌else◌}
-use Rattle.std.specs.List.{enumerate_from, find, list_any, range_with_len}
-use Rattle.std.specs.Option.{option_map_or}
+use Rattle.std.specs.Prelude.{ℕ, Bool, ◌==◌, List, [], length, filter, map, sum_by, if◌then◌else◌}
+use Rattle.std.specs.List.{enumerate_from, list_any, range_with_len}
 use Rattle.sb_packet.specs.Networks.{NetHost, Network}
 use Rattle.sb_packet.specs.Ways.{NetWay, aims_at, router_after, router_before, way_links}
 use Rattle.sb_packet.specs.Rings.{flow_table, is_answered, link_ways, way_accesses}

@@ -1,5 +1,4 @@
 -- The host aims at the device just where the test says so.
-use Rattle.std.proofs.Common.{◌≡◌, ◌∙◌, ap, sym}
 use Rattle.sb_flow.proofs.Bundles.{aimed_there}
 use Rattle.sb_flow.proofs.flow_path.aimed_legs.Goals as goal
 

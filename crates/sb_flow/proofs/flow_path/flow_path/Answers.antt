@@ -1,5 +1,5 @@
 -- The words and the marks of a flow are those of its way.
-use Rattle.std.proofs.Common.{◌≡◌, ◌∙◌, sym, get_or}
+use Rattle.std.proofs.Common.{◌∙◌, sym, get_or}
 use Rattle.sb_flow.specs.Rows.{host_of}
 use Rattle.sb_flow.specs.NetworkOf.{network_of}
 use Rattle.sb_flow.proofs.Bundles.{link_count, script_words, words_there, answered_there, flow_table_from}

@@ -1,5 +1,5 @@
 -- The digits of the masks are those of the devices.
-use Rattle.std.proofs.Common.{◌≡◌, refl}
+use Rattle.std.proofs.Common.{refl}
 use Rattle.sb_flow.specs.Gathered.{devices_on, flows_from, mask_of}
 use Rattle.sb_flow.proofs.Digits.{bits_of_mask, map_bits}
 use Rattle.sb_flow.proofs.gather.load.Goals as goal

@@ -1,5 +1,4 @@
 -- Each turn adds the load of one link.
-use Rattle.std.proofs.Common.{◌≡◌}
 use Rattle.sb_flow.specs.Gathered.{gathered}
 use Rattle.sb_flow.specs.LoadOf.{load_of}
 use Rattle.sb_flow.proofs.Tabled.{seen_push, table_end}

@@ -1,5 +1,5 @@
 -- No host has more than 32 devices, and each turn fills one place.
-use Rattle.std.proofs.Common.{◌≡◌, ◌≤◌, ◌<◌, ℕ, get_or, set, length, subst, sym, arith, length-set}
+use Rattle.std.proofs.Common.{ℕ, arith, length-set}
 use Rattle.std.proofs.lemmas.List.FromFn.{fill_by_all}
 use Rattle.std.proofs.lemmas.List.Edits.{fill_by_more}
 use Rattle.sb_flow.specs.Gathered.{flows_from, mask_of}

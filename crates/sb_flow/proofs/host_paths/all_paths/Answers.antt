@@ -1,5 +1,5 @@
 -- Each turn adds the ways of one host.
-use Rattle.std.proofs.Common.{◌≡◌, ap, sym, ◌∙◌, arith}
+use Rattle.std.proofs.Common.{ap, sym, ◌∙◌, arith}
 use Rattle.sb_flow.specs.Rows.{host_of}
 use Rattle.sb_flow.specs.NetworkOf.{network_of}
 use Rattle.sb_flow.specs.Tables.{host_table_of}

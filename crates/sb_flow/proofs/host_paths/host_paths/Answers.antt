@@ -1,9 +1,9 @@
 -- Each turn adds the way to one device.
-use Rattle.std.proofs.Common.{◌≡◌, ◌≤◌, ℕ, List, length, get_or, map, ap, sym, ◌∙◌, arith}
+use Rattle.std.proofs.Common.{◌≡◌, ℕ, List, length, get_or, map, ap, sym, ◌∙◌, arith}
 use Rattle.std.specs.List.{range_with_len}
 use Rattle.sb_flow.specs.Rows.{host_of}
 use Rattle.sb_flow.specs.NetworkOf.{network_of}
-use Rattle.sb_flow.specs.Tables.{FlowTable, HostTable, flow_table_of}
+use Rattle.sb_flow.specs.Tables.{FlowTable, flow_table_of}
 use Rattle.sb_flow.specs.declared.host_plan.HostPlan.{HostPlan}
 use Rattle.sb_flow.proofs.Maps.{read_there}
 use Rattle.sb_flow.proofs.Bundles.{device_count}

@@ -1,5 +1,5 @@
 -- Each leg marks its link.
-use Rattle.std.proofs.Common.{◌≡◌, sym, ◌∙◌}
+use Rattle.std.proofs.Common.{sym, ◌∙◌}
 use Rattle.sb_flow.proofs.LinkMarks.{marks_in-nil, marks_in-more, marks_in-all}
 use Rattle.sb_flow.proofs.marks.marks.Goals as goal
 

@@ -1,11 +1,9 @@
 -- Each turn fills one place.
-use Rattle.std.proofs.Common.{◌≡◌, ◌<◌, ℕ, get_or, length, arith, length-set}
+use Rattle.std.proofs.Common.{ℕ, arith, length-set}
 use Rattle.std.specs.Prelude.{slice_get}
 use Rattle.std.specs.Option.{option_map_or}
 use Rattle.std.proofs.lemmas.List.FromFn.{fill_by_all}
 use Rattle.std.proofs.lemmas.List.Edits.{fill_by_more}
-use Rattle.sb_packet.specs.Networks.{device_size}
-use Rattle.sb_flow.specs.Rows.{device_of}
 use Rattle.sb_flow.specs.declared.device_plan.DevicePlan.{DevicePlan}
 use Rattle.sb_flow.proofs.ranges.bases.Goals as goal
 

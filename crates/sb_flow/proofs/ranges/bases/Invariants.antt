@@ -2,8 +2,6 @@
 use Rattle.std.proofs.Common.{◌≡◌, ◌<◌, ℕ, get_or, length}
 use Rattle.std.specs.Prelude.{slice_get}
 use Rattle.std.specs.Option.{option_map_or}
-use Rattle.sb_packet.specs.Networks.{device_size}
-use Rattle.sb_flow.specs.Rows.{device_of}
 use Rattle.sb_flow.proofs.ranges.bases.Given as goal
 
 abbrev pub invariant-loop-place : goal.invariant-loop-place

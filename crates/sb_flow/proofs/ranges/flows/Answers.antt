@@ -1,5 +1,5 @@
 -- The ranges are those of the bundle's devices, which lie apart.
-use Rattle.std.proofs.Common.{◌≡◌, ◌≤◌, ◌∙◌, ap, sym, arith, length}
+use Rattle.std.proofs.Common.{ap, arith, length}
 use Rattle.sb_flow.proofs.Bundles.{device_count, few_devices}
 use Rattle.sb_flow.proofs.BundleRanges.{IsFilled, filled_apart, filled_in_range, filled_flows}
 use Rattle.sb_flow.proofs.ranges.flows.Goals as goal

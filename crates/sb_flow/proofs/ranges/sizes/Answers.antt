@@ -1,5 +1,5 @@
 -- Each turn fills one place.
-use Rattle.std.proofs.Common.{◌≡◌, ◌<◌, ℕ, get_or, length, arith, length-set}
+use Rattle.std.proofs.Common.{ℕ, arith, length-set}
 use Rattle.std.specs.Prelude.{slice_get}
 use Rattle.std.specs.Option.{option_map_or}
 use Rattle.std.proofs.lemmas.List.FromFn.{fill_by_all}

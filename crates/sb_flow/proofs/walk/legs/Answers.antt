@@ -1,5 +1,5 @@
 -- Each turn takes one link more, until none is next.
-use Rattle.std.proofs.Common.{◌≡◌, ◌+◌, ◌-◌, sym, ◌∙◌}
+use Rattle.std.proofs.Common.{◌+◌, ◌-◌, sym, ◌∙◌}
 use Rattle.sb_flow.specs.NetworkOf.{network_of}
 use Rattle.sb_flow.proofs.Walks.{legs_with-None, legs_with-more}
 use Rattle.sb_flow.proofs.walk.legs.Goals as goal

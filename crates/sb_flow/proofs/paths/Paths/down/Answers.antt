@@ -1,5 +1,5 @@
 -- What is found in the tables is what the bundle's routes give.
-use Rattle.std.proofs.Common.{◌≡◌, ◌∙◌, ap, List}
+use Rattle.std.proofs.Common.{◌∙◌, ap, List}
 use Rattle.std.specs.Prelude.{option_map}
 use Rattle.std.specs.List.{find}
 use Rattle.sb_packet.specs.Ways.{is_some_number}

@@ -1,8 +1,6 @@
 -- What is gathered from the ways is what goes over each link.
-use Rattle.std.proofs.Common.{◌≡◌, ◌≤◌, ◌∙◌, sym, ap, subst, List, length, arith}
-use Rattle.std.specs.Prelude.{All}
+use Rattle.std.proofs.Common.{◌∙◌, sym}
 use Rattle.sb_flow.specs.NetworkOf.{network_of}
-use Rattle.sb_flow.specs.Tables.{HostTable}
 use Rattle.sb_flow.proofs.Bundles.{accepted, few_devices, link_count}
 use Rattle.sb_flow.proofs.WordBounds.{words_bounded}
 use Rattle.sb_flow.proofs.PathTables.{few_ways, paths-from}

@@ -1,8 +1,7 @@
 -- What was read of the ring's link is that of the bundle's network.
-use Rattle.std.proofs.Common.{◌≡◌, ◌<◌, ◌∙◌, ap, sym, map, length, get_or, arith}
+use Rattle.std.proofs.Common.{◌∙◌, ap, arith}
 use Rattle.sb_flow.specs.NetworkOf.{network_of}
-use Rattle.sb_flow.specs.LoadOf.{load_of}
-use Rattle.sb_flow.specs.Tables.{PathTable, paths_of}
+use Rattle.sb_flow.specs.Tables.{PathTable}
 use Rattle.sb_flow.proofs.Bundles.{accepted}
 use Rattle.sb_flow.proofs.RingLinks.{ring_link-there}
 use Rattle.sb_flow.proofs.RingPlans.{tables_read}
