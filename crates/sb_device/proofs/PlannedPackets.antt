@@ -14,7 +14,7 @@ use Rattle.sb_packet.specs.Plans.{RingPlan, RingFlows, holds_span, device_ranges
 use Rattle.sb_packet.specs.Traffic.{IsPlanned}
 use Rattle.sb_packet.specs.declared.packet.Packet.{Packet}
 use Rattle.sb_packet.proofs.Opcodes.{some_words}
-use Rattle.sb_mem.specs.Replies.{IsAnswerTo, IsInRange}
+use Rattle.sb_mem.specs.AnswerPackets.{IsAnswerTo, IsInRange}
 use Rattle.sb_device.specs.Plans.{IsPlannedFor}
 use Rattle.sb_device.proofs.SoundAnswers.{not_asked, there, answered_span, sound_answer}
 

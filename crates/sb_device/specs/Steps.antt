@@ -5,7 +5,7 @@ use Rattle.sb_link.specs.declared.answers.Turn.TheVariants.{Moved}
 use Rattle.sb_packet.specs.Accesses.{accesses_of}
 use Rattle.sb_packet.specs.Memories.{MemoryState}
 use Rattle.sb_packet.specs.declared.packet.Packet.{Packet}
-use Rattle.sb_mem.specs.Replies.{IsAnswerTo}
+use Rattle.sb_mem.specs.AnswerPackets.{IsAnswerTo}
 use Rattle.sb_port.specs.Ports.{owes}
 use Rattle.sb_node.specs.Sides.{PortSide, RingSide, offered_words, is_full, is_done, node_moves}
 use Rattle.sb_node.specs.Turns.{IsAnswered, idle_causes}

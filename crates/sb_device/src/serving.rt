@@ -4,7 +4,7 @@ ghost use Rattle.std.specs.Prelude.{◌≡◌, ◌<◌, ◌-◌, ◌++◌, [], �
 ghost use Rattle.sb_packet.specs.Accesses.{accesses_of};
 ghost use Rattle.sb_packet.specs.Journals.{is_request};
 ghost use Rattle.sb_packet.specs.Memories.{MemoryState, memory_after};
-ghost use Rattle.sb_mem.specs.Replies.{IsInRange};
+ghost use Rattle.sb_mem.specs.AnswerPackets.{IsInRange};
 ghost use Rattle.sb_port.specs.Ports.{IsFit, owes};
 ghost use Rattle.sb_port.specs.StateOf.{state_of};
 ghost use Rattle.sb_node.specs.Sides.{port_side, ring_side};
