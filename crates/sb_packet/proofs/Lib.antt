@@ -23,6 +23,7 @@ pub mod ReportExamples
 pub mod SoundExamples
 pub mod JournalExamples
 pub mod NetworkExample
+pub mod PlanExamples
 pub mod Overwrites
 pub mod Shares
 pub mod SlotLemmas
