@@ -13,11 +13,11 @@ pub option_or-None : {A : Type 0} (x y : Option A) → option_or x y ≡ None �
 option_or-None None y h = (refl, h)
 option_or-None (Some x) y h = cc
 
-option_map-None : {A B : Type 0} (f : A → B) (x : Option A) → option_map f x ≡ None → x ≡ None
+pub option_map-None : {A B : Type 0} (f : A → B) (x : Option A) → option_map f x ≡ None → x ≡ None
 option_map-None f None h = refl
 option_map-None f (Some x) h = cc
 
-cond-None : {A : Type 0} (b : Bool) (x : A) (y : Option A) → cond b (Some x) y ≡ None → (b ≡ false) × (y ≡ None)
+pub cond-None : {A : Type 0} (b : Bool) (x : A) (y : Option A) → cond b (Some x) y ≡ None → (b ≡ false) × (y ≡ None)
 cond-None true x y h = cc
 cond-None false x y h = (refl, h)
 

@@ -21,3 +21,5 @@ pub mod BundleRanges
 pub mod RingPlans
 pub mod RingLinks
 pub mod ReadPlans
+pub mod AcceptedLinks
+pub mod WayCourses

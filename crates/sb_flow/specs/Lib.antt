@@ -7,6 +7,7 @@ pub mod Ends
 pub mod Routes
 pub mod Issuable
 pub mod Accepted
+pub mod Courses
 pub mod NetworkOf
 pub mod Tables
 pub mod Counts

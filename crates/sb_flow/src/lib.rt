@@ -8,6 +8,7 @@ mod flow_path;
 mod gather;
 mod host_paths;
 mod host_plan;
+pub mod laws;
 mod leg;
 mod link_row;
 mod load;
