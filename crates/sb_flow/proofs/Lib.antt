@@ -23,3 +23,4 @@ pub mod RingLinks
 pub mod ReadPlans
 pub mod AcceptedLinks
 pub mod WayCourses
+pub mod AcceptedExample

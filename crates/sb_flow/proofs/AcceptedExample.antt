@@ -1,0 +1,116 @@
+-- The example network, with links of the width that there is now, is accepted; and each test finds the fault of a network that has it.
+use Rattle.std.proofs.Common.{◌≡◌, ◌≤◌, lit≤, refl, [], ◌∷◌, List, ℕ, zero, suc, true, false, Some, None, map, replicate}
+use Rattle.std.specs.Prelude.{All, codes}
+use Rattle.std.specs.List.{AllByRecursion}
+use Rattle.std.proofs.lemmas.List.Elements.{All-from_recursion}
+use Rattle.sb_packet.specs.Networks.{NetDevice, NetHost, NetLink, NetRouter, Network, at_host, at_router, at_device}
+use Rattle.sb_packet.specs.Scripts.{IsTransaction}
+use Rattle.sb_packet.specs.Rings.{ring_budget, ring_plan}
+use Rattle.sb_packet.specs.Ways.{network_ways}
+use Rattle.sb_packet.proofs.NetworkExample.{cpu0, cpu1, eight_links, four_devices, three_routers, wired}
+use Rattle.sb_flow.specs.Accepted.{IsAccepted}
+use Rattle.sb_flow.specs.Courses.{IsCourse, link_rank}
+use Rattle.sb_flow.specs.Ends.{backward_link, odd_width, unfit_link, unlinked_place}
+use Rattle.sb_flow.specs.Firsts.{Clash}
+use Rattle.sb_flow.specs.Limits.{is_limited, word_count}
+use Rattle.sb_flow.specs.Names.{names_what_is_there, repeated_id, repeated_link_name, repeated_name}
+use Rattle.sb_flow.specs.Ranges.{misplaced_device, overfull_device, overlapping_device}
+use Rattle.sb_flow.specs.Routes.{RouteAt, route_fault}
+use Rattle.sb_flow.proofs.WayCourses.{all_courses}
+
+-- all links 32 bytes wide
+abbrev pub wide : Network
+wide = record wired { links = map (λ (l : NetLink). record l { width = 32 }) eight_links }
+
+-- each line of both scripts can be issued
+cpu0_lines : All IsTransaction cpu0.script
+cpu0_lines = All-from_recursion IsTransaction cpu0.script (
+  record { size = lit≤ tt; some = lit≤ tt; most = lit≤ tt; atomic = tt; body = refl; aligned = refl; page = lit≤ tt; range = lit≤ tt },
+  (record { size = lit≤ tt; some = lit≤ tt; most = lit≤ tt; atomic = tt; body = refl; aligned = refl; page = lit≤ tt; range = lit≤ tt },
+    (record { size = lit≤ tt; some = lit≤ tt; most = lit≤ tt; atomic = tt; body = refl; aligned = refl; page = lit≤ tt; range = lit≤ tt },
+      (record { size = lit≤ tt; some = lit≤ tt; most = lit≤ tt; atomic = tt; body = refl; aligned = refl; page = lit≤ tt; range = lit≤ tt },
+        (record { size = lit≤ tt; some = lit≤ tt; most = lit≤ tt; atomic = (lit≤ tt, refl); body = refl; aligned = refl; page = lit≤ tt; range = lit≤ tt }, tt)))))
+
+cpu1_lines : All IsTransaction cpu1.script
+cpu1_lines = All-from_recursion IsTransaction cpu1.script (
+  record { size = lit≤ tt; some = lit≤ tt; most = lit≤ tt; atomic = (lit≤ tt, refl); body = refl; aligned = refl; page = lit≤ tt; range = lit≤ tt },
+  (record { size = lit≤ tt; some = lit≤ tt; most = lit≤ tt; atomic = tt; body = refl; aligned = refl; page = lit≤ tt; range = lit≤ tt },
+    (record { size = lit≤ tt; some = lit≤ tt; most = lit≤ tt; atomic = tt; body = refl; aligned = refl; page = lit≤ tt; range = lit≤ tt },
+      (record { size = lit≤ tt; some = lit≤ tt; most = lit≤ tt; atomic = tt; body = refl; aligned = refl; page = lit≤ tt; range = lit≤ tt },
+        (record { size = lit≤ tt; some = lit≤ tt; most = lit≤ tt; atomic = (lit≤ tt, refl); body = refl; aligned = refl; page = lit≤ tt; range = lit≤ tt }, tt)))))
+
+pub wide_is_accepted : IsAccepted wide
+wide_is_accepted = record {
+  limits = refl;
+  names = refl;
+  link_names = refl;
+  named = refl;
+  ids = refl;
+  placed = refl;
+  apart = refl;
+  images = refl;
+  widths = refl;
+  ends = refl;
+  forward = refl;
+  linked = refl;
+  lines = All-from_recursion (λ (h : NetHost). All IsTransaction h.script) (cpu0 ∷ cpu1 ∷ []) (cpu0_lines, (cpu1_lines, tt));
+  routes = refl;
+  words = lit≤ tt;
+}
+
+-- so its ways lead to their devices
+pub ways_of_wide : All (IsCourse wide) (network_ways wide)
+ways_of_wide = all_courses wide wide_is_accepted
+
+-- its links rank by the routers that they leave
+pub ranks_of_wide : map (link_rank wide) (0 ∷ 2 ∷ 4 ∷ 6 ∷ []) ≡ 0 ∷ 1 ∷ 2 ∷ 3 ∷ []
+ranks_of_wide = refl
+
+-- There is one fault for each test, and each test finds it.
+pub narrow_link : odd_width wired ≡ Some 1
+narrow_link = refl
+
+pub too_many_pages : is_limited (record wide { devices = map (λ (d : NetDevice). record d { pages = 257 }) four_devices }) ≡ false
+too_many_pages = refl
+
+pub same_name : repeated_name (record wide { routers = map (λ (r : NetRouter). record r { name = codes "m2" }) three_routers }) ≡ Some (record { at = 3; earlier = 2 })
+same_name = refl
+
+pub same_link_name : repeated_link_name (record wide { links = map (λ (l : NetLink). record l { name = codes "l0" }) eight_links }) ≡ Some (record { at = 1; earlier = 0 })
+same_link_name = refl
+
+pub no_such_wire : names_what_is_there (record wide { wire = Some 8 }) ≡ false
+no_such_wire = refl
+
+pub same_id : repeated_id (record wide { hosts = cpu0 ∷ record cpu1 { id = 0 } ∷ [] }) ≡ Some (record { at = 1; earlier = 0 })
+same_id = refl
+
+pub odd_base : misplaced_device (record wide { devices = map (λ (d : NetDevice). record d { base = 65537 }) four_devices }) ≡ Some 0
+odd_base = refl
+
+pub over_each_other : overlapping_device (record wide { devices = map (λ (d : NetDevice). record d { pages = 17 }) four_devices }) ≡ Some (record { at = 1; earlier = 0 })
+over_each_other = refl
+
+pub long_image : overfull_device (record wide { devices = map (λ (d : NetDevice). record d { pages = 0 }) four_devices }) ≡ Some 3
+long_image = refl
+
+-- without a wire, a link crosses to the other side all the same
+pub no_wire : unfit_link (record wide { wire = None }) ≡ Some 3
+no_wire = refl
+
+pub back_to_itself : backward_link (record wide { links = map (λ (l : NetLink). record l { from = at_router 1; to = at_router 1 }) eight_links }) ≡ Some 0
+back_to_itself = refl
+
+pub no_links : unlinked_place (record wide { links = [] }) ≡ Some (at_host 0)
+no_links = refl
+
+-- a route that another router's link leaves, and one that is missing where the first host aims
+pub astray : route_fault (record wide { routers = map (λ (r : NetRouter). record r { routes = Some 4 ∷ None ∷ None ∷ None ∷ [] }) three_routers }) ≡ Some (record { router = 0; device = 0 })
+astray = refl
+
+pub missing : route_fault (record wide { routers = map (λ (r : NetRouter). record r { routes = None ∷ None ∷ None ∷ None ∷ [] }) three_routers }) ≡ Some (record { router = 0; device = 0 })
+missing = refl
+
+-- 20 words in all
+pub words_of_wide : word_count wide ≡ 20
+words_of_wide = refl
