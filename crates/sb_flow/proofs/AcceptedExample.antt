@@ -26,18 +26,32 @@ wide = record wired { links = map (λ (l : NetLink). record l { width = 32 }) ei
 cpu0_lines : All IsTransaction cpu0.script
 cpu0_lines = All-from_recursion IsTransaction cpu0.script (
   record { size = lit≤ tt; some = lit≤ tt; most = lit≤ tt; atomic = tt; body = refl; aligned = refl; page = lit≤ tt; range = lit≤ tt },
-  (record { size = lit≤ tt; some = lit≤ tt; most = lit≤ tt; atomic = tt; body = refl; aligned = refl; page = lit≤ tt; range = lit≤ tt },
-    (record { size = lit≤ tt; some = lit≤ tt; most = lit≤ tt; atomic = tt; body = refl; aligned = refl; page = lit≤ tt; range = lit≤ tt },
-      (record { size = lit≤ tt; some = lit≤ tt; most = lit≤ tt; atomic = tt; body = refl; aligned = refl; page = lit≤ tt; range = lit≤ tt },
-        (record { size = lit≤ tt; some = lit≤ tt; most = lit≤ tt; atomic = (lit≤ tt, refl); body = refl; aligned = refl; page = lit≤ tt; range = lit≤ tt }, tt)))))
+  (
+    record { size = lit≤ tt; some = lit≤ tt; most = lit≤ tt; atomic = tt; body = refl; aligned = refl; page = lit≤ tt; range = lit≤ tt },
+    (
+      record { size = lit≤ tt; some = lit≤ tt; most = lit≤ tt; atomic = tt; body = refl; aligned = refl; page = lit≤ tt; range = lit≤ tt },
+      (
+        record { size = lit≤ tt; some = lit≤ tt; most = lit≤ tt; atomic = tt; body = refl; aligned = refl; page = lit≤ tt; range = lit≤ tt },
+        (record { size = lit≤ tt; some = lit≤ tt; most = lit≤ tt; atomic = (lit≤ tt, refl); body = refl; aligned = refl; page = lit≤ tt; range = lit≤ tt }, tt),
+      ),
+    ),
+  ),
+)
 
 cpu1_lines : All IsTransaction cpu1.script
 cpu1_lines = All-from_recursion IsTransaction cpu1.script (
   record { size = lit≤ tt; some = lit≤ tt; most = lit≤ tt; atomic = (lit≤ tt, refl); body = refl; aligned = refl; page = lit≤ tt; range = lit≤ tt },
-  (record { size = lit≤ tt; some = lit≤ tt; most = lit≤ tt; atomic = tt; body = refl; aligned = refl; page = lit≤ tt; range = lit≤ tt },
-    (record { size = lit≤ tt; some = lit≤ tt; most = lit≤ tt; atomic = tt; body = refl; aligned = refl; page = lit≤ tt; range = lit≤ tt },
-      (record { size = lit≤ tt; some = lit≤ tt; most = lit≤ tt; atomic = tt; body = refl; aligned = refl; page = lit≤ tt; range = lit≤ tt },
-        (record { size = lit≤ tt; some = lit≤ tt; most = lit≤ tt; atomic = (lit≤ tt, refl); body = refl; aligned = refl; page = lit≤ tt; range = lit≤ tt }, tt)))))
+  (
+    record { size = lit≤ tt; some = lit≤ tt; most = lit≤ tt; atomic = tt; body = refl; aligned = refl; page = lit≤ tt; range = lit≤ tt },
+    (
+      record { size = lit≤ tt; some = lit≤ tt; most = lit≤ tt; atomic = tt; body = refl; aligned = refl; page = lit≤ tt; range = lit≤ tt },
+      (
+        record { size = lit≤ tt; some = lit≤ tt; most = lit≤ tt; atomic = tt; body = refl; aligned = refl; page = lit≤ tt; range = lit≤ tt },
+        (record { size = lit≤ tt; some = lit≤ tt; most = lit≤ tt; atomic = (lit≤ tt, refl); body = refl; aligned = refl; page = lit≤ tt; range = lit≤ tt }, tt),
+      ),
+    ),
+  ),
+)
 
 pub wide_is_accepted : IsAccepted wide
 wide_is_accepted = record {
