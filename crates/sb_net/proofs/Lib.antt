@@ -5,3 +5,9 @@ pub mod Counts
 pub mod Budgets
 pub mod Ways
 pub mod Courses
+pub mod ScriptFacts
+pub mod Answering
+pub mod Journals
+pub mod WholeRuns
+pub mod FoundReplies
+pub mod HostAnswers

@@ -1,7 +1,7 @@
 -- Lists that begin others, and lists that have some of others.
 use Rattle.std.proofs.Common.{◌≡◌, ◌≤◌, Bool, List, [], ◌∷◌, ◌++◌, length, take, drop, refl, sym, ap, ◌∙◌, append_assoc, arith, length-append}
-use Rattle.std.specs.Prelude.{filter, All}
-use Rattle.std.proofs.lemmas.List.{append-nil, take-append-drop}
+use Rattle.std.specs.Prelude.{filter, All, AllPairs}
+use Rattle.std.proofs.lemmas.List.{append-nil, take-append-drop, get_or_append_left}
 use Rattle.std.proofs.lemmas.List.Elements.{filter-append}
 use Rattle.std.proofs.Math.Seq.{take-append_seam}
 use Rattle.sb_packet.proofs.Lists.{All-left}
@@ -41,6 +41,15 @@ length-begins {A} {xs} {ys} p = omega (arith, length-append xs p.rest, ap length
 
 pub All-begins : {A : Type 0} (P : A → Type 0) {xs ys : List A} → Begins xs ys → All P ys → All P xs
 All-begins {A} P {xs} {ys} p h = All-left P xs p.rest (rw p.joined h)
+
+AllPairs-front : {A : Type 0} (R : A → A → Type 0) (xs rest : List A) → AllPairs R (xs ++ rest) → AllPairs R xs
+AllPairs-front R xs rest h i j d below inside =
+    let earlier = get_or_append_left xs rest d i (omega arith) in
+    let later = get_or_append_left xs rest d j inside in
+    rw (← earlier, ← later) (h i j d below (omega (arith, length-append xs rest)))
+
+pub AllPairs-begins : {A : Type 0} (R : A → A → Type 0) {xs ys : List A} → Begins xs ys → AllPairs R ys → AllPairs R xs
+AllPairs-begins {A} R {xs} {ys} p h = AllPairs-front R xs p.rest (rw p.joined h)
 
 -- a list that begins another and is as long is the other
 nothing : {A : Type 0} (xs : List A) → length xs ≤ 0 → xs ≡ []

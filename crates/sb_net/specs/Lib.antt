@@ -4,3 +4,6 @@ pub mod Moments
 pub mod Courses
 pub mod Promises
 pub mod Arrivals
+pub mod Layouts
+pub mod Runs
+pub mod Wholes

@@ -1,0 +1,39 @@
+-- A moment of a run of a whole network: what all rings, hosts, routers and devices promise.
+use Rattle.std.specs.Prelude.{◌≡◌, ◌≤◌, ◌<◌, ℕ, true, List, length, All}
+use Rattle.sb_packet.specs.Networks.{Network}
+use Rattle.sb_packet.specs.Journals.{journal_accesses}
+use Rattle.sb_packet.specs.Plans.{NetFlow, has_close}
+use Rattle.sb_packet.specs.declared.entry.Entry.{Entry}
+use Rattle.sb_net.specs.Lists.{IsPrefix, IsSubsequence}
+use Rattle.sb_net.specs.Flows.{words_of, aimed_script, device_answers, given_to}
+use Rattle.sb_net.specs.Moments.{Moment, arrived, AreSound}
+use Rattle.sb_net.specs.Courses.{ring_budget, CarriesItsFlows, AlongWay}
+use Rattle.sb_net.specs.Promises.{IsLink, IsPort, Forwards}
+use Rattle.sb_net.specs.Layouts.{Layout}
+
+-- A host, for one of its flows: it offers its script in order, and before the Close all of it.
+pub record IsHost (network : Network) (layout : Layout) (m : Moment) (f : NetFlow) : Type 0 where
+  pub in_order : IsPrefix (m.offered (layout.requests.first f)) (aimed_script network f.host)
+  pub closed : has_close (m.sent (layout.requests.first f)) ≡ true → m.offered (layout.requests.first f) ≡ aimed_script network f.host
+
+-- A device, for one of its flows: it offers the answers to what it took, perhaps with some left out;
+-- and none is left out while all that came is sound and the answers are within the budget of the ring that they go by.
+pub record IsDevice (network : Network) (layout : Layout) (journal : List Entry) (m : Moment) (f : NetFlow) : Type 0 where
+  pub in_order : IsSubsequence (words_of network f (m.offered (layout.answers.first f))) (given_to network journal f)
+  pub whole : AreSound (m.received (layout.into f.device)) →
+      length (device_answers network journal f.device) ≤ ring_budget layout.answers (layout.answers.first f) →
+      m.offered (layout.answers.first f) ≡ device_answers network journal f.device
+
+-- All promises, at a moment at which the ends of each ring have met.
+pub record IsMomentOf (network : Network) (layout : Layout) (journal : List Entry) (m : Moment) : Type 0 where
+  pub links : (r : ℕ) → IsLink m r
+  pub ports : (r : ℕ) → IsPort m r
+  -- a ring carries only words of its flows
+  pub carried : (r : ℕ) → layout.requests.has r ≡ true → CarriesItsFlows network layout.requests m r
+  pub carried_back : (r : ℕ) → layout.answers.has r ≡ true → CarriesItsFlows network layout.answers m r
+  -- the journal has at each device the words that came by the ring into it
+  pub recorded : (d : ℕ) → d < length network.devices → journal_accesses journal d ≡ arrived m (layout.into d)
+  pub hosts : All (IsHost network layout m) layout.requests.flows
+  pub devices : All (IsDevice network layout journal m) layout.requests.flows
+  pub routers : All (λ f. AlongWay (Forwards network layout.requests m f) (layout.requests.first f) (layout.requests.rest f)) layout.requests.flows
+  pub routers_back : All (λ f. AlongWay (Forwards network layout.answers m f) (layout.answers.first f) (layout.answers.rest f)) layout.requests.flows
