@@ -26,7 +26,7 @@ own_answers m (x ∷ list) apart (suc i) d below =
     (later.0, ap (λ (b : Bool). cond b (access_answer m x) (answer_at_first (access_step m x) list a)) other ∙ later.1)
 
 -- an answer looks like one, and nothing that goes elsewhere does
-looks_like : (network : Network) (a b : Access) → IsAnswerOf network a b → is_answer_to a b ≡ true
+pub looks_like : (network : Network) (a b : Access) → IsAnswerOf network a b → is_answer_to a b ≡ true
 looks_like network a b is =
     let address : (b.dst == a.src) ≡ true = let same = is.address in grind (arith, nat_tests) in
     let size : (b.size == a.size) ≡ true = let same = is.size in grind (arith, nat_tests) in

@@ -11,3 +11,7 @@ pub mod Journals
 pub mod WholeRuns
 pub mod FoundReplies
 pub mod HostAnswers
+pub mod Stillness
+pub mod Windows
+pub mod LastRounds
+pub mod Bounds

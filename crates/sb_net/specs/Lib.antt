@@ -7,3 +7,7 @@ pub mod Arrivals
 pub mod Layouts
 pub mod Runs
 pub mod Wholes
+pub mod Stages
+pub mod Standstills
+pub mod Endings
+pub mod Moves

@@ -1,17 +1,21 @@
 //! Laws of whole runs: what follows for a network from what its rings and its nodes promise one by one.
 
-ghost use Rattle.std.specs.Prelude.{ℕ, List, All};
+ghost use Rattle.std.specs.Prelude.{◌≡◌, ◌≤◌, ◌<◌, ◌+◌, ◌⊎◌, ℕ, true, false, List, length, All};
 ghost use Rattle.sb_packet.specs.Accesses.{Access};
 ghost use Rattle.sb_packet.specs.Networks.{Network};
 ghost use Rattle.sb_packet.specs.Plans.{NetFlow};
 ghost use Rattle.sb_packet.specs.declared.entry.Entry.{Entry};
 ghost use Rattle.sb_net.specs.Arrivals.{BeginsSources, CarriesSources, HasEnded, PicksSources};
 ghost use Rattle.sb_net.specs.Courses.{Course};
+ghost use Rattle.sb_net.specs.Endings.{HasMet, IsFinished, IsQuietReceiver, IsQuietSender, IsWaiting, IsWithin, MissesAnswer};
 ghost use Rattle.sb_net.specs.Flows.{asked_of, given_to};
 ghost use Rattle.sb_net.specs.Layouts.{IsLayout, Layout};
 ghost use Rattle.sb_net.specs.Moments.{Moment};
+ghost use Rattle.sb_net.specs.Moves.{AreMovingRounds, IsWithinBudget, RingUse, move_bound};
 ghost use Rattle.sb_net.specs.Promises.{KeepsOrder, KeepsPromises};
 ghost use Rattle.sb_net.specs.Runs.{IsMomentOf};
+ghost use Rattle.sb_net.specs.Stages.{Stages};
+ghost use Rattle.sb_net.specs.Standstills.{IsStandstill, RoundEnd};
 ghost use Rattle.sb_net.specs.Wholes.{AreAnswered, IsHistorySoFar, IsWholeRun};
 
 /// At any moment at which the ends of each ring have met, a first part of each flow's source has come by each ring of
@@ -63,4 +67,58 @@ pub fn answers_are_the_journals()
         → IsLayout network layout → IsMomentOf network layout journal m
         → All (HasEnded layout.requests m) layout.requests.flows → All (HasEnded layout.answers m) layout.requests.flows
         → All (AreAnswered network layout journal m) layout.requests.flows }
+{}
+
+/// A ring whose ends have met, and over which nothing went since: where its sender finds it full something wasn't
+/// received, and where its receiver finds it empty all was.
+pub fn learnt_counts_are_true()
+    ensures full { (capacity sent received taken known : ℕ)
+        → HasMet capacity sent received taken known → sent ≡ taken + capacity → received < sent }
+    ensures empty { (capacity sent received taken known : ℕ)
+        → HasMet capacity sent received taken known → received ≡ known → sent ≤ received }
+{}
+
+/// After a round in which no node moved nothing is kept in front of a ring or behind it, and all that was sent over it
+/// was received.
+pub fn standstill_is_quiet()
+    ensures senders { (stages : Stages) (s : RoundEnd)
+        → IsStandstill stages s → (r : ℕ) → r < stages.rings → stages.comes_in r ≡ false → IsQuietSender s r }
+    ensures receivers { (stages : Stages) (s : RoundEnd)
+        → IsStandstill stages s → (r : ℕ) → r < stages.rings → stages.goes_out r ≡ false → IsQuietReceiver stages s r }
+{}
+
+/// After such a round each ring is done, or a host waits for a slot of its window. So where none waits each is done.
+pub fn standstill_is_the_end()
+    ensures end_or_wait { (stages : Stages) (s : RoundEnd)
+        → IsStandstill stages s
+        → ((r : ℕ) → r < stages.rings → IsFinished stages s r) ⊎ IsWaiting stages s }
+    ensures end { (stages : Stages) (s : RoundEnd)
+        → IsStandstill stages s → ((r : ℕ) → r < stages.rings → s.waits r ≡ false)
+        → (r : ℕ) → r < stages.rings → IsFinished stages s r }
+{}
+
+/// In a whole network, where a host waits only while it misses an answer, none waits after such a round: each ring is
+/// done, and the run is whole.
+pub fn standstill_is_a_whole_run()
+    ensures finished { (network : Network) (layout : Layout) (journal : List Entry) (stages : Stages) (s : RoundEnd)
+        → IsLayout network layout → IsStandstill stages s → IsMomentOf network layout journal s.at
+        → ((r : ℕ) → r < stages.rings → (stages.comes_in r ≡ false) × (stages.goes_out r ≡ false))
+        → All (IsWithin stages layout) layout.requests.flows
+        → ((r : ℕ) → r < stages.rings → s.waits r ≡ true → MissesAnswer network layout s.at r)
+        → (r : ℕ) → r < stages.rings → IsFinished stages s r }
+    ensures whole { (network : Network) (layout : Layout) (journal : List Entry) (stages : Stages) (s : RoundEnd)
+        → IsLayout network layout → IsStandstill stages s → IsMomentOf network layout journal s.at
+        → ((r : ℕ) → r < stages.rings → (stages.comes_in r ≡ false) × (stages.goes_out r ≡ false))
+        → All (IsWithin stages layout) layout.requests.flows
+        → ((r : ℕ) → r < stages.rings → s.waits r ≡ true → MissesAnswer network layout s.at r)
+        → IsWholeRun network layout journal s.at }
+{}
+
+/// There are no more rounds in which a node moves than the budgets of the rings allow: 4 for each word that may go over
+/// a ring, and 4 more, at each of its ends.
+pub fn moving_rounds_are_few()
+    ensures few { (rings : List ℕ) (budget : ℕ → ℕ) (first : ℕ → RingUse) (later : List (ℕ → RingUse))
+        → All (λ r. IsWithinBudget (budget r) (first r)) rings → AreMovingRounds rings first later
+        → All (λ used. All (λ r. IsWithinBudget (budget r) (used r)) rings) later
+        → length later ≤ move_bound rings budget }
 {}
