@@ -7,29 +7,29 @@ use Rattle.sb_packet.specs.Plans.{NetFlow}
 use Rattle.sb_packet.proofs.Lists.{filter_none}
 use Rattle.sb_net.specs.Flows.{is_of, words_of, is_among}
 use Rattle.sb_net.specs.Moments.{Moment, arrived}
-use Rattle.sb_net.specs.Courses.{Course, goes_over, ring_flows, ring_budget, is_carried, came_for, CarriesItsFlows, IsOneWay}
+use Rattle.sb_net.specs.Courses.{Course, goes_over, flows_over, budget_over, is_carried, came_for, CarriesItsFlows, IsOneWay}
 use Rattle.sb_net.proofs.Sums.{sum_by_le, sum_by_swap, sum_of_one}
 use Rattle.sb_net.proofs.FlowMembers.{not_true, among_from, among_passing}
 use Rattle.sb_net.proofs.Counts.{flows_cover}
 
 module _ (network : Network) (c : Course) (m : Moment) where
   -- a ring has no words of a flow that is not one of its flows
-  pub none_of_others : (r : ℕ) (f : NetFlow) → CarriesItsFlows network c m r → is_among f (ring_flows c r) ≡ false → words_of network f (arrived m r) ≡ []
+  pub none_of_others : (r : ℕ) (f : NetFlow) → CarriesItsFlows network c m r → is_among f (flows_over c r) ≡ false → words_of network f (arrived m r) ≡ []
   none_of_others r f carried other = filter_none (is_of network f) (arrived m r)
       (All-weaker (λ a. is_carried network c r a ≡ true) (λ a. is_of network f a ≡ false)
-      (λ a e. not_true (is_of network f a) (λ t. let yes = among_from network f a (ring_flows c r) t e in cc)) (arrived m r) carried)
+      (λ a e. not_true (is_of network f a) (λ t. let yes = among_from network f a (flows_over c r) t e in cc)) (arrived m r) carried)
 
   -- nor of one that does not go over it
   pub none_besides : (r : ℕ) (f : NetFlow) → CarriesItsFlows network c m r → goes_over c r f ≡ false → words_of network f (arrived m r) ≡ []
-  none_besides r f carried besides = none_of_others r f carried (not_true (is_among f (ring_flows c r)) (λ t. let over = among_passing (goes_over c r) f c.flows t in cc))
+  none_besides r f carried besides = none_of_others r f carried (not_true (is_among f (flows_over c r)) (λ t. let over = among_passing (goes_over c r) f c.flows t in cc))
 
   -- a fact of a flow and a number of words of it by each ring that it goes over
   abbrev pub IsModest : NetFlow → Type 0
   IsModest f = (k : ℕ) → goes_over c k f ≡ true → length (words_of network f (arrived m k)) ≤ c.allowance f
 
-  pub came_within : (r : ℕ) → IsOneWay c r → ((k : ℕ) → c.has k ≡ true → CarriesItsFlows network c m k) → All IsModest c.flows → came_for network c m r ≤ ring_budget c r
+  pub came_within : (r : ℕ) → IsOneWay c r → ((k : ℕ) → c.has k ≡ true → CarriesItsFlows network c m k) → All IsModest c.flows → came_for network c m r ≤ budget_over c r
   came_within r one_way carried modest =
-      let fs = ring_flows c r in
+      let fs = flows_over c r in
       let count : ℕ → NetFlow → ℕ = λ k f. length (words_of network f (arrived m k)) in
       let covered = sum_by_le (λ k. length (filter (is_carried network c r) (arrived m k))) (λ k. sum_by (count k) fs) (c.ins r) (λ i d below. flows_cover network fs (arrived m (get_or (c.ins r) i d))) in
       let turned = sum_by_swap count (c.ins r) fs in

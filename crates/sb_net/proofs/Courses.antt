@@ -14,7 +14,7 @@ use Rattle.sb_packet.specs.declared.item.Item.TheVariants as items
 use Rattle.sb_net.specs.Lists.{IsPrefix, IsSubsequence}
 use Rattle.sb_net.specs.Flows.{is_of, words_of}
 use Rattle.sb_net.specs.Moments.{Moment, arrived, AreSound, ClosesLast}
-use Rattle.sb_net.specs.Courses.{Course, way_of, ring_flows, ring_budget, came_for, AlongWay}
+use Rattle.sb_net.specs.Courses.{Course, way_of, flows_over, budget_over, came_for, AlongWay}
 use Rattle.sb_net.specs.Promises.{IsLink, IsPort, Forwards, Offers, KeepsPromises, KeepsOrder}
 use Rattle.sb_net.specs.Arrivals.{BeginsSources, PicksSources, CarriesSources, HasEnded}
 use Rattle.sb_net.proofs.Prefixes.{Begins, begins, is_prefix, front_begins, begins_then, begins-filter, length-begins, All-begins, subsequence_then, length-subsequence, begins_subsequence}
@@ -79,7 +79,7 @@ module _ (network : Network) (c : Course) (m : Moment) (links : (r : ℕ) → Is
       All-cons (λ r. IsSubsequence (words_of network f (arrived m r)) source) k (j ∷ js) here (subsequences_along f source j js ways.1 (subsequence_then ways.0.in_order here))
 
   -- where nothing is dropped, what comes begins what there was
-  pub prefixes_along : (f : NetFlow) (source : List Access) → ((r : ℕ) → came_for network c m r ≤ ring_budget c r) → (k : ℕ) (js : List ℕ) → AlongWay (Forwards network c m f) k js →
+  pub prefixes_along : (f : NetFlow) (source : List Access) → ((r : ℕ) → came_for network c m r ≤ budget_over c r) → (k : ℕ) (js : List ℕ) → AlongWay (Forwards network c m f) k js →
       Begins (words_of network f (m.offered k)) source → All (λ r. Begins (words_of network f (arrived m r)) source) (k ∷ js)
   prefixes_along f source room k [] ways h =
       All-cons (λ r. Begins (words_of network f (arrived m r)) source) k [] (begins_then (ring_begins f k) h) (All-nil (λ r. Begins (words_of network f (arrived m r)) source))
@@ -97,7 +97,7 @@ module _ (network : Network) (c : Course) (m : Moment) (links : (r : ℕ) → Is
   closed_ring f source r h e = ap (λ (list : List Item). words_of network f (item_accesses list)) (closed_link m r (links r) h) ∙ ap (words_of network f) ((ports r).closed (closed_sender r h)) ∙ e
 
   -- where all rings of a way have given their Close, each brought all that there was
-  pub whole_along : (f : NetFlow) (source : List Access) → ((r : ℕ) → came_for network c m r ≤ ring_budget c r) → (k : ℕ) (js : List ℕ) → AlongWay (Forwards network c m f) k js →
+  pub whole_along : (f : NetFlow) (source : List Access) → ((r : ℕ) → came_for network c m r ≤ budget_over c r) → (k : ℕ) (js : List ℕ) → AlongWay (Forwards network c m f) k js →
       All (λ r. has_close (m.received r) ≡ true) (k ∷ js) → words_of network f (m.offered k) ≡ source → All (λ r. words_of network f (arrived m r) ≡ source) (k ∷ js)
   whole_along f source room k [] ways ended e =
       All-cons (λ r. words_of network f (arrived m r) ≡ source) k [] (closed_ring f source k (All-head (λ r. has_close (m.received r) ≡ true) k [] ended) e) (All-nil (λ r. words_of network f (arrived m r) ≡ source))
@@ -132,7 +132,7 @@ module _ (network : Network) (c : Course) (m : Moment) (source : NetFlow → Lis
         (λ f h. begins (words_of network f (m.offered (c.first f))) (source f) h.in_order) c.flows keeps.sources
 
     -- nothing is dropped for want of budget
-    pub room : (r : ℕ) → came_for network c m r ≤ ring_budget c r
+    pub room : (r : ℕ) → came_for network c m r ≤ budget_over c r
     room r = came_within network c m r (keeps.one_way r) keeps.carried (modest network c m keeps.links keeps.ports source keeps.allowed
         (All-weaker (λ f. Begins (words_of network f (m.offered (c.first f))) (source f)) (λ f. IsSubsequence (words_of network f (m.offered (c.first f))) (source f)) (λ f h. begins_subsequence h) c.flows starts) keeps.routers)
 
@@ -142,7 +142,7 @@ module _ (network : Network) (c : Course) (m : Moment) (source : NetFlow → Lis
         prefixes_along network c m keeps.links keeps.ports f (source f) room (c.first f) (c.rest f) (keeps.routers i d below) (starts i d below)
 
     pub ring_prefix_law : (r : ℕ) → BeginsSources network c m source r
-    ring_prefix_law r = All-weaker (λ f. Begins (words_of network f (arrived m r)) (source f)) (λ f. IsPrefix (words_of network f (arrived m r)) (source f)) (λ f h. is_prefix h) (ring_flows c r)
+    ring_prefix_law r = All-weaker (λ f. Begins (words_of network f (arrived m r)) (source f)) (λ f. IsPrefix (words_of network f (arrived m r)) (source f)) (λ f h. is_prefix h) (flows_over c r)
         (All-at_ring c (λ f r. Begins (words_of network f (arrived m r)) (source f)) prefix_law r)
 
     pub whole_law : All (HasEnded c m) c.flows → All (λ f. All (λ r. words_of network f (arrived m r) ≡ source f) (way_of c f)) c.flows

@@ -13,7 +13,7 @@ use Rattle.sb_packet.specs.declared.entry.Entry.{Entry}
 use Rattle.sb_packet.proofs.Lists.{All-kept}
 use Rattle.sb_net.specs.Flows.{is_of, words_of, script_of, asked_of, given_to, replies_to}
 use Rattle.sb_net.specs.Moments.{Moment, arrived}
-use Rattle.sb_net.specs.Courses.{goes_over, ring_flows}
+use Rattle.sb_net.specs.Courses.{goes_over, flows_over}
 use Rattle.sb_net.specs.Arrivals.{HasEnded}
 use Rattle.sb_net.specs.Layouts.{Layout, IsLayout, ring_home}
 use Rattle.sb_net.specs.Runs.{IsMomentOf}
@@ -60,7 +60,7 @@ module _ (network : Network) (layout : Layout) (journal : List Entry) (m : Momen
   -- each word that came by a ring of answers answers a word of a script
   came_answers : (r : ℕ) → layout.answers.has r ≡ true → All Answered (arrived m r)
   came_answers r has i d below =
-      let fs = ring_flows layout.answers r in
+      let fs = flows_over layout.answers r in
       let some = some_flow network (get_or (arrived m r) i d) fs (now.carried_back r has i d below) in
       let g = some.0 in
       let devices = subst (All (λ f. f.device < length network.devices)) (sym laid.same_flows) laid.devices in

@@ -14,7 +14,7 @@ use Rattle.sb_packet.specs.declared.entry.Entry.{Entry}
 use Rattle.sb_packet.proofs.Lists.{filter_none, All-kept, AllPairs-kept}
 use Rattle.sb_net.specs.Flows.{is_of, words_of, is_among, script_of, aimed_script, asked_of}
 use Rattle.sb_net.specs.Moments.{Moment, arrived}
-use Rattle.sb_net.specs.Courses.{way_of, goes_over, ring_flows, is_carried}
+use Rattle.sb_net.specs.Courses.{way_of, goes_over, flows_over, is_carried}
 use Rattle.sb_net.specs.Promises.{Offers, KeepsPromises}
 use Rattle.sb_net.specs.Layouts.{Layout, IsLayout}
 use Rattle.sb_net.specs.Runs.{IsHost, IsMomentOf}
@@ -98,7 +98,7 @@ module _ (network : Network) (layout : Layout) (journal : List Entry) (m : Momen
           let ring = layout.into f.device in
           ap (words_of network f) (now.recorded f.device inside)
           ∙ none_of_others network layout.requests m ring f (now.carried ring (laid.into_has f.device inside))
-          (not_true (is_among f (ring_flows layout.requests ring)) (λ e. let some = among_all (goes_over layout.requests ring) f layout.requests.flows e in cc))
+          (not_true (is_among f (flows_over layout.requests ring)) (λ e. let some = among_all (goes_over layout.requests ring) f layout.requests.flows e in cc))
       by_device (inr beyond) = no_device network f (journal_accesses journal f.device) beyond
 
   -- a fact of what came by the ring into its device is one of the journal
@@ -139,8 +139,8 @@ module _ (network : Network) (layout : Layout) (journal : List Entry) (m : Momen
       let ring = layout.into d in
       let carried = subst (All (λ a. is_carried network layout.requests ring a ≡ true)) (sym (now.recorded d inside)) (now.carried ring (laid.into_has d inside)) in
       All-weaker (λ a. is_carried network layout.requests ring a ≡ true) (Origin d) (λ a e.
-      let some = some_flow network a (ring_flows layout.requests ring) e in
-      record { flow = some.0; device = at_flow (λ g. g.device ≡ d) some.0 (ring_flows layout.requests ring) (laid.into_flows d inside) some.1; of_flow = some.2 }) (journal_accesses journal d) carried
+      let some = some_flow network a (flows_over layout.requests ring) e in
+      record { flow = some.0; device = at_flow (λ g. g.device ≡ d) some.0 (flows_over layout.requests ring) (laid.into_flows d inside) some.1; of_flow = some.2 }) (journal_accesses journal d) carried
 
   -- the reply address of a word of the journal tells the host that asked
   told : (d i : ℕ) (x : Access) → i < length (journal_accesses journal d) → (o : Origin d (get_or (journal_accesses journal d) i x)) → (get_or (journal_accesses journal d) i x).src / 2 ^ 40 ≡ o.flow.host

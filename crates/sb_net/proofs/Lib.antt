@@ -15,3 +15,9 @@ pub mod Stillness
 pub mod Windows
 pub mod LastRounds
 pub mod Bounds
+pub mod ExampleNetwork
+pub mod ExampleLayout
+pub mod ExampleRun
+pub mod ExampleHalfway
+pub mod ExampleStandstill
+pub mod ExampleMoves

@@ -15,7 +15,7 @@ use Rattle.sb_packet.specs.declared.entry.Entry.{Entry}
 use Rattle.sb_packet.proofs.Lists.{filter_all}
 use Rattle.sb_net.specs.Flows.{is_of, words_of, is_answered, script_of, asked_of, answered_of, device_answers, given_to, replies_to}
 use Rattle.sb_net.specs.Moments.{Moment}
-use Rattle.sb_net.specs.Courses.{ring_flows, ring_budget, is_carried, goes_over, AlongWay}
+use Rattle.sb_net.specs.Courses.{flows_over, budget_over, is_carried, goes_over, AlongWay}
 use Rattle.sb_net.specs.Promises.{Forwards, Offers, KeepsPromises}
 use Rattle.sb_net.specs.Arrivals.{HasEnded, CarriesSources}
 use Rattle.sb_net.specs.Layouts.{Layout, IsLayout}
@@ -75,13 +75,13 @@ module _ (network : Network) (layout : Layout) (journal : List Entry) (m : Momen
       omega arith
 
   -- a device's answers are no more than the ring out of it may carry
-  answers_within : (f : NetFlow) → f.device < length network.devices → ring_flows layout.answers (layout.answers.first f) ≡ ring_flows layout.requests (layout.into f.device) →
+  answers_within : (f : NetFlow) → f.device < length network.devices → flows_over layout.answers (layout.answers.first f) ≡ flows_over layout.requests (layout.into f.device) →
       All (λ g. length (given_to network journal g) ≤ layout.answers.allowance g) layout.answers.flows →
-      length (device_answers network journal f.device) ≤ ring_budget layout.answers (layout.answers.first f)
+      length (device_answers network journal f.device) ≤ budget_over layout.answers (layout.answers.first f)
   answers_within f there same allowed =
       let d = f.device in
       let ring = layout.into d in
-      let fs = ring_flows layout.requests ring in
+      let fs = flows_over layout.requests ring in
       let words : All (λ a. is_of_some network fs a ≡ true) (journal_accesses journal d) = subst (All (λ a. is_carried network layout.requests ring a ≡ true)) (sym (now.recorded d there)) (now.carried ring (laid.into_has d there)) in
       let answers = All-given (λ a. is_of_some network fs a ≡ true) (λ k a b e h. some_same network fs a b (answer_is network k a b e) h) (opening_memory network d) (journal_accesses journal d) words in
       let kept = ap length (filter_all (is_of_some network fs) (device_answers network journal d) answers) in
@@ -89,9 +89,9 @@ module _ (network : Network) (layout : Layout) (journal : List Entry) (m : Momen
       let each = sum_by_same (λ g. length (words_of network g (device_answers network journal d))) (λ g. length (given_to network journal g)) fs
       (All-weaker (λ g. g.device ≡ d) (λ g. length (words_of network g (device_answers network journal d)) ≡ length (given_to network journal g))
       (λ g e. ap (λ (k : ℕ). length (words_of network g (device_answers network journal k))) (sym e)) fs (laid.into_flows d there)) in
-      let moved : sum_by (λ g. length (given_to network journal g)) (ring_flows layout.answers (layout.answers.first f)) ≡ sum_by (λ g. length (given_to network journal g)) fs =
+      let moved : sum_by (λ g. length (given_to network journal g)) (flows_over layout.answers (layout.answers.first f)) ≡ sum_by (λ g. length (given_to network journal g)) fs =
       ap (λ (gs : List NetFlow). sum_by (λ g. length (given_to network journal g)) gs) same in
-      let few = sum_by_le (λ g. length (given_to network journal g)) layout.answers.allowance (ring_flows layout.answers (layout.answers.first f))
+      let few = sum_by_le (λ g. length (given_to network journal g)) layout.answers.allowance (flows_over layout.answers (layout.answers.first f))
       (All-filter (goes_over layout.answers (layout.answers.first f)) (λ g. length (given_to network journal g) ≤ layout.answers.allowance g) layout.answers.flows allowed) in
       omega arith
 

@@ -13,7 +13,7 @@ use Rattle.sb_packet.specs.declared.entry.Entry.{Entry}
 use Rattle.sb_packet.proofs.Lists.{All-kept}
 use Rattle.sb_net.specs.Flows.{is_of, words_of, is_answered, asked_of, given_to}
 use Rattle.sb_net.specs.Moments.{Moment, arrived}
-use Rattle.sb_net.specs.Courses.{Course, way_of, ring_budget, came_for, AlongWay}
+use Rattle.sb_net.specs.Courses.{Course, way_of, budget_over, came_for, AlongWay}
 use Rattle.sb_net.specs.Promises.{IsLink, IsPort, Forwards}
 use Rattle.sb_net.specs.Layouts.{Layout, IsLayout, ring_home}
 use Rattle.sb_net.specs.Runs.{IsMomentOf}
@@ -36,7 +36,7 @@ record Rests (m : Moment) (r : ℕ) : Type 0 where
   held : m.held r ≡ []
 
 -- where nothing is under way, all that was offered first has come by each ring of the way
-settled_along : (network : Network) (c : Course) (m : Moment) → ((r : ℕ) → IsLink m r) → ((r : ℕ) → IsPort m r) → ((r : ℕ) → came_for network c m r ≤ ring_budget c r) →
+settled_along : (network : Network) (c : Course) (m : Moment) → ((r : ℕ) → IsLink m r) → ((r : ℕ) → IsPort m r) → ((r : ℕ) → came_for network c m r ≤ budget_over c r) →
     (f : NetFlow) (source : List Access) (k : ℕ) (js : List ℕ) → AlongWay (Forwards network c m f) k js → All (Rests m) (k ∷ js) → words_of network f (m.offered k) ≡ source →
     All (λ r. words_of network f (arrived m r) ≡ source) (k ∷ js)
 settled_along network c m links ports room f source k [] ways rests e =

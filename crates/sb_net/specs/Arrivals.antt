@@ -6,19 +6,19 @@ use Rattle.sb_packet.specs.Plans.{NetFlow, has_close}
 use Rattle.sb_net.specs.Lists.{IsPrefix, IsSubsequence}
 use Rattle.sb_net.specs.Flows.{words_of}
 use Rattle.sb_net.specs.Moments.{Moment, arrived}
-use Rattle.sb_net.specs.Courses.{Course, ring_flows, way_of}
+use Rattle.sb_net.specs.Courses.{Course, flows_over, way_of}
 
 -- Of each of a ring's flows a first part of its source came.
 abbrev pub BeginsSources : Network → Course → Moment → (NetFlow → List Access) → ℕ → Type 0
-BeginsSources network c m source r = All (λ f. IsPrefix (words_of network f (arrived m r)) (source f)) (ring_flows c r)
+BeginsSources network c m source r = All (λ f. IsPrefix (words_of network f (arrived m r)) (source f)) (flows_over c r)
 
 -- Of each of a ring's flows its source came, in order, with some left out.
 abbrev pub PicksSources : Network → Course → Moment → (NetFlow → List Access) → ℕ → Type 0
-PicksSources network c m source r = All (λ f. IsSubsequence (words_of network f (arrived m r)) (source f)) (ring_flows c r)
+PicksSources network c m source r = All (λ f. IsSubsequence (words_of network f (arrived m r)) (source f)) (flows_over c r)
 
 -- Of each of a ring's flows all of its source came.
 abbrev pub CarriesSources : Network → Course → Moment → (NetFlow → List Access) → ℕ → Type 0
-CarriesSources network c m source r = All (λ f. words_of network f (arrived m r) ≡ source f) (ring_flows c r)
+CarriesSources network c m source r = All (λ f. words_of network f (arrived m r) ≡ source f) (flows_over c r)
 
 -- Each ring of a flow's way has given its Close.
 abbrev pub HasEnded : Course → Moment → NetFlow → Type 0

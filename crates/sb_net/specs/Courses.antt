@@ -28,16 +28,16 @@ abbrev pub goes_over : Course → ℕ → NetFlow → Bool
 goes_over c r f = list_any (λ k. k == r) (way_of c f)
 
 -- the flows that have a ring on their way
-abbrev pub ring_flows : Course → ℕ → List NetFlow
-ring_flows c r = filter (goes_over c r) c.flows
+abbrev pub flows_over : Course → ℕ → List NetFlow
+flows_over c r = filter (goes_over c r) c.flows
 
 -- how many words may go over a ring
-abbrev pub ring_budget : Course → ℕ → ℕ
-ring_budget c r = sum_by c.allowance (ring_flows c r)
+abbrev pub budget_over : Course → ℕ → ℕ
+budget_over c r = sum_by c.allowance (flows_over c r)
 
 -- a word is of one of a ring's flows
 abbrev pub is_carried : Network → Course → ℕ → Access → Bool
-is_carried network c r a = list_any (λ f. is_of network f a) (ring_flows c r)
+is_carried network c r a = list_any (λ f. is_of network f a) (flows_over c r)
 
 -- Only words of a ring's flows came by it.
 abbrev pub CarriesItsFlows : Network → Course → Moment → ℕ → Type 0

@@ -4,7 +4,7 @@ use Rattle.sb_packet.specs.Networks.{Network}
 use Rattle.sb_packet.specs.Scripts.{IsTransaction}
 use Rattle.sb_packet.specs.Plans.{NetFlow}
 use Rattle.sb_net.specs.Flows.{is_among, asked_of, answered_of}
-use Rattle.sb_net.specs.Courses.{Course, IsOneWay, ring_flows, goes_over, last_of}
+use Rattle.sb_net.specs.Courses.{Course, IsOneWay, flows_over, goes_over, last_of}
 
 -- both directions, and the ring into each device by the device's place
 pub record Layout : Type 0 where
@@ -36,8 +36,8 @@ pub record IsLayout (network : Network) (layout : Layout) : Type 0 where
   pub one_way_back : (r : ℕ) → IsOneWay layout.answers r
   -- the ring into a device is on the way of each flow to that device, and of no other
   pub into_has : (d : ℕ) → d < length network.devices → layout.requests.has (layout.into d) ≡ true
-  pub into_flows : (d : ℕ) → d < length network.devices → All (λ f. f.device ≡ d) (ring_flows layout.requests (layout.into d))
+  pub into_flows : (d : ℕ) → d < length network.devices → All (λ f. f.device ≡ d) (flows_over layout.requests (layout.into d))
   pub leads : All (λ f. goes_over layout.requests (layout.into f.device) f ≡ true) layout.requests.flows
   -- the ring out of a device is on the way back of the same flows; the ring into a host is of answers
-  pub back_flows : All (λ f. ring_flows layout.answers (layout.answers.first f) ≡ ring_flows layout.requests (layout.into f.device)) layout.requests.flows
+  pub back_flows : All (λ f. flows_over layout.answers (layout.answers.first f) ≡ flows_over layout.requests (layout.into f.device)) layout.requests.flows
   pub back_has : All (λ f. layout.answers.has (ring_home layout f) ≡ true) layout.requests.flows

@@ -6,7 +6,7 @@ use Rattle.sb_packet.specs.Plans.{NetFlow, has_close, item_accesses}
 use Rattle.sb_net.specs.Lists.{IsPrefix, IsSubsequence}
 use Rattle.sb_net.specs.Flows.{words_of}
 use Rattle.sb_net.specs.Moments.{Moment, arrived, AreSound, ClosesLast}
-use Rattle.sb_net.specs.Courses.{Course, ring_budget, came_for, CarriesItsFlows, IsOneWay, AlongWay}
+use Rattle.sb_net.specs.Courses.{Course, budget_over, came_for, CarriesItsFlows, IsOneWay, AlongWay}
 
 -- A link: what was received is a prefix of what was sent, and nothing was sent after a Close.
 pub record IsLink (m : Moment) (r : ℕ) : Type 0 where
@@ -24,7 +24,7 @@ pub record Forwards (network : Network) (c : Course) (m : Moment) (f : NetFlow) 
   -- it offers what came, in order, perhaps with some left out
   pub in_order : IsSubsequence (words_of network f (m.offered to)) (words_of network f (arrived m from))
   -- and leaves nothing out, while all that came is sound and what goes on by that ring is within its budget
-  pub whole : All (λ k. AreSound (m.received k)) (c.ins to) → came_for network c m to ≤ ring_budget c to →
+  pub whole : All (λ k. AreSound (m.received k)) (c.ins to) → came_for network c m to ≤ budget_over c to →
       words_of network f (arrived m from) ≡ words_of network f (m.offered to) ++ words_of network f (m.held from)
   -- where its port has sent the Close, it holds nothing
   pub closed : has_close (m.sent to) ≡ true → words_of network f (m.held from) ≡ []

@@ -7,7 +7,7 @@ use Rattle.sb_packet.specs.declared.entry.Entry.{Entry}
 use Rattle.sb_net.specs.Lists.{IsPrefix, IsSubsequence}
 use Rattle.sb_net.specs.Flows.{words_of, aimed_script, device_answers, given_to}
 use Rattle.sb_net.specs.Moments.{Moment, arrived, AreSound}
-use Rattle.sb_net.specs.Courses.{ring_budget, CarriesItsFlows, AlongWay}
+use Rattle.sb_net.specs.Courses.{budget_over, CarriesItsFlows, AlongWay}
 use Rattle.sb_net.specs.Promises.{IsLink, IsPort, Forwards}
 use Rattle.sb_net.specs.Layouts.{Layout}
 
@@ -21,7 +21,7 @@ pub record IsHost (network : Network) (layout : Layout) (m : Moment) (f : NetFlo
 pub record IsDevice (network : Network) (layout : Layout) (journal : List Entry) (m : Moment) (f : NetFlow) : Type 0 where
   pub in_order : IsSubsequence (words_of network f (m.offered (layout.answers.first f))) (given_to network journal f)
   pub whole : AreSound (m.received (layout.into f.device)) →
-      length (device_answers network journal f.device) ≤ ring_budget layout.answers (layout.answers.first f) →
+      length (device_answers network journal f.device) ≤ budget_over layout.answers (layout.answers.first f) →
       m.offered (layout.answers.first f) ≡ device_answers network journal f.device
 
 -- All promises, at a moment at which the ends of each ring have met.
