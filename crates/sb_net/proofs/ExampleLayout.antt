@@ -1,6 +1,6 @@
 -- The layout of the example's network: its one flow goes over rings 0 and 2 to the device, and over rings 3 and 1 back.
 use Rattle.std.proofs.Common.{◌≡◌, ◌≢◌, ◌≤◌, ◌<◌, lit≤, lit<, ℕ, zero, suc, Bool, true, false, refl, arith, List, [], ◌∷◌, length}
-use Rattle.std.specs.Prelude.{All, AllPairs}
+use Rattle.std.specs.Prelude.{All, AllPairs, Contains}
 use Rattle.std.proofs.lemmas.List.Elements.{All-nil, All-from_recursion}
 use Rattle.sb_packet.specs.Scripts.{IsTransaction}
 use Rattle.sb_packet.specs.Plans.{NetFlow}
@@ -109,6 +109,7 @@ pub small_is_laid_out : IsLayout small small_layout
 small_is_laid_out = record {
   scripts = scripts_of_small;
   same_flows = refl;
+  hosts = of_one (λ f. Contains (0 ∷ []) f.host) the_flow (0, lit< tt, refl);
   devices = of_one (λ f. f.device < 1) the_flow (lit< tt);
   all_flows = λ f e. nothing_else f.host f.device e;
   asked = of_one (λ f. length (asked_of small f) ≤ 3) the_flow (lit≤ tt);

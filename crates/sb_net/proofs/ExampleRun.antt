@@ -1,16 +1,20 @@
 -- Two moments of the example's run, its end and one halfway: all that the laws ask for holds of them.
-use Rattle.std.proofs.Common.{◌≡◌, lit≤, ℕ, zero, suc, true, refl, arith, List, [], ◌∷◌}
+use Rattle.std.proofs.Common.{◌≡◌, lit≤, lit<, ℕ, zero, suc, true, refl, arith, List, [], ◌∷◌}
 use Rattle.std.specs.Prelude.{All}
 use Rattle.std.proofs.lemmas.List.Elements.{All-nil, All-from_recursion}
 use Rattle.sb_packet.specs.Messages.{message_of}
 use Rattle.sb_packet.specs.Soundness.{IsSound}
+use Rattle.sb_packet.specs.Spans.{span_of}
+use Rattle.sb_packet.specs.Networks.{width_to}
+use Rattle.sb_packet.specs.Journals.{IsLawful}
 use Rattle.sb_packet.specs.Plans.{has_close, item_accesses}
 use Rattle.sb_packet.specs.declared.item.Item.{Item}
 use Rattle.sb_net.specs.Moments.{Moment, AreSound, ClosesLast}
 use Rattle.sb_net.specs.Courses.{CarriesItsFlows, is_carried, AlongWay}
 use Rattle.sb_net.specs.Promises.{Forwards}
 use Rattle.sb_net.specs.Arrivals.{HasEnded}
-use Rattle.sb_net.specs.Runs.{IsHost, IsDevice, IsMomentOf}
+use Rattle.sb_net.specs.Runs.{IsHost, IsDevice, IsMomentOf, HasEntries}
+use Rattle.sb_net.proofs.Entries.{lawful_journal}
 use Rattle.sb_net.proofs.Prefixes.{is_prefix, same_begins, same_subsequence}
 use Rattle.sb_net.proofs.ExampleNetwork.{small, steps, asking, answering, write, posted, read, written, read_back}
 use Rattle.sb_net.proofs.ExampleLayout.{the_flow, is_request_ring, is_answer_ring, small_layout, of_one}
@@ -98,3 +102,14 @@ small_has_ended = of_one (HasEnded small_layout.requests the_end) the_flow (All-
 
 pub small_has_ended_back : All (HasEnded small_layout.answers the_end) small_layout.requests.flows
 small_has_ended_back = of_one (HasEnded small_layout.answers the_end) the_flow (All-from_recursion (λ r. has_close (all_items r) ≡ true) (3 ∷ 1 ∷ []) (refl, (refl, tt)))
+
+-- The entries are at their device, and the journal is one legal history.
+pub steps_of_small : HasEntries small steps
+steps_of_small = record {
+  devices = All-from_recursion (λ e. e.device < 1) steps (lit< tt, (lit< tt, (lit< tt, tt)));
+  narrow = All-from_recursion (λ e. span_of e.packet.cmd ≤ width_to small e.device) steps (lit≤ tt, (lit≤ tt, (lit≤ tt, tt)));
+  in_round_order = refl;
+}
+
+pub steps_are_lawful : IsLawful small steps
+steps_are_lawful = lawful_journal small small_layout steps the_end small_is_laid_out end_of_small steps_of_small small_has_ended small_has_ended_back

@@ -1,11 +1,11 @@
 -- What a journal has at each device by some moment, of each flow.
 use Rattle.std.proofs.Common.{◌≡◌, ◌≢◌, ◌≤◌, ◌<◌, ℕ, ◌+◌, ◌/◌, ◌^◌, Bool, true, false, cond, List, [], ◌∷◌, length, refl, sym, ap, ◌∙◌, arith, subst, inl, inr}
-use Rattle.std.specs.Prelude.{◌==◌, ◌⊎◌, filter, All, AllPairs, Option, Some, None, get_or}
+use Rattle.std.specs.Prelude.{◌==◌, ◌⊎◌, filter, map, All, AllPairs, Contains, Option, Some, None, get_or}
 use Rattle.std.specs.List.{position_from}
 use Rattle.std.specs.Option.{option_map_or}
 use Rattle.std.proofs.lemmas.Bool.{cases_lt}
 use Rattle.std.proofs.lemmas.Bool.Decides.{nat_tests}
-use Rattle.std.proofs.lemmas.List.Elements.{All-head, All-tail, All-weaker}
+use Rattle.std.proofs.lemmas.List.Elements.{All-head, All-tail, All-weaker, All-filter}
 use Rattle.sb_packet.specs.Accesses.{Access}
 use Rattle.sb_packet.specs.Networks.{Network, device_at, has_address}
 use Rattle.sb_packet.specs.Journals.{journal_accesses, device_address, is_request}
@@ -65,6 +65,13 @@ module _ (network : Network) where
       by_place : (address : ℕ) (o : Option ℕ) → device_at network address ≡ o → option_map_or (λ k. k == f.device) o false ≡ true → ⊥
       by_place address None is e = cc
       by_place address (Some k) is e = let below = place_below (has_address address) 0 k network.devices is in let same : k ≡ f.device = grind (arith, nat_tests) in absurd (omega arith)
+
+  -- the flow that a word at device d is of
+  pub record Origin (d : ℕ) (a : Access) : Type 0 where
+    pub flow : NetFlow
+    pub host : Contains (map (λ h. h.id) network.hosts) flow.host
+    pub device : flow.device ≡ d
+    pub of_flow : is_of network flow a ≡ true
 
 module _ (network : Network) (layout : Layout) (journal : List Entry) (m : Moment) (laid : IsLayout network layout) (now : IsMomentOf network layout journal m) where
   host_offers : (f : NetFlow) → IsHost network layout m f → Offers network layout.requests m (asked_of network) f
@@ -128,22 +135,24 @@ module _ (network : Network) (layout : Layout) (journal : List Entry) (m : Momen
       let f : NetFlow = record { host = host.id; device = d } in
       is_prefix (subst (Begins (words_of network f (journal_accesses journal d))) (sym (own_script network laid.scripts k h below d)) (history f))
 
-  -- the flow that a word of the journal is of
-  record Origin (d : ℕ) (a : Access) : Type 0 where
-    flow : NetFlow
-    device : flow.device ≡ d
-    of_flow : is_of network flow a ≡ true
-
-  origin : (d : ℕ) → d < length network.devices → All (Origin d) (journal_accesses journal d)
+  -- each word of the journal is of a flow to its device
+  pub origin : (d : ℕ) → d < length network.devices → All (Origin network d) (journal_accesses journal d)
   origin d inside =
       let ring = layout.into d in
+      let fs = flows_over layout.requests ring in
+      let hosts = All-filter (goes_over layout.requests ring) (λ f. Contains (map (λ h. h.id) network.hosts) f.host) layout.requests.flows laid.hosts in
       let carried = subst (All (λ a. is_carried network layout.requests ring a ≡ true)) (sym (now.recorded d inside)) (now.carried ring (laid.into_has d inside)) in
-      All-weaker (λ a. is_carried network layout.requests ring a ≡ true) (Origin d) (λ a e.
-      let some = some_flow network a (flows_over layout.requests ring) e in
-      record { flow = some.0; device = at_flow (λ g. g.device ≡ d) some.0 (flows_over layout.requests ring) (laid.into_flows d inside) some.1; of_flow = some.2 }) (journal_accesses journal d) carried
+      All-weaker (λ a. is_carried network layout.requests ring a ≡ true) (Origin network d) (λ a e.
+      let some = some_flow network a fs e in
+      record {
+        flow = some.0;
+        host = at_flow (λ f. Contains (map (λ h. h.id) network.hosts) f.host) some.0 fs hosts some.1;
+        device = at_flow (λ g. g.device ≡ d) some.0 fs (laid.into_flows d inside) some.1;
+        of_flow = some.2;
+      }) (journal_accesses journal d) carried
 
   -- the reply address of a word of the journal tells the host that asked
-  told : (d i : ℕ) (x : Access) → i < length (journal_accesses journal d) → (o : Origin d (get_or (journal_accesses journal d) i x)) → (get_or (journal_accesses journal d) i x).src / 2 ^ 40 ≡ o.flow.host
+  told : (d i : ℕ) (x : Access) → i < length (journal_accesses journal d) → (o : Origin network d (get_or (journal_accesses journal d) i x)) → (get_or (journal_accesses journal d) i x).src / 2 ^ 40 ≡ o.flow.host
   told d i x inside o =
       let part = subst (λ (e : ℕ). All (λ a. a.src / 2 ^ 40 ≡ o.flow.host) (words_of network o.flow (journal_accesses journal e))) o.device
       (All-begins (λ (a : Access). a.src / 2 ^ 40 ≡ o.flow.host) (history o.flow) (asked_told network laid.scripts o.flow)) in

@@ -21,3 +21,4 @@ pub mod ExampleRun
 pub mod ExampleHalfway
 pub mod ExampleStandstill
 pub mod ExampleMoves
+pub mod Entries

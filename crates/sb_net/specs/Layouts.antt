@@ -1,5 +1,5 @@
 -- How a network is laid out: which rings its flows take, there and back. Each accepted network has such a layout.
-use Rattle.std.specs.Prelude.{◌≡◌, ◌≢◌, ◌≤◌, ◌<◌, ℕ, true, false, [], length, All, AllPairs}
+use Rattle.std.specs.Prelude.{◌≡◌, ◌≢◌, ◌≤◌, ◌<◌, ℕ, true, false, [], length, map, All, AllPairs, Contains}
 use Rattle.sb_packet.specs.Networks.{Network}
 use Rattle.sb_packet.specs.Scripts.{IsTransaction}
 use Rattle.sb_packet.specs.Plans.{NetFlow}
@@ -25,8 +25,9 @@ pub record HasScripts (network : Network) : Type 0 where
 -- Each flow has a way to its device and one back, and may bring as many words as its script has for it.
 pub record IsLayout (network : Network) (layout : Layout) : Type 0 where
   pub scripts : HasScripts network
-  -- the flows are at devices; no host asks a device for anything where there is no flow
+  -- the flows are of hosts and at devices; no host asks a device for anything where there is no flow
   pub same_flows : layout.answers.flows ≡ layout.requests.flows
+  pub hosts : All (λ f. Contains (map (λ h. h.id) network.hosts) f.host) layout.requests.flows
   pub devices : All (λ f. f.device < length network.devices) layout.requests.flows
   pub all_flows : (f : NetFlow) → is_among f layout.requests.flows ≡ false → asked_of network f ≡ []
   -- what a flow may bring, there and back

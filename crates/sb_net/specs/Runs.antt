@@ -1,7 +1,8 @@
 -- A moment of a run of a whole network: what all rings, hosts, routers and devices promise.
-use Rattle.std.specs.Prelude.{◌≡◌, ◌≤◌, ◌<◌, ℕ, true, List, length, All}
-use Rattle.sb_packet.specs.Networks.{Network}
-use Rattle.sb_packet.specs.Journals.{journal_accesses}
+use Rattle.std.specs.Prelude.{◌≡◌, ◌≤◌, ◌<◌, ℕ, true, List, length, All, IsTrue}
+use Rattle.sb_packet.specs.Spans.{span_of}
+use Rattle.sb_packet.specs.Networks.{Network, width_to}
+use Rattle.sb_packet.specs.Journals.{journal_accesses, is_in_round_order}
 use Rattle.sb_packet.specs.Plans.{NetFlow, has_close}
 use Rattle.sb_packet.specs.declared.entry.Entry.{Entry}
 use Rattle.sb_net.specs.Lists.{IsPrefix, IsSubsequence}
@@ -37,3 +38,9 @@ pub record IsMomentOf (network : Network) (layout : Layout) (journal : List Entr
   pub devices : All (IsDevice network layout journal m) layout.requests.flows
   pub routers : All (λ f. AlongWay (Forwards network layout.requests m f) (layout.requests.first f) (layout.requests.rest f)) layout.requests.flows
   pub routers_back : All (λ f. AlongWay (Forwards network layout.answers m f) (layout.answers.first f) (layout.answers.rest f)) layout.requests.flows
+
+-- The entries of the journal are of devices that there are, no wider than the links that lead there, and their rounds don't go back.
+pub record HasEntries (network : Network) (journal : List Entry) : Type 0 where
+  pub devices : All (λ e. e.device < length network.devices) journal
+  pub narrow : All (λ e. span_of e.packet.cmd ≤ width_to network e.device) journal
+  pub in_round_order : IsTrue (is_in_round_order journal)

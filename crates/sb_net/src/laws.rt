@@ -2,6 +2,7 @@
 
 ghost use Rattle.std.specs.Prelude.{◌≡◌, ◌≤◌, ◌<◌, ◌+◌, ◌⊎◌, ℕ, true, false, List, length, All};
 ghost use Rattle.sb_packet.specs.Accesses.{Access};
+ghost use Rattle.sb_packet.specs.Journals.{IsLawful, IsPlaced};
 ghost use Rattle.sb_packet.specs.Networks.{Network};
 ghost use Rattle.sb_packet.specs.Plans.{NetFlow};
 ghost use Rattle.sb_packet.specs.declared.entry.Entry.{Entry};
@@ -13,7 +14,7 @@ ghost use Rattle.sb_net.specs.Layouts.{IsLayout, Layout};
 ghost use Rattle.sb_net.specs.Moments.{Moment};
 ghost use Rattle.sb_net.specs.Moves.{AreMovingRounds, IsWithinBudget, RingUse, move_bound};
 ghost use Rattle.sb_net.specs.Promises.{KeepsOrder, KeepsPromises};
-ghost use Rattle.sb_net.specs.Runs.{IsMomentOf};
+ghost use Rattle.sb_net.specs.Runs.{HasEntries, IsMomentOf};
 ghost use Rattle.sb_net.specs.Stages.{Stages};
 ghost use Rattle.sb_net.specs.Standstills.{IsStandstill, RoundEnd};
 ghost use Rattle.sb_net.specs.Wholes.{AreAnswered, IsHistorySoFar, IsWholeRun};
@@ -59,6 +60,18 @@ pub fn run_is_whole()
         → IsLayout network layout → IsMomentOf network layout journal m
         → All (HasEnded layout.requests m) layout.requests.flows → All (HasEnded layout.answers m) layout.requests.flows
         → IsWholeRun network layout journal m }
+{}
+
+/// At any moment each entry of the journal is of a host, and at a device that all its words aim at; so where each ring
+/// has given its Close the journal is one legal history of the network's scripts.
+pub fn journal_is_lawful()
+    ensures placed { (network : Network) (layout : Layout) (journal : List Entry) (m : Moment)
+        → IsLayout network layout → IsMomentOf network layout journal m → HasEntries network journal
+        → All (IsPlaced network) journal }
+    ensures lawful { (network : Network) (layout : Layout) (journal : List Entry) (m : Moment)
+        → IsLayout network layout → IsMomentOf network layout journal m → HasEntries network journal
+        → All (HasEnded layout.requests m) layout.requests.flows → All (HasEnded layout.answers m) layout.requests.flows
+        → IsLawful network journal }
 {}
 
 /// So each host finds, for each word that it asked for, just the answer that the journal gives.
