@@ -1,5 +1,5 @@
--- Two moments of the example's run, its end and one halfway: all that the laws ask for holds of them.
-use Rattle.std.proofs.Common.{◌≡◌, lit≤, lit<, ℕ, zero, suc, true, refl, arith, List, [], ◌∷◌}
+-- The end of the example's run: all that the laws ask for holds of it.
+use Rattle.std.proofs.Common.{◌≡◌, ◌≤◌, ◌<◌, lit≤, lit<, ℕ, zero, suc, true, refl, arith, List, [], ◌∷◌}
 use Rattle.std.specs.Prelude.{All}
 use Rattle.std.proofs.lemmas.List.Elements.{All-nil, All-from_recursion}
 use Rattle.sb_packet.specs.Messages.{message_of}
@@ -17,7 +17,7 @@ use Rattle.sb_net.specs.Runs.{IsHost, IsDevice, IsMomentOf, HasEntries}
 use Rattle.sb_net.proofs.Entries.{lawful_journal}
 use Rattle.sb_net.proofs.Prefixes.{is_prefix, same_begins, same_subsequence}
 use Rattle.sb_net.proofs.ExampleNetwork.{small, steps, asking, answering, write, posted, read, written, read_back}
-use Rattle.sb_net.proofs.ExampleLayout.{the_flow, is_request_ring, is_answer_ring, small_layout, of_one}
+use Rattle.sb_net.proofs.ExampleLayout.{small_is_laid_out, the_flow, is_request_ring, is_answer_ring, small_layout, of_one}
 
 -- what went over each ring in the end
 abbrev pub all_items : ℕ → List Item
