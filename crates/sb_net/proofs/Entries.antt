@@ -1,21 +1,21 @@
 -- At any moment each entry of the journal is of a host, at a device that all its words aim at; so a whole run's journal is lawful.
-use Rattle.std.proofs.Common.{◌≡◌, ◌<◌, ℕ, true, List, length, refl, sym, ◌∙◌, subst, arith, ap}
-use Rattle.std.specs.Prelude.{◌==◌, filter, map, flat_map, All, Contains, IsTrue, get_or}
+use Rattle.std.proofs.Common.{◌≡◌, ◌<◌, ℕ, true, List, length, refl, sym, subst, arith}
+use Rattle.std.specs.Prelude.{◌==◌, filter, map, All, Contains, IsTrue, get_or}
 use Rattle.std.proofs.lemmas.Bool.Decides.{nat_tests}
 use Rattle.std.proofs.lemmas.List.Elements.{All-weaker}
 use Rattle.std.proofs.lemmas.List.FromFn.{get_or-map-range_with_len, length-map-range_with_len}
 use Rattle.sb_packet.specs.Accesses.{Access, access_at, accesses_of}
 use Rattle.sb_packet.specs.Messages.{message_of}
 use Rattle.sb_packet.specs.Networks.{Network}
-use Rattle.sb_packet.specs.Journals.{journal_accesses, is_at, IsPlaced, IsLawful}
+use Rattle.sb_packet.specs.Journals.{is_at, IsPlaced, IsLawful}
 use Rattle.sb_packet.specs.declared.entry.Entry.{Entry}
 use Rattle.sb_packet.specs.declared.packet.Packet.{Packet}
 use Rattle.sb_packet.proofs.Lists.{All-pieces, All-kept}
 use Rattle.sb_packet.proofs.Opcodes.{some_words}
-use Rattle.sb_net.specs.Arrivals.{HasEnded}
 use Rattle.sb_net.specs.Layouts.{Layout, IsLayout}
 use Rattle.sb_net.specs.Moments.{Moment}
 use Rattle.sb_net.specs.Runs.{IsMomentOf, HasEntries}
+use Rattle.sb_net.specs.Wholes.{HasAllEnded}
 use Rattle.sb_net.proofs.FlowMembers.{of_host, of_device}
 use Rattle.sb_net.proofs.Journals.{Origin, origin}
 use Rattle.sb_net.proofs.WholeRuns.{whole_run_law}
@@ -55,9 +55,9 @@ module _ (network : Network) (layout : Layout) (journal : List Entry) (m : Momen
       }
 
   -- where all rings have given their Close, the journal is one legal history
-  pub lawful_journal : All (HasEnded layout.requests m) layout.requests.flows → All (HasEnded layout.answers m) layout.requests.flows → IsLawful network journal
-  lawful_journal ended ended_back = record {
-    in_script_order = (whole_run_law network layout journal m laid now ended ended_back).history;
+  pub lawful_journal : HasAllEnded layout m → IsLawful network journal
+  lawful_journal ended = record {
+    in_script_order = (whole_run_law network layout journal m laid now ended.there ended.back).history;
     at_target = placed_entries;
     in_round_order = entries.in_round_order;
   }

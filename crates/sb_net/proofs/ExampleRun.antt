@@ -1,6 +1,5 @@
 -- The end of the example's run: all that the laws ask for holds of it.
 use Rattle.std.proofs.Common.{◌≡◌, ◌≤◌, ◌<◌, lit≤, lit<, ℕ, zero, suc, true, refl, arith, List, [], ◌∷◌}
-use Rattle.std.specs.Prelude.{All}
 use Rattle.std.proofs.lemmas.List.Elements.{All-nil, All-from_recursion}
 use Rattle.sb_packet.specs.Messages.{message_of}
 use Rattle.sb_packet.specs.Soundness.{IsSound}
@@ -14,6 +13,7 @@ use Rattle.sb_net.specs.Courses.{CarriesItsFlows, is_carried, AlongWay}
 use Rattle.sb_net.specs.Promises.{Forwards}
 use Rattle.sb_net.specs.Arrivals.{HasEnded}
 use Rattle.sb_net.specs.Runs.{IsHost, IsDevice, IsMomentOf, HasEntries}
+use Rattle.sb_net.specs.Wholes.{HasAllEnded}
 use Rattle.sb_net.proofs.Entries.{lawful_journal}
 use Rattle.sb_net.proofs.Prefixes.{is_prefix, same_begins, same_subsequence}
 use Rattle.sb_net.proofs.ExampleNetwork.{small, steps, asking, answering, write, posted, read, written, read_back}
@@ -97,11 +97,11 @@ end_of_small = record {
 }
 
 -- And each ring has given its Close.
-pub small_has_ended : All (HasEnded small_layout.requests the_end) small_layout.requests.flows
-small_has_ended = of_one (HasEnded small_layout.requests the_end) the_flow (All-from_recursion (λ r. has_close (all_items r) ≡ true) (0 ∷ 2 ∷ []) (refl, (refl, tt)))
-
-pub small_has_ended_back : All (HasEnded small_layout.answers the_end) small_layout.requests.flows
-small_has_ended_back = of_one (HasEnded small_layout.answers the_end) the_flow (All-from_recursion (λ r. has_close (all_items r) ≡ true) (3 ∷ 1 ∷ []) (refl, (refl, tt)))
+pub small_has_ended : HasAllEnded small_layout the_end
+small_has_ended = record {
+  there = of_one (HasEnded small_layout.requests the_end) the_flow (All-from_recursion (λ r. has_close (all_items r) ≡ true) (0 ∷ 2 ∷ []) (refl, (refl, tt)));
+  back = of_one (HasEnded small_layout.answers the_end) the_flow (All-from_recursion (λ r. has_close (all_items r) ≡ true) (3 ∷ 1 ∷ []) (refl, (refl, tt)));
+}
 
 -- The entries are at their device, and the journal is one legal history.
 pub steps_of_small : HasEntries small steps
@@ -112,4 +112,4 @@ steps_of_small = record {
 }
 
 pub steps_are_lawful : IsLawful small steps
-steps_are_lawful = lawful_journal small small_layout steps the_end small_is_laid_out end_of_small steps_of_small small_has_ended small_has_ended_back
+steps_are_lawful = lawful_journal small small_layout steps the_end small_is_laid_out end_of_small steps_of_small small_has_ended

@@ -1,14 +1,14 @@
 -- Rounds without a move: after the example's run, and on one side of a wire whose other side closed without an answer.
 use Rattle.std.proofs.Common.{◌≡◌, ◌≤◌, ◌<◌, lit≤, lit<, ℕ, zero, suc, ◌+◌, true, false, inl, refl, arith, List, [], ◌∷◌}
-use Rattle.std.specs.Prelude.{◌==◌, All, None}
+use Rattle.std.specs.Prelude.{◌==◌, None}
 use Rattle.std.proofs.lemmas.List.Elements.{All-from_recursion}
 use Rattle.sb_packet.specs.Plans.{has_close, item_accesses}
 use Rattle.sb_packet.specs.declared.item.Item.{Item}
 use Rattle.sb_packet.specs.declared.item.Item.TheVariants as items
 use Rattle.sb_net.specs.Stages.{Stages}
 use Rattle.sb_net.specs.Standstills.{RoundEnd, IsStandstill}
-use Rattle.sb_net.specs.Endings.{HasMet, IsFinished, IsWaiting, IsWithin}
-use Rattle.sb_net.proofs.ExampleNetwork.{read}
+use Rattle.sb_net.specs.Endings.{HasMet, IsFinished, IsWaiting, IsWithin, IsWholeStandstill}
+use Rattle.sb_net.proofs.ExampleNetwork.{small, steps, read}
 use Rattle.sb_net.proofs.ExampleLayout.{the_flow, small_layout, of_one}
 use Rattle.sb_net.proofs.ExampleRun.{all_items, the_end, end_of_small}
 
@@ -60,12 +60,18 @@ last_round_is_a_standstill = record {
   receivers = λ r here o. record { held = λ p e. absurd (cc); none_held = λ e. refl; drained = λ e. inl refl };
 }
 
--- the flow's ways are made of these rings
-pub small_is_within : All (IsWithin small_stages small_layout) small_layout.requests.flows
-small_is_within = of_one (IsWithin small_stages small_layout) the_flow (record {
-  there = All-from_recursion (λ r. r < 4) (0 ∷ 2 ∷ []) (lit< tt, (lit< tt, tt));
-  back = All-from_recursion (λ r. r < 4) (3 ∷ 1 ∷ []) (lit< tt, (lit< tt, tt));
-})
+-- So it is for the whole network: there is no wire, and no host waits.
+pub small_stands_still : IsWholeStandstill small small_layout steps small_stages last_round
+small_stands_still = record {
+  still = last_round_is_a_standstill;
+  moment = end_of_small;
+  inside = λ r here. (refl, refl);
+  within = of_one (IsWithin small_stages small_layout) the_flow (record {
+    there = All-from_recursion (λ r. r < 4) (0 ∷ 2 ∷ []) (lit< tt, (lit< tt, tt));
+    back = All-from_recursion (λ r. r < 4) (3 ∷ 1 ∷ []) (lit< tt, (lit< tt, tt));
+  });
+  windows = λ r here waits. absurd (cc);
+}
 
 -- A host at a wire, by which its requests go out over ring 0 and answers come in by ring 1.
 abbrev pub side_stages : Stages

@@ -1,16 +1,18 @@
 -- What follows of a standstill.
-use Rattle.std.specs.Prelude.{◌≡◌, ◌≤◌, ◌<◌, ℕ, true, false, None, All, Contains}
+use Rattle.std.specs.Prelude.{◌≡◌, ◌≤◌, ◌<◌, ℕ, true, false, List, None, All, Contains}
 use Rattle.std.specs.List.{find}
 use Rattle.sb_packet.specs.Accesses.{Access}
 use Rattle.sb_packet.specs.Networks.{Network}
 use Rattle.sb_packet.specs.Plans.{NetFlow, item_accesses}
+use Rattle.sb_packet.specs.declared.entry.Entry.{Entry}
 use Rattle.sb_net.specs.Flows.{words_of, is_among, is_answered}
 use Rattle.sb_net.specs.Moments.{Moment, arrived}
 use Rattle.sb_net.specs.Courses.{way_of}
 use Rattle.sb_net.specs.Layouts.{Layout, ring_home}
+use Rattle.sb_net.specs.Runs.{IsMomentOf}
 use Rattle.sb_net.specs.Wholes.{is_answer_to}
 use Rattle.sb_net.specs.Stages.{Stages}
-use Rattle.sb_net.specs.Standstills.{RoundEnd, is_closed, has_ended}
+use Rattle.sb_net.specs.Standstills.{RoundEnd, is_closed, has_ended, IsStandstill}
 
 -- The numbers of a ring whose ends have met, and over which nothing went since: what was sent and received, and what the sender knows of
 -- the other end and the receiver of this one.
@@ -57,3 +59,13 @@ pub record MissesAnswer (network : Network) (layout : Layout) (m : Moment) (r : 
   pub offered : Contains (words_of network flow (m.offered r)) word
   pub answered : is_answered word.op ≡ true
   pub missing : find (is_answer_to word) (arrived m (ring_home layout flow)) ≡ None
+
+-- A whole network after a round in which no node moved.
+pub record IsWholeStandstill (network : Network) (layout : Layout) (journal : List Entry) (stages : Stages) (s : RoundEnd) : Type 0 where
+  pub still : IsStandstill stages s
+  pub moment : IsMomentOf network layout journal s.at
+  -- each ring has both ends here, and all ways are made of such rings
+  pub inside : (r : ℕ) → r < stages.rings → (stages.comes_in r ≡ false) × (stages.goes_out r ≡ false)
+  pub within : All (IsWithin stages layout) layout.requests.flows
+  -- a host waits only while it misses an answer
+  pub windows : (r : ℕ) → r < stages.rings → s.waits r ≡ true → MissesAnswer network layout s.at r

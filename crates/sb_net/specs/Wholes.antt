@@ -14,8 +14,13 @@ use Rattle.sb_net.specs.Lists.{IsPrefix}
 use Rattle.sb_net.specs.Flows.{asked_of, replies_to}
 use Rattle.sb_net.specs.Moments.{Moment, arrived}
 use Rattle.sb_net.specs.Courses.{CarriesItsFlows}
-use Rattle.sb_net.specs.Arrivals.{CarriesSources}
+use Rattle.sb_net.specs.Arrivals.{CarriesSources, HasEnded}
 use Rattle.sb_net.specs.Layouts.{Layout, ring_home}
+
+-- Each ring of all ways, there and back, has given its Close.
+pub record HasAllEnded (layout : Layout) (m : Moment) : Type 0 where
+  pub there : All (HasEnded layout.requests m) layout.requests.flows
+  pub back : All (HasEnded layout.answers m) layout.requests.flows
 
 -- Each device has taken a first part of what each host asks of it, in order.
 abbrev pub IsHistorySoFar : Network → List Entry → Type 0

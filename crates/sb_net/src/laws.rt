@@ -8,7 +8,7 @@ ghost use Rattle.sb_packet.specs.Plans.{NetFlow};
 ghost use Rattle.sb_packet.specs.declared.entry.Entry.{Entry};
 ghost use Rattle.sb_net.specs.Arrivals.{BeginsSources, CarriesSources, HasEnded, PicksSources};
 ghost use Rattle.sb_net.specs.Courses.{Course};
-ghost use Rattle.sb_net.specs.Endings.{HasMet, IsFinished, IsQuietReceiver, IsQuietSender, IsWaiting, IsWithin, MissesAnswer};
+ghost use Rattle.sb_net.specs.Endings.{HasMet, IsFinished, IsQuietReceiver, IsQuietSender, IsWaiting, IsWholeStandstill};
 ghost use Rattle.sb_net.specs.Flows.{asked_of, given_to};
 ghost use Rattle.sb_net.specs.Layouts.{IsLayout, Layout};
 ghost use Rattle.sb_net.specs.Moments.{Moment};
@@ -17,19 +17,21 @@ ghost use Rattle.sb_net.specs.Promises.{KeepsOrder, KeepsPromises};
 ghost use Rattle.sb_net.specs.Runs.{HasEntries, IsMomentOf};
 ghost use Rattle.sb_net.specs.Stages.{Stages};
 ghost use Rattle.sb_net.specs.Standstills.{IsStandstill, RoundEnd};
-ghost use Rattle.sb_net.specs.Wholes.{AreAnswered, IsHistorySoFar, IsWholeRun};
+ghost use Rattle.sb_net.specs.Wholes.{AreAnswered, HasAllEnded, IsHistorySoFar, IsWholeRun};
 
 /// At any moment at which the ends of each ring have met, a first part of each flow's source has come by each ring of
 /// its way, whatever the other flows of the ring do.
 pub fn prefix_along_ways()
     ensures begins { (network : Network) (c : Course) (m : Moment) (source : NetFlow → List Access)
-        → KeepsPromises network c m source → (r : ℕ) → BeginsSources network c m source r }
+        → KeepsPromises network c m source
+        → (r : ℕ) → BeginsSources network c m source r }
 {}
 
 /// Whatever is dropped, what has come by a ring of each of its flows is the flow's source, in order, with some left out.
 pub fn subsequence_along_ways()
     ensures picks { (network : Network) (c : Course) (m : Moment) (source : NetFlow → List Access)
-        → KeepsOrder network c m source → (r : ℕ) → PicksSources network c m source r }
+        → KeepsOrder network c m source
+        → (r : ℕ) → PicksSources network c m source r }
 {}
 
 /// Where each ring has given its Close, each has carried all of each of its flows.
@@ -44,7 +46,8 @@ pub fn whole_along_ways()
 /// its device answers by each ring of its way back.
 pub fn history_so_far()
     ensures history { (network : Network) (layout : Layout) (journal : List Entry) (m : Moment)
-        → IsLayout network layout → IsMomentOf network layout journal m → IsHistorySoFar network journal }
+        → IsLayout network layout → IsMomentOf network layout journal m
+        → IsHistorySoFar network journal }
     ensures requests { (network : Network) (layout : Layout) (journal : List Entry) (m : Moment)
         → IsLayout network layout → IsMomentOf network layout journal m
         → (r : ℕ) → BeginsSources network layout.requests m (asked_of network) r }
@@ -57,8 +60,7 @@ pub fn history_so_far()
 /// each ring carried just its flows: all their words, or all the answers that the journal gives.
 pub fn run_is_whole()
     ensures whole { (network : Network) (layout : Layout) (journal : List Entry) (m : Moment)
-        → IsLayout network layout → IsMomentOf network layout journal m
-        → All (HasEnded layout.requests m) layout.requests.flows → All (HasEnded layout.answers m) layout.requests.flows
+        → IsLayout network layout → IsMomentOf network layout journal m → HasAllEnded layout m
         → IsWholeRun network layout journal m }
 {}
 
@@ -70,15 +72,13 @@ pub fn journal_is_lawful()
         → All (IsPlaced network) journal }
     ensures lawful { (network : Network) (layout : Layout) (journal : List Entry) (m : Moment)
         → IsLayout network layout → IsMomentOf network layout journal m → HasEntries network journal
-        → All (HasEnded layout.requests m) layout.requests.flows → All (HasEnded layout.answers m) layout.requests.flows
-        → IsLawful network journal }
+        → HasAllEnded layout m → IsLawful network journal }
 {}
 
 /// So each host finds, for each word that it asked for, just the answer that the journal gives.
 pub fn answers_are_the_journals()
     ensures found { (network : Network) (layout : Layout) (journal : List Entry) (m : Moment)
-        → IsLayout network layout → IsMomentOf network layout journal m
-        → All (HasEnded layout.requests m) layout.requests.flows → All (HasEnded layout.answers m) layout.requests.flows
+        → IsLayout network layout → IsMomentOf network layout journal m → HasAllEnded layout m
         → All (AreAnswered network layout journal m) layout.requests.flows }
 {}
 
@@ -86,18 +86,22 @@ pub fn answers_are_the_journals()
 /// received, and where its receiver finds it empty all was.
 pub fn learnt_counts_are_true()
     ensures full { (capacity sent received taken known : ℕ)
-        → HasMet capacity sent received taken known → sent ≡ taken + capacity → received < sent }
+        → HasMet capacity sent received taken known → sent ≡ taken + capacity
+        → received < sent }
     ensures empty { (capacity sent received taken known : ℕ)
-        → HasMet capacity sent received taken known → received ≡ known → sent ≤ received }
+        → HasMet capacity sent received taken known → received ≡ known
+        → sent ≤ received }
 {}
 
 /// After a round in which no node moved nothing is kept in front of a ring or behind it, and all that was sent over it
 /// was received.
 pub fn standstill_is_quiet()
     ensures senders { (stages : Stages) (s : RoundEnd)
-        → IsStandstill stages s → (r : ℕ) → r < stages.rings → stages.comes_in r ≡ false → IsQuietSender s r }
+        → IsStandstill stages s
+        → (r : ℕ) → r < stages.rings → stages.comes_in r ≡ false → IsQuietSender s r }
     ensures receivers { (stages : Stages) (s : RoundEnd)
-        → IsStandstill stages s → (r : ℕ) → r < stages.rings → stages.goes_out r ≡ false → IsQuietReceiver stages s r }
+        → IsStandstill stages s
+        → (r : ℕ) → r < stages.rings → stages.goes_out r ≡ false → IsQuietReceiver stages s r }
 {}
 
 /// After such a round each ring is done, or a host waits for a slot of its window. So where none waits each is done.
@@ -114,16 +118,13 @@ pub fn standstill_is_the_end()
 /// done, and the run is whole.
 pub fn standstill_is_a_whole_run()
     ensures finished { (network : Network) (layout : Layout) (journal : List Entry) (stages : Stages) (s : RoundEnd)
-        → IsLayout network layout → IsStandstill stages s → IsMomentOf network layout journal s.at
-        → ((r : ℕ) → r < stages.rings → (stages.comes_in r ≡ false) × (stages.goes_out r ≡ false))
-        → All (IsWithin stages layout) layout.requests.flows
-        → ((r : ℕ) → r < stages.rings → s.waits r ≡ true → MissesAnswer network layout s.at r)
+        → IsLayout network layout → IsWholeStandstill network layout journal stages s
         → (r : ℕ) → r < stages.rings → IsFinished stages s r }
+    ensures ended { (network : Network) (layout : Layout) (journal : List Entry) (stages : Stages) (s : RoundEnd)
+        → IsLayout network layout → IsWholeStandstill network layout journal stages s
+        → HasAllEnded layout s.at }
     ensures whole { (network : Network) (layout : Layout) (journal : List Entry) (stages : Stages) (s : RoundEnd)
-        → IsLayout network layout → IsStandstill stages s → IsMomentOf network layout journal s.at
-        → ((r : ℕ) → r < stages.rings → (stages.comes_in r ≡ false) × (stages.goes_out r ≡ false))
-        → All (IsWithin stages layout) layout.requests.flows
-        → ((r : ℕ) → r < stages.rings → s.waits r ≡ true → MissesAnswer network layout s.at r)
+        → IsLayout network layout → IsWholeStandstill network layout journal stages s
         → IsWholeRun network layout journal s.at }
 {}
 
@@ -131,7 +132,8 @@ pub fn standstill_is_a_whole_run()
 /// a ring, and 4 more, at each of its ends.
 pub fn moving_rounds_are_few()
     ensures few { (rings : List ℕ) (budget : ℕ → ℕ) (first : ℕ → RingUse) (later : List (ℕ → RingUse))
-        → All (λ r. IsWithinBudget (budget r) (first r)) rings → AreMovingRounds rings first later
+        → All (λ r. IsWithinBudget (budget r) (first r)) rings
         → All (λ used. All (λ r. IsWithinBudget (budget r) (used r)) rings) later
+        → AreMovingRounds rings first later
         → length later ≤ move_bound rings budget }
 {}

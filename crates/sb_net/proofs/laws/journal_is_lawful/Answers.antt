@@ -6,4 +6,4 @@ pub returns-clause-placed : goal.returns-clause-placed
 returns-clause-placed c = λ network layout journal m laid now entries. placed_entries network layout journal m laid now entries
 
 pub returns-clause-lawful : goal.returns-clause-lawful
-returns-clause-lawful c = λ network layout journal m laid now entries ended ended_back. lawful_journal network layout journal m laid now entries ended ended_back
+returns-clause-lawful c = λ network layout journal m laid now entries ended. lawful_journal network layout journal m laid now entries ended

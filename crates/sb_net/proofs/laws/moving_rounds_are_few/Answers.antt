@@ -3,4 +3,4 @@ use Rattle.sb_net.proofs.Bounds.{bound_law}
 use Rattle.sb_net.proofs.laws.moving_rounds_are_few.Goals as goal
 
 pub returns : goal.returns
-returns c = record { few = λ rings budget first later within moves all. bound_law rings budget first later within moves all }
+returns c = record { few = λ rings budget first later within all moves. bound_law rings budget first later within moves all }

@@ -3,4 +3,4 @@ use Rattle.sb_net.proofs.WholeRuns.{whole_run_law}
 use Rattle.sb_net.proofs.laws.run_is_whole.Goals as goal
 
 pub returns : goal.returns
-returns c = record { whole = λ network layout journal m laid now ended ended_back. whole_run_law network layout journal m laid now ended ended_back }
+returns c = record { whole = λ network layout journal m laid now ended. whole_run_law network layout journal m laid now ended.there ended.back }
