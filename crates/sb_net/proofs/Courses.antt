@@ -1,5 +1,5 @@
 -- Composition along ways: what holds of each step of a way holds of all of it.
-use Rattle.std.proofs.Common.{◌≡◌, ◌≤◌, ℕ, true, List, [], ◌∷◌, ◌++◌, length, refl, sym, ap, ◌∙◌, arith}
+use Rattle.std.proofs.Common.{◌≡◌, ◌≤◌, ℕ, true, false, List, [], ◌∷◌, ◌++◌, length, refl, sym, ap, ◌∙◌, arith}
 use Rattle.std.specs.Prelude.{All, get_or}
 use Rattle.std.proofs.lemmas.List.{append-nil}
 use Rattle.std.proofs.lemmas.List.Elements.{All-nil, All-cons, All-head, All-tail, All-weaker}
@@ -8,16 +8,17 @@ use Rattle.sb_packet.specs.Accesses.{Access, accesses_of_item}
 use Rattle.sb_packet.specs.Messages.{Message, message_of}
 use Rattle.sb_packet.specs.Networks.{Network}
 use Rattle.sb_packet.specs.Soundness.{IsSound}
-use Rattle.sb_packet.specs.Plans.{NetFlow, has_close, item_accesses, item_messages}
+use Rattle.sb_packet.specs.Plans.{NetFlow}
+use Rattle.sb_packet.specs.Traffic.{has_close, item_accesses, item_messages}
 use Rattle.sb_packet.specs.declared.item.Item.{Item}
 use Rattle.sb_packet.specs.declared.item.Item.TheVariants as items
-use Rattle.sb_net.specs.Lists.{IsPrefix, IsSubsequence}
+use Rattle.sb_packet.specs.Prefixes.{IsPrefix, IsSubsequence}
 use Rattle.sb_net.specs.Flows.{is_of, words_of}
 use Rattle.sb_net.specs.Moments.{Moment, arrived, AreSound, ClosesLast}
-use Rattle.sb_net.specs.Courses.{Course, way_of, flows_over, budget_over, came_for, AlongWay}
+use Rattle.sb_net.specs.Courses.{Course, way_of, budget_over, came_for, AlongWay}
 use Rattle.sb_net.specs.Promises.{IsLink, IsPort, Forwards, Offers, KeepsPromises, KeepsOrder}
 use Rattle.sb_net.specs.Arrivals.{BeginsSources, PicksSources, CarriesSources, HasEnded}
-use Rattle.sb_net.proofs.Prefixes.{Begins, begins, is_prefix, front_begins, begins_then, begins-filter, length-begins, All-begins, subsequence_then, length-subsequence, begins_subsequence}
+use Rattle.sb_net.proofs.Prefixes.{front_prefix, prefix_then, IsPrefix-filter, length-prefix, All-prefix, subsequence_then, length-subsequence, prefix_subsequence}
 use Rattle.sb_net.proofs.Budgets.{IsModest, came_within}
 use Rattle.sb_net.proofs.Ways.{at_number, All-at_ring}
 
@@ -26,67 +27,62 @@ item_messages-append [] ys = refl
 item_messages-append (items.Packet p ∷ xs) ys = ap (λ (l : List Message). message_of p ∷ l) (item_messages-append xs ys)
 item_messages-append (items.Close ∷ xs) ys = item_messages-append xs ys
 
-pub begins-item_accesses : {xs ys : List Item} → Begins xs ys → Begins (item_accesses xs) (item_accesses ys)
-begins-item_accesses {xs} {ys} p = record { rest = item_accesses p.rest; joined = sym (flat_map-append accesses_of_item xs p.rest) ∙ ap item_accesses p.joined }
+pub IsPrefix-item_accesses : {xs ys : List Item} → IsPrefix xs ys → IsPrefix (item_accesses xs) (item_accesses ys)
+IsPrefix-item_accesses {xs} {ys} p = record { rest = item_accesses p.rest; joined = sym (flat_map-append accesses_of_item xs p.rest) ∙ ap item_accesses p.joined }
 
-begins-item_messages : {xs ys : List Item} → Begins xs ys → Begins (item_messages xs) (item_messages ys)
-begins-item_messages {xs} {ys} p = record { rest = item_messages p.rest; joined = sym (item_messages-append xs p.rest) ∙ ap item_messages p.joined }
+IsPrefix-item_messages : {xs ys : List Item} → IsPrefix xs ys → IsPrefix (item_messages xs) (item_messages ys)
+IsPrefix-item_messages {xs} {ys} p = record { rest = item_messages p.rest; joined = sym (item_messages-append xs p.rest) ∙ ap item_messages p.joined }
 
 -- what has had the Close has had all
 after_close : (xs rest : List Item) → has_close xs ≡ true → ClosesLast (xs ++ rest) → rest ≡ []
-after_close [] rest h last = absurd (cc)
-after_close (items.Packet p ∷ xs) rest h last = after_close xs rest h last
-after_close (items.Close ∷ xs) rest h last = none_after xs rest last
-  where
-    none_after : (ys zs : List Item) → ys ++ zs ≡ [] → zs ≡ []
-    none_after [] zs e = e
-    none_after (y ∷ ys) zs e = absurd (cc)
+after_close xs [] h last = refl
+after_close xs (item ∷ rest) h last = absurd (let open_still : has_close xs ≡ false = last xs rest item refl in cc)
 
 pub closed_link : (m : Moment) (r : ℕ) → IsLink m r → has_close (m.received r) ≡ true → m.received r ≡ m.sent r
 closed_link m r link h =
-    let front = begins (m.received r) (m.sent r) link.in_order in
+    let front = link.in_order in
     let none : front.rest ≡ [] = after_close (m.received r) front.rest h (rw front.joined link.closes_last) in
     sym (append-nil (m.received r)) ∙ ap (λ (l : List Item). m.received r ++ l) (sym none) ∙ front.joined
 
 module _ (network : Network) (c : Course) (m : Moment) (links : (r : ℕ) → IsLink m r) (ports : (r : ℕ) → IsPort m r) where
   -- what came of a flow by a ring begins what the port in front of it was offered of the flow
-  pub ring_begins : (f : NetFlow) (r : ℕ) → Begins (words_of network f (arrived m r)) (words_of network f (m.offered r))
-  ring_begins f r = begins-filter (is_of network f)
-      (begins_then (begins-item_accesses (begins (m.received r) (m.sent r) (links r).in_order)) (begins (item_accesses (m.sent r)) (m.offered r) (ports r).in_order))
+  pub ring_prefix : (f : NetFlow) (r : ℕ) → IsPrefix (words_of network f (arrived m r)) (words_of network f (m.offered r))
+  ring_prefix f r = IsPrefix-filter (is_of network f)
+      (prefix_then (IsPrefix-item_accesses (links r).in_order) (ports r).in_order)
 
   -- no more of a flow comes by any ring than its first port was offered
   pub counts_along : (f : NetFlow) (most k : ℕ) (js : List ℕ) → AlongWay (Forwards network c m f) k js → length (words_of network f (m.offered k)) ≤ most →
       All (λ r. length (words_of network f (arrived m r)) ≤ most) (k ∷ js)
   counts_along f most k [] ways h =
-      let few = length-begins (ring_begins f k) in
+      let few = length-prefix (ring_prefix f k) in
       All-cons (λ r. length (words_of network f (arrived m r)) ≤ most) k [] (omega arith) (All-nil (λ r. length (words_of network f (arrived m r)) ≤ most))
   counts_along f most k (j ∷ js) ways h =
-      let few = length-begins (ring_begins f k) in
+      let few = length-prefix (ring_prefix f k) in
       let next = length-subsequence ways.0.in_order in
       All-cons (λ r. length (words_of network f (arrived m r)) ≤ most) k (j ∷ js) (omega arith) (counts_along f most j js ways.1 (omega arith))
 
   -- all that came is sound
   pub all_sound : (r : ℕ) → AreSound (m.received r)
-  all_sound r = All-begins IsSound (begins-item_messages (begins (m.received r) (m.sent r) (links r).in_order)) (ports r).sound
+  all_sound r = All-prefix IsSound (IsPrefix-item_messages (links r).in_order) (ports r).sound
 
   -- whatever is dropped, what comes is what there was, with some left out
   pub subsequences_along : (f : NetFlow) (source : List Access) (k : ℕ) (js : List ℕ) → AlongWay (Forwards network c m f) k js → IsSubsequence (words_of network f (m.offered k)) source →
       All (λ r. IsSubsequence (words_of network f (arrived m r)) source) (k ∷ js)
   subsequences_along f source k [] ways h =
-      All-cons (λ r. IsSubsequence (words_of network f (arrived m r)) source) k [] (subsequence_then (begins_subsequence (ring_begins f k)) h) (All-nil (λ r. IsSubsequence (words_of network f (arrived m r)) source))
+      All-cons (λ r. IsSubsequence (words_of network f (arrived m r)) source) k [] (subsequence_then (prefix_subsequence (ring_prefix f k)) h) (All-nil (λ r. IsSubsequence (words_of network f (arrived m r)) source))
   subsequences_along f source k (j ∷ js) ways h =
-      let here = subsequence_then (begins_subsequence (ring_begins f k)) h in
+      let here = subsequence_then (prefix_subsequence (ring_prefix f k)) h in
       All-cons (λ r. IsSubsequence (words_of network f (arrived m r)) source) k (j ∷ js) here (subsequences_along f source j js ways.1 (subsequence_then ways.0.in_order here))
 
   -- where nothing is dropped, what comes begins what there was
   pub prefixes_along : (f : NetFlow) (source : List Access) → ((r : ℕ) → came_for network c m r ≤ budget_over c r) → (k : ℕ) (js : List ℕ) → AlongWay (Forwards network c m f) k js →
-      Begins (words_of network f (m.offered k)) source → All (λ r. Begins (words_of network f (arrived m r)) source) (k ∷ js)
+      IsPrefix (words_of network f (m.offered k)) source → All (λ r. IsPrefix (words_of network f (arrived m r)) source) (k ∷ js)
   prefixes_along f source room k [] ways h =
-      All-cons (λ r. Begins (words_of network f (arrived m r)) source) k [] (begins_then (ring_begins f k) h) (All-nil (λ r. Begins (words_of network f (arrived m r)) source))
+      All-cons (λ r. IsPrefix (words_of network f (arrived m r)) source) k [] (prefix_then (ring_prefix f k) h) (All-nil (λ r. IsPrefix (words_of network f (arrived m r)) source))
   prefixes_along f source room k (j ∷ js) ways h =
-      let here = begins_then (ring_begins f k) h in
-      let next = front_begins (words_of network f (m.held k)) (ways.0.whole (λ i d below. all_sound (get_or (c.ins j) i d)) (room j)) in
-      All-cons (λ r. Begins (words_of network f (arrived m r)) source) k (j ∷ js) here (prefixes_along f source room j js ways.1 (begins_then next here))
+      let here = prefix_then (ring_prefix f k) h in
+      let next = front_prefix (words_of network f (m.held k)) (ways.0.whole (λ i d below. all_sound (get_or (c.ins j) i d)) (room j)) in
+      All-cons (λ r. IsPrefix (words_of network f (arrived m r)) source) k (j ∷ js) here (prefixes_along f source room j js ways.1 (prefix_then next here))
 
   -- a Close that came was sent
   pub closed_sender : (r : ℕ) → has_close (m.received r) ≡ true → has_close (m.sent r) ≡ true
@@ -127,23 +123,22 @@ module _ (network : Network) (c : Course) (m : Moment) (source : NetFlow → Lis
       (keeps.routers i d below) (keeps.sources i d below))
 
   module _ (keeps : KeepsPromises network c m source) where
-    starts : All (λ f. Begins (words_of network f (m.offered (c.first f))) (source f)) c.flows
-    starts = All-weaker (Offers network c m source) (λ f. Begins (words_of network f (m.offered (c.first f))) (source f))
-        (λ f h. begins (words_of network f (m.offered (c.first f))) (source f) h.in_order) c.flows keeps.sources
+    starts : All (λ f. IsPrefix (words_of network f (m.offered (c.first f))) (source f)) c.flows
+    starts = All-weaker (Offers network c m source) (λ f. IsPrefix (words_of network f (m.offered (c.first f))) (source f))
+        (λ f h. h.in_order) c.flows keeps.sources
 
     -- nothing is dropped for want of budget
     pub room : (r : ℕ) → came_for network c m r ≤ budget_over c r
     room r = came_within network c m r (keeps.one_way r) keeps.carried (modest network c m keeps.links keeps.ports source keeps.allowed
-        (All-weaker (λ f. Begins (words_of network f (m.offered (c.first f))) (source f)) (λ f. IsSubsequence (words_of network f (m.offered (c.first f))) (source f)) (λ f h. begins_subsequence h) c.flows starts) keeps.routers)
+        (All-weaker (λ f. IsPrefix (words_of network f (m.offered (c.first f))) (source f)) (λ f. IsSubsequence (words_of network f (m.offered (c.first f))) (source f)) (λ f h. prefix_subsequence h) c.flows starts) keeps.routers)
 
-    pub prefix_law : All (λ f. All (λ r. Begins (words_of network f (arrived m r)) (source f)) (way_of c f)) c.flows
+    pub prefix_law : All (λ f. All (λ r. IsPrefix (words_of network f (arrived m r)) (source f)) (way_of c f)) c.flows
     prefix_law i d below =
         let f = get_or c.flows i d in
         prefixes_along network c m keeps.links keeps.ports f (source f) room (c.first f) (c.rest f) (keeps.routers i d below) (starts i d below)
 
     pub ring_prefix_law : (r : ℕ) → BeginsSources network c m source r
-    ring_prefix_law r = All-weaker (λ f. Begins (words_of network f (arrived m r)) (source f)) (λ f. IsPrefix (words_of network f (arrived m r)) (source f)) (λ f h. is_prefix h) (flows_over c r)
-        (All-at_ring c (λ f r. Begins (words_of network f (arrived m r)) (source f)) prefix_law r)
+    ring_prefix_law = All-at_ring c (λ f r. IsPrefix (words_of network f (arrived m r)) (source f)) prefix_law
 
     pub whole_law : All (HasEnded c m) c.flows → All (λ f. All (λ r. words_of network f (arrived m r) ≡ source f) (way_of c f)) c.flows
     whole_law ended i d below =

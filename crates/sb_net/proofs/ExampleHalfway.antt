@@ -4,18 +4,19 @@ use Rattle.std.proofs.lemmas.List.Elements.{All-nil, All-from_recursion}
 use Rattle.sb_packet.specs.Accesses.{Access, access_at}
 use Rattle.sb_packet.specs.Messages.{message_of}
 use Rattle.sb_packet.specs.Soundness.{IsSound}
-use Rattle.sb_packet.specs.Plans.{item_accesses}
+use Rattle.sb_packet.specs.Traffic.{item_accesses}
 use Rattle.sb_packet.specs.declared.entry.Entry.{Entry}
 use Rattle.sb_packet.specs.declared.item.Item.{Item}
 use Rattle.sb_packet.specs.declared.item.Item.TheVariants as items
-use Rattle.sb_net.specs.Lists.{IsSubsequence, none, kept, left_out}
+use Rattle.sb_packet.specs.Prefixes.{IsPrefix, IsSubsequence, none, kept, left_out}
 use Rattle.sb_net.specs.Flows.{words_of, asked_of}
-use Rattle.sb_net.specs.Moments.{Moment, AreSound, ClosesLast}
+use Rattle.sb_net.specs.Moments.{Moment, AreSound}
 use Rattle.sb_net.specs.Courses.{Course, CarriesItsFlows, is_carried, AlongWay}
-use Rattle.sb_net.specs.Promises.{IsLink, Forwards, KeepsOrder}
+use Rattle.sb_net.specs.Promises.{Forwards, KeepsOrder}
 use Rattle.sb_net.specs.Runs.{IsHost, IsDevice, IsMomentOf}
 use Rattle.sb_net.specs.Endings.{MissesAnswer}
-use Rattle.sb_net.proofs.Prefixes.{is_prefix, same_begins, same_subsequence}
+use Rattle.sb_net.proofs.ClosedLists.{EndsAtClose, closes_last}
+use Rattle.sb_net.proofs.Prefixes.{front_prefix, same_prefix, same_subsequence}
 use Rattle.sb_net.proofs.ExampleNetwork.{small, asking, write, posted, read, written}
 use Rattle.sb_net.proofs.ExampleLayout.{the_flow, is_request_ring, is_answer_ring, small_layout, of_one}
 use Rattle.sb_net.proofs.ExampleRun.{sound_write, sound_read, sound_written, sound_asking}
@@ -44,12 +45,19 @@ halfway = record { sent = half_sent; received = half_received; offered = λ r. i
 abbrev pub first_step : List Entry
 first_step = record { round = 1; device = 0; packet = write } ∷ []
 
-half_link : (r : ℕ) → IsLink halfway r
-half_link zero = record { in_order = refl; closes_last = refl }
-half_link (suc zero) = record { in_order = refl; closes_last = tt }
-half_link (suc (suc zero)) = record { in_order = refl; closes_last = tt }
-half_link (suc (suc (suc zero))) = record { in_order = refl; closes_last = tt }
-half_link (suc (suc (suc (suc n)))) = record { in_order = refl; closes_last = tt }
+half_closes : (r : ℕ) → EndsAtClose (half_sent r)
+half_closes zero = refl
+half_closes (suc zero) = tt
+half_closes (suc (suc zero)) = tt
+half_closes (suc (suc (suc zero))) = tt
+half_closes (suc (suc (suc (suc n)))) = tt
+
+half_prefix : (r : ℕ) → IsPrefix (half_received r) (half_sent r)
+half_prefix zero = front_prefix (items.Packet read ∷ items.Close ∷ []) refl
+half_prefix (suc zero) = same_prefix refl
+half_prefix (suc (suc zero)) = same_prefix refl
+half_prefix (suc (suc (suc zero))) = front_prefix (items.Packet written ∷ []) refl
+half_prefix (suc (suc (suc (suc n)))) = same_prefix refl
 
 half_sound : (r : ℕ) → AreSound (half_sent r)
 half_sound zero = sound_asking
@@ -73,12 +81,12 @@ half_carried_back (suc (suc (suc n))) e = All-nil (λ a. is_carried small small_
 -- All promises hold halfway.
 pub half_of_small : IsMomentOf small small_layout first_step halfway
 half_of_small = record {
-  links = half_link;
-  ports = λ r. record { in_order = is_prefix (same_begins refl); sound = half_sound r; closed = λ e. refl };
+  links = λ r. record { in_order = half_prefix r; closes_last = closes_last (half_sent r) (half_closes r) };
+  ports = λ r. record { in_order = same_prefix refl; sound = half_sound r; closed = λ e. refl };
   carried = half_carried;
   carried_back = half_carried_back;
   recorded = λ d there. let first : d ≡ 0 = omega arith in rw first refl;
-  hosts = of_one (IsHost small small_layout halfway) the_flow (record { in_order = refl; closed = λ e. refl });
+  hosts = of_one (IsHost small small_layout halfway) the_flow (record { in_order = same_prefix refl; closed = λ e. refl });
   devices = of_one (IsDevice small small_layout first_step halfway) the_flow (record { in_order = same_subsequence (item_accesses (half_sent 3)); whole = λ sound few. refl });
   routers = of_one (λ f. AlongWay (Forwards small small_layout.requests halfway f) 0 (2 ∷ [])) the_flow
       (record { in_order = kept none; whole = λ sound few. refl; closed = λ e. absurd (cc) }, tt);
@@ -100,11 +108,11 @@ tight_items (suc (suc (suc n))) = []
 abbrev pub dropped : Moment
 dropped = record { sent = tight_items; received = tight_items; offered = λ r. item_accesses (tight_items r); held = λ r. [] }
 
-tight_closes_last : (r : ℕ) → ClosesLast (tight_items r)
-tight_closes_last zero = refl
-tight_closes_last (suc zero) = tt
-tight_closes_last (suc (suc zero)) = refl
-tight_closes_last (suc (suc (suc n))) = tt
+tight_closes : (r : ℕ) → EndsAtClose (tight_items r)
+tight_closes zero = refl
+tight_closes (suc zero) = tt
+tight_closes (suc (suc zero)) = refl
+tight_closes (suc (suc (suc n))) = tt
 
 tight_sound : (r : ℕ) → AreSound (tight_items r)
 tight_sound zero = sound_asking
@@ -115,8 +123,8 @@ tight_sound (suc (suc (suc n))) = All-nil IsSound
 -- What is promised whatever is dropped holds there.
 pub dropped_keeps_order : KeepsOrder small tight dropped (asked_of small)
 dropped_keeps_order = record {
-  links = λ r. record { in_order = is_prefix (same_begins refl); closes_last = tight_closes_last r };
-  ports = λ r. record { in_order = is_prefix (same_begins refl); sound = tight_sound r; closed = λ e. refl };
+  links = λ r. record { in_order = same_prefix refl; closes_last = closes_last (tight_items r) (tight_closes r) };
+  ports = λ r. record { in_order = same_prefix refl; sound = tight_sound r; closed = λ e. refl };
   sources = of_one (λ f. IsSubsequence (words_of small f (item_accesses asking)) (asked_of small f)) the_flow (same_subsequence (item_accesses asking));
   routers = of_one (λ f. AlongWay (Forwards small tight dropped f) 0 (2 ∷ [])) the_flow
       (record { in_order = kept (left_out (kept none)); whole = λ sound few. absurd (omega arith); closed = λ e. refl }, tt);

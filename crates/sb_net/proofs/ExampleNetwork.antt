@@ -3,7 +3,7 @@ use Rattle.std.proofs.Common.{◌≡◌, lit≤, ℕ, replicate, refl, [], ◌�
 use Rattle.std.specs.Prelude.{codes}
 use Rattle.sb_packet.specs.Networks.{NetHost, Network, at_host, at_router, at_device}
 use Rattle.sb_packet.specs.Journals.{journal_accesses}
-use Rattle.sb_packet.specs.Plans.{item_accesses}
+use Rattle.sb_packet.specs.Traffic.{item_accesses}
 use Rattle.sb_packet.specs.declared.entry.Entry.{Entry}
 use Rattle.sb_packet.specs.declared.packet.Packet.{Packet}
 use Rattle.sb_packet.specs.declared.item.Item.{Item}

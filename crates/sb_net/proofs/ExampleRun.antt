@@ -6,16 +6,17 @@ use Rattle.sb_packet.specs.Soundness.{IsSound}
 use Rattle.sb_packet.specs.Spans.{span_of}
 use Rattle.sb_packet.specs.Networks.{width_to}
 use Rattle.sb_packet.specs.Journals.{IsLawful}
-use Rattle.sb_packet.specs.Plans.{has_close, item_accesses}
+use Rattle.sb_packet.specs.Traffic.{has_close, item_accesses}
 use Rattle.sb_packet.specs.declared.item.Item.{Item}
-use Rattle.sb_net.specs.Moments.{Moment, AreSound, ClosesLast}
+use Rattle.sb_net.specs.Moments.{Moment, AreSound}
 use Rattle.sb_net.specs.Courses.{CarriesItsFlows, is_carried, AlongWay}
 use Rattle.sb_net.specs.Promises.{Forwards}
 use Rattle.sb_net.specs.Arrivals.{HasEnded}
 use Rattle.sb_net.specs.Runs.{IsHost, IsDevice, IsMomentOf, HasEntries}
 use Rattle.sb_net.specs.Wholes.{HasAllEnded}
 use Rattle.sb_net.proofs.Entries.{lawful_journal}
-use Rattle.sb_net.proofs.Prefixes.{is_prefix, same_begins, same_subsequence}
+use Rattle.sb_net.proofs.ClosedLists.{EndsAtClose, closes_last}
+use Rattle.sb_net.proofs.Prefixes.{same_prefix, same_subsequence}
 use Rattle.sb_net.proofs.ExampleNetwork.{small, steps, asking, answering, write, posted, read, written, read_back}
 use Rattle.sb_net.proofs.ExampleLayout.{small_is_laid_out, the_flow, is_request_ring, is_answer_ring, small_layout, of_one}
 
@@ -31,12 +32,12 @@ all_items (suc (suc (suc (suc n)))) = []
 abbrev pub the_end : Moment
 the_end = record { sent = all_items; received = all_items; offered = λ r. item_accesses (all_items r); held = λ r. [] }
 
-closes_last : (r : ℕ) → ClosesLast (all_items r)
-closes_last zero = refl
-closes_last (suc zero) = refl
-closes_last (suc (suc zero)) = refl
-closes_last (suc (suc (suc zero))) = refl
-closes_last (suc (suc (suc (suc n)))) = tt
+each_closes : (r : ℕ) → EndsAtClose (all_items r)
+each_closes zero = refl
+each_closes (suc zero) = refl
+each_closes (suc (suc zero)) = refl
+each_closes (suc (suc (suc zero))) = refl
+each_closes (suc (suc (suc (suc n)))) = tt
 
 -- all packets are sound
 pub sound_write : IsSound (message_of write)
@@ -83,12 +84,12 @@ carried_back (suc (suc (suc (suc n)))) e = absurd (cc)
 -- All promises hold at the end.
 pub end_of_small : IsMomentOf small small_layout steps the_end
 end_of_small = record {
-  links = λ r. record { in_order = is_prefix (same_begins refl); closes_last = closes_last r };
-  ports = λ r. record { in_order = is_prefix (same_begins refl); sound = all_sound r; closed = λ e. refl };
+  links = λ r. record { in_order = same_prefix refl; closes_last = closes_last (all_items r) (each_closes r) };
+  ports = λ r. record { in_order = same_prefix refl; sound = all_sound r; closed = λ e. refl };
   carried = carried;
   carried_back = carried_back;
   recorded = λ d there. let first : d ≡ 0 = omega arith in rw first refl;
-  hosts = of_one (IsHost small small_layout the_end) the_flow (record { in_order = refl; closed = λ e. refl });
+  hosts = of_one (IsHost small small_layout the_end) the_flow (record { in_order = same_prefix refl; closed = λ e. refl });
   devices = of_one (IsDevice small small_layout steps the_end) the_flow (record { in_order = same_subsequence (item_accesses answering); whole = λ sound few. refl });
   routers = of_one (λ f. AlongWay (Forwards small small_layout.requests the_end f) 0 (2 ∷ [])) the_flow
       (record { in_order = same_subsequence (item_accesses asking); whole = λ sound few. refl; closed = λ e. refl }, tt);

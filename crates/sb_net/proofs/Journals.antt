@@ -12,6 +12,7 @@ use Rattle.sb_packet.specs.Journals.{journal_accesses, device_address, is_reques
 use Rattle.sb_packet.specs.Plans.{NetFlow}
 use Rattle.sb_packet.specs.declared.entry.Entry.{Entry}
 use Rattle.sb_packet.proofs.Lists.{filter_none, All-kept, AllPairs-kept}
+use Rattle.sb_packet.specs.Prefixes.{IsPrefix}
 use Rattle.sb_net.specs.Flows.{is_of, words_of, is_among, script_of, aimed_script, asked_of}
 use Rattle.sb_net.specs.Moments.{Moment, arrived}
 use Rattle.sb_net.specs.Courses.{way_of, goes_over, flows_over, is_carried}
@@ -19,7 +20,7 @@ use Rattle.sb_net.specs.Promises.{Offers, KeepsPromises}
 use Rattle.sb_net.specs.Layouts.{Layout, IsLayout}
 use Rattle.sb_net.specs.Runs.{IsHost, IsMomentOf}
 use Rattle.sb_net.specs.Wholes.{IsHistorySoFar}
-use Rattle.sb_net.proofs.Prefixes.{Begins, begins, is_prefix, same_begins, begins-filter, All-begins, AllPairs-begins}
+use Rattle.sb_net.proofs.Prefixes.{same_prefix, IsPrefix-filter, All-prefix, AllPairs-prefix}
 use Rattle.sb_net.proofs.FlowMembers.{not_true, of_device, some_flow, at_flow, among_all, same_flow, same_flow_from}
 use Rattle.sb_net.proofs.Budgets.{none_of_others}
 use Rattle.sb_net.proofs.Ways.{at_number}
@@ -81,7 +82,7 @@ module _ (network : Network) (layout : Layout) (journal : List Entry) (m : Momen
       (All-weaker (λ a. is_request a.op ≡ true) (λ a. is_of network f a ≡ true → option_map_or (λ d. true) (device_at network a.dst) false ≡ true) (λ a asks e. asked_is_aimed network f a asks e) (script_of network f.host) (script_asks network laid.scripts f.host)) in
       let first = layout.requests.first f in
       record {
-        in_order = is_prefix (subst (Begins (words_of network f (m.offered first))) aimed (begins-filter (is_of network f) (begins (m.offered first) (aimed_script network f.host) h.in_order)));
+        in_order = subst (IsPrefix (words_of network f (m.offered first))) aimed (IsPrefix-filter (is_of network f) h.in_order);
         closed = λ shut. ap (words_of network f) (h.closed shut) ∙ aimed;
       }
 
@@ -125,15 +126,15 @@ module _ (network : Network) (layout : Layout) (journal : List Entry) (m : Momen
       by_test true t = at_flow (λ g. P g (words_of network g (journal_accesses journal g.device))) f layout.requests.flows all t
       by_test false t = rw (no_words f t) (none f (laid.all_flows f t))
 
-  pub history : (f : NetFlow) → Begins (words_of network f (journal_accesses journal f.device)) (asked_of network f)
-  history = each_flow (λ f list. Begins list (asked_of network f)) (λ f none. same_begins (sym none))
-      (at_device (λ f list. Begins list (asked_of network f)) (prefix_law network layout.requests m (asked_of network) request_course))
+  pub history : (f : NetFlow) → IsPrefix (words_of network f (journal_accesses journal f.device)) (asked_of network f)
+  history = each_flow (λ f list. IsPrefix list (asked_of network f)) (λ f none. same_prefix (sym none))
+      (at_device (λ f list. IsPrefix list (asked_of network f)) (prefix_law network layout.requests m (asked_of network) request_course))
 
   pub history_law : IsHistorySoFar network journal
   history_law k h below d =
       let host = get_or network.hosts k h in
       let f : NetFlow = record { host = host.id; device = d } in
-      is_prefix (subst (Begins (words_of network f (journal_accesses journal d))) (sym (own_script network laid.scripts k h below d)) (history f))
+      subst (IsPrefix (words_of network f (journal_accesses journal d))) (sym (own_script network laid.scripts k h below d)) (history f)
 
   -- each word of the journal is of a flow to its device
   pub origin : (d : ℕ) → d < length network.devices → All (Origin network d) (journal_accesses journal d)
@@ -155,7 +156,7 @@ module _ (network : Network) (layout : Layout) (journal : List Entry) (m : Momen
   told : (d i : ℕ) (x : Access) → i < length (journal_accesses journal d) → (o : Origin network d (get_or (journal_accesses journal d) i x)) → (get_or (journal_accesses journal d) i x).src / 2 ^ 40 ≡ o.flow.host
   told d i x inside o =
       let part = subst (λ (e : ℕ). All (λ a. a.src / 2 ^ 40 ≡ o.flow.host) (words_of network o.flow (journal_accesses journal e))) o.device
-      (All-begins (λ (a : Access). a.src / 2 ^ 40 ≡ o.flow.host) (history o.flow) (asked_told network laid.scripts o.flow)) in
+      (All-prefix (λ (a : Access). a.src / 2 ^ 40 ≡ o.flow.host) (history o.flow) (asked_told network laid.scripts o.flow)) in
       All-kept (is_of network o.flow) (λ a. a.src / 2 ^ 40 ≡ o.flow.host) (journal_accesses journal d) part i x inside o.of_flow
 
   -- no two words of a journal at a device are answered at one address
@@ -166,6 +167,6 @@ module _ (network : Network) (layout : Layout) (journal : List Entry) (m : Momen
       let b = origin d there j x inside in
       let host : a.flow.host ≡ b.flow.host = sym (told d i x (omega arith) a) ∙ ap (λ n. n / 2 ^ 40) same ∙ told d j x inside b in
       let one : b.flow ≡ a.flow = same_flow a.flow b.flow (same_flow_from a.flow b.flow host (let devices : a.flow.device ≡ b.flow.device = a.device ∙ sym b.device in grind (arith, nat_tests))) in
-      let rises = subst (λ (e : ℕ). AllPairs (λ x y. x.src < y.src) (words_of network a.flow (journal_accesses journal e))) a.device (AllPairs-begins (λ (x y : Access). x.src < y.src) (history a.flow) (asked_rises network laid.scripts a.flow)) in
+      let rises = subst (λ (e : ℕ). AllPairs (λ x y. x.src < y.src) (words_of network a.flow (journal_accesses journal e))) a.device (AllPairs-prefix (λ (x y : Access). x.src < y.src) (history a.flow) (asked_rises network laid.scripts a.flow)) in
       let apart = AllPairs-kept (λ x y. x.src < y.src) (is_of network a.flow) words rises i j x below inside a.of_flow (subst (λ (g : NetFlow). is_of network g (get_or words j x) ≡ true) one b.of_flow) in
       absurd (omega arith)

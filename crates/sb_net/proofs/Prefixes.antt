@@ -1,46 +1,34 @@
 -- Lists that begin others, and lists that have some of others.
-use Rattle.std.proofs.Common.{◌≡◌, ◌≤◌, Bool, List, [], ◌∷◌, ◌++◌, length, take, drop, refl, sym, ap, ◌∙◌, append_assoc, arith, length-append}
+use Rattle.std.proofs.Common.{◌≡◌, ◌≤◌, Bool, List, [], ◌∷◌, ◌++◌, length, refl, sym, ap, ◌∙◌, append_assoc, arith, length-append}
 use Rattle.std.specs.Prelude.{filter, All, AllPairs}
-use Rattle.std.proofs.lemmas.List.{append-nil, take-append-drop, get_or_append_left}
+use Rattle.std.proofs.lemmas.List.{append-nil, get_or_append_left}
 use Rattle.std.proofs.lemmas.List.Elements.{filter-append}
-use Rattle.std.proofs.Math.Seq.{take-append_seam}
 use Rattle.sb_packet.proofs.Lists.{All-left}
-use Rattle.sb_net.specs.Lists.{IsPrefix, IsSubsequence, none, kept, left_out}
+use Rattle.sb_packet.specs.Prefixes.{IsPrefix, IsSubsequence, none, kept, left_out}
 
--- xs begins ys, with what is behind it
-pub record Begins {A : Type 0} (xs ys : List A) : Type 0 where
-  pub rest : List A
-  pub joined : xs ++ rest ≡ ys
+pub same_prefix : {A : Type 0} {xs ys : List A} → xs ≡ ys → IsPrefix xs ys
+same_prefix {A} {xs} {ys} e = record { rest = []; joined = append-nil xs ∙ e }
 
-pub begins : {A : Type 0} (xs ys : List A) → IsPrefix xs ys → Begins xs ys
-begins {A} xs ys e = record { rest = drop (length xs) ys; joined = ap (λ (l : List A). l ++ drop (length xs) ys) (sym e) ∙ take-append-drop (length xs) ys }
+pub front_prefix : {A : Type 0} {xs ys : List A} (rest : List A) → ys ≡ xs ++ rest → IsPrefix xs ys
+front_prefix rest e = record { rest = rest; joined = sym e }
 
-pub is_prefix : {A : Type 0} {xs ys : List A} → Begins xs ys → IsPrefix xs ys
-is_prefix {A} {xs} {ys} p = ap (λ (l : List A). take (length xs) l) (sym p.joined) ∙ take-append_seam xs p.rest
-
-pub same_begins : {A : Type 0} {xs ys : List A} → xs ≡ ys → Begins xs ys
-same_begins {A} {xs} {ys} e = record { rest = []; joined = append-nil xs ∙ e }
-
-pub front_begins : {A : Type 0} {xs ys : List A} (rest : List A) → ys ≡ xs ++ rest → Begins xs ys
-front_begins rest e = record { rest = rest; joined = sym e }
-
-pub begins_then : {A : Type 0} {xs ys zs : List A} → Begins xs ys → Begins ys zs → Begins xs zs
-begins_then {A} {xs} {ys} {zs} p q = record {
+pub prefix_then : {A : Type 0} {xs ys zs : List A} → IsPrefix xs ys → IsPrefix ys zs → IsPrefix xs zs
+prefix_then {A} {xs} {ys} {zs} p q = record {
   rest = p.rest ++ q.rest;
   joined = sym (append_assoc xs p.rest q.rest) ∙ ap (λ (l : List A). l ++ q.rest) p.joined ∙ q.joined;
 }
 
-pub begins-filter : {A : Type 0} (test : A → Bool) {xs ys : List A} → Begins xs ys → Begins (filter test xs) (filter test ys)
-begins-filter {A} test {xs} {ys} p = record {
+pub IsPrefix-filter : {A : Type 0} (test : A → Bool) {xs ys : List A} → IsPrefix xs ys → IsPrefix (filter test xs) (filter test ys)
+IsPrefix-filter {A} test {xs} {ys} p = record {
   rest = filter test p.rest;
   joined = sym (filter-append test xs p.rest) ∙ ap (λ (l : List A). filter test l) p.joined;
 }
 
-pub length-begins : {A : Type 0} {xs ys : List A} → Begins xs ys → length xs ≤ length ys
-length-begins {A} {xs} {ys} p = omega (arith, length-append xs p.rest, ap length p.joined)
+pub length-prefix : {A : Type 0} {xs ys : List A} → IsPrefix xs ys → length xs ≤ length ys
+length-prefix {A} {xs} {ys} p = omega (arith, length-append xs p.rest, ap length p.joined)
 
-pub All-begins : {A : Type 0} (P : A → Type 0) {xs ys : List A} → Begins xs ys → All P ys → All P xs
-All-begins {A} P {xs} {ys} p h = All-left P xs p.rest (rw p.joined h)
+pub All-prefix : {A : Type 0} (P : A → Type 0) {xs ys : List A} → IsPrefix xs ys → All P ys → All P xs
+All-prefix {A} P {xs} {ys} p h = All-left P xs p.rest (rw p.joined h)
 
 AllPairs-front : {A : Type 0} (R : A → A → Type 0) (xs rest : List A) → AllPairs R (xs ++ rest) → AllPairs R xs
 AllPairs-front R xs rest h i j d below inside =
@@ -48,16 +36,16 @@ AllPairs-front R xs rest h i j d below inside =
     let later = get_or_append_left xs rest d j inside in
     rw (← earlier, ← later) (h i j d below (omega (arith, length-append xs rest)))
 
-pub AllPairs-begins : {A : Type 0} (R : A → A → Type 0) {xs ys : List A} → Begins xs ys → AllPairs R ys → AllPairs R xs
-AllPairs-begins {A} R {xs} {ys} p h = AllPairs-front R xs p.rest (rw p.joined h)
+pub AllPairs-prefix : {A : Type 0} (R : A → A → Type 0) {xs ys : List A} → IsPrefix xs ys → AllPairs R ys → AllPairs R xs
+AllPairs-prefix {A} R {xs} {ys} p h = AllPairs-front R xs p.rest (rw p.joined h)
 
 -- a list that begins another and is as long is the other
 nothing : {A : Type 0} (xs : List A) → length xs ≤ 0 → xs ≡ []
 nothing [] h = refl
 nothing (x ∷ xs) h = absurd (omega arith)
 
-pub whole_begins : {A : Type 0} {xs ys : List A} → Begins xs ys → length ys ≤ length xs → xs ≡ ys
-whole_begins {A} {xs} {ys} p h =
+pub whole_prefix : {A : Type 0} {xs ys : List A} → IsPrefix xs ys → length ys ≤ length xs → xs ≡ ys
+whole_prefix {A} {xs} {ys} p h =
     let none : p.rest ≡ [] = nothing p.rest (omega (arith, length-append xs p.rest, ap length p.joined)) in
     sym (append-nil xs) ∙ ap (λ (l : List A). xs ++ l) (sym none) ∙ p.joined
 
@@ -80,5 +68,5 @@ front_subsequence : {A : Type 0} (xs rest : List A) → IsSubsequence xs (xs ++ 
 front_subsequence [] rest = none
 front_subsequence (x ∷ xs) rest = kept (front_subsequence xs rest)
 
-pub begins_subsequence : {A : Type 0} {xs ys : List A} → Begins xs ys → IsSubsequence xs ys
-begins_subsequence {A} {xs} {ys} p = rw (← p.joined) (front_subsequence xs p.rest)
+pub prefix_subsequence : {A : Type 0} {xs ys : List A} → IsPrefix xs ys → IsSubsequence xs ys
+prefix_subsequence {A} {xs} {ys} p = rw (← p.joined) (front_subsequence xs p.rest)

@@ -2,11 +2,11 @@
 use Rattle.std.proofs.Common.{◌≡◌, ◌≤◌, ◌<◌, ℕ, zero, suc, ◌+◌, Bool, true, false, ◌⊎◌, inl, inr, refl, ap, ◌∙◌, arith, length}
 use Rattle.std.specs.Prelude.{Option, Some, None}
 use Rattle.std.proofs.lemmas.Bool.{cases_lt}
-use Rattle.sb_packet.specs.Plans.{has_close}
+use Rattle.sb_packet.specs.Traffic.{has_close}
 use Rattle.sb_net.specs.Stages.{Stages}
 use Rattle.sb_net.specs.Standstills.{RoundEnd, is_closed, has_ended, IsTrueRing, IsBlocked, IsStandstill}
 use Rattle.sb_net.specs.Endings.{IsQuietSender, IsQuietReceiver, IsFinished, IsWaiting}
-use Rattle.sb_net.proofs.Prefixes.{begins, whole_begins}
+use Rattle.sb_net.proofs.Prefixes.{whole_prefix}
 use Rattle.sb_net.proofs.FlowMembers.{not_true}
 use Rattle.sb_net.proofs.Courses.{closed_link}
 
@@ -81,7 +81,7 @@ module _ (stages : Stages) (s : RoundEnd) (still : IsStandstill stages s) where
       received i true e = closed_link s.at r (still.rings r here i o).link e
       received i false e =
           let ring = still.rings r here i o in
-          whole_begins (begins (s.at.received r) (s.at.sent r) ring.link.in_order) (ring.empty (empty_by ((still.receivers r here o).drained e)))
+          whole_prefix ring.link.in_order (ring.empty (empty_by ((still.receivers r here o).drained e)))
 
       ended : stages.comes_in r ≡ true → (b : Bool) → has_ended s r ≡ b → has_ended s r ≡ true
       ended i true e = e

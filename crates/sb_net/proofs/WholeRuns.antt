@@ -21,7 +21,7 @@ use Rattle.sb_net.specs.Arrivals.{HasEnded, CarriesSources}
 use Rattle.sb_net.specs.Layouts.{Layout, IsLayout}
 use Rattle.sb_net.specs.Runs.{IsMomentOf}
 use Rattle.sb_net.specs.Wholes.{IsWholeRun}
-use Rattle.sb_net.proofs.Prefixes.{begins-filter, length-begins, is_prefix, same_begins}
+use Rattle.sb_net.proofs.Prefixes.{IsPrefix-filter, length-prefix, same_prefix}
 use Rattle.sb_net.proofs.Sums.{sum_by_le, sum_by_same}
 use Rattle.sb_net.proofs.FlowMembers.{of_device}
 use Rattle.sb_net.proofs.Counts.{is_of_some, flows_cover}
@@ -71,7 +71,7 @@ module _ (network : Network) (layout : Layout) (journal : List Entry) (m : Momen
   few_answers : (f : NetFlow) → length (given_to network journal f) ≤ length (answered_of network f)
   few_answers f =
       let given = answers_are_few network f (opening_memory network f.device) (journal_accesses journal f.device) in
-      let asked = length-begins (begins-filter (λ a. is_answered a.op) (history network layout journal m laid now f)) in
+      let asked = length-prefix (IsPrefix-filter (λ a. is_answered a.op) (history network layout journal m laid now f)) in
       omega arith
 
   -- a device's answers are no more than the ring out of it may carry
@@ -116,7 +116,7 @@ module _ (network : Network) (layout : Layout) (journal : List Entry) (m : Momen
     allowed = allowed_back;
     sources = subst (All (Offers network layout.answers m (given_to network journal))) (sym laid.same_flows)
         (All-weaker (λ f. m.offered (layout.answers.first f) ≡ device_answers network journal f.device) (Offers network layout.answers m (given_to network journal))
-        (λ f e. record { in_order = is_prefix (same_begins (ap (words_of network f) e)); closed = λ shut. ap (words_of network f) e }) layout.requests.flows device_offers);
+        (λ f e. record { in_order = same_prefix (ap (words_of network f) e); closed = λ shut. ap (words_of network f) e }) layout.requests.flows device_offers);
     routers = subst (All (λ f. AlongWay (Forwards network layout.answers m f) (layout.answers.first f) (layout.answers.rest f))) (sym laid.same_flows) now.routers_back;
   }
 

@@ -8,7 +8,8 @@ use Rattle.sb_packet.specs.Accesses.{Access}
 use Rattle.sb_packet.specs.Memories.{MemoryState, access_step, access_answer}
 use Rattle.sb_packet.specs.Networks.{Network, opening_memory}
 use Rattle.sb_packet.specs.Journals.{journal_accesses}
-use Rattle.sb_packet.specs.Plans.{NetFlow, item_accesses}
+use Rattle.sb_packet.specs.Plans.{NetFlow}
+use Rattle.sb_packet.specs.Traffic.{item_accesses}
 use Rattle.sb_packet.specs.declared.entry.Entry.{Entry}
 use Rattle.sb_packet.proofs.Lists.{All-kept}
 use Rattle.sb_net.specs.Flows.{is_of, words_of, is_answered, asked_of, given_to}

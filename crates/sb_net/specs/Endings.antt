@@ -3,7 +3,8 @@ use Rattle.std.specs.Prelude.{◌≡◌, ◌≤◌, ◌<◌, ℕ, true, false, L
 use Rattle.std.specs.List.{find}
 use Rattle.sb_packet.specs.Accesses.{Access}
 use Rattle.sb_packet.specs.Networks.{Network}
-use Rattle.sb_packet.specs.Plans.{NetFlow, item_accesses}
+use Rattle.sb_packet.specs.Plans.{NetFlow}
+use Rattle.sb_packet.specs.Traffic.{item_accesses}
 use Rattle.sb_packet.specs.declared.entry.Entry.{Entry}
 use Rattle.sb_net.specs.Flows.{words_of, is_among, is_answered}
 use Rattle.sb_net.specs.Moments.{Moment, arrived}

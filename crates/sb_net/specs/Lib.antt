@@ -1,4 +1,3 @@
-pub mod Lists
 pub mod Flows
 pub mod Moments
 pub mod Courses

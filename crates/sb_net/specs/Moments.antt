@@ -1,10 +1,9 @@
 -- A moment of a run: what has gone over each ring, and what the nodes have offered and hold, as plain lists.
-use Rattle.std.specs.Prelude.{◌≡◌, ℕ, List, [], ◌∷◌, All}
+use Rattle.std.specs.Prelude.{◌≡◌, ℕ, false, List, ◌∷◌, ◌++◌, All}
 use Rattle.sb_packet.specs.Accesses.{Access}
 use Rattle.sb_packet.specs.Soundness.{IsSound}
-use Rattle.sb_packet.specs.Plans.{item_accesses, item_messages}
+use Rattle.sb_packet.specs.Traffic.{has_close, item_accesses, item_messages}
 use Rattle.sb_packet.specs.declared.item.Item.{Item}
-use Rattle.sb_packet.specs.declared.item.Item.TheVariants as items
 
 -- what has been done by some moment, by the number of a ring
 pub record Moment : Type 0 where
@@ -24,8 +23,6 @@ arrived m r = item_accesses (m.received r)
 abbrev pub AreSound : List Item → Type 0
 AreSound list = All IsSound (item_messages list)
 
--- nothing follows a Close
+-- nothing follows a Close: no item has one before it
 abbrev pub ClosesLast : List Item → Type 0
-ClosesLast [] = Unit {0}
-ClosesLast (items.Packet p ∷ rest) = ClosesLast rest
-ClosesLast (items.Close ∷ rest) = rest ≡ []
+ClosesLast list = (before after : List Item) (item : Item) → list ≡ before ++ item ∷ after → has_close before ≡ false

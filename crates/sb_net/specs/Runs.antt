@@ -3,9 +3,10 @@ use Rattle.std.specs.Prelude.{◌≡◌, ◌≤◌, ◌<◌, ℕ, true, List, le
 use Rattle.sb_packet.specs.Spans.{span_of}
 use Rattle.sb_packet.specs.Networks.{Network, width_to}
 use Rattle.sb_packet.specs.Journals.{journal_accesses, is_in_round_order}
-use Rattle.sb_packet.specs.Plans.{NetFlow, has_close}
+use Rattle.sb_packet.specs.Plans.{NetFlow}
+use Rattle.sb_packet.specs.Traffic.{has_close}
 use Rattle.sb_packet.specs.declared.entry.Entry.{Entry}
-use Rattle.sb_net.specs.Lists.{IsPrefix, IsSubsequence}
+use Rattle.sb_packet.specs.Prefixes.{IsPrefix, IsSubsequence}
 use Rattle.sb_net.specs.Flows.{words_of, aimed_script, device_answers, given_to}
 use Rattle.sb_net.specs.Moments.{Moment, arrived, AreSound}
 use Rattle.sb_net.specs.Courses.{budget_over, CarriesItsFlows, AlongWay}

@@ -10,7 +10,7 @@ use Rattle.sb_packet.specs.Journals.{journal_accesses, flow_part}
 use Rattle.sb_packet.specs.Answers.{access_reply}
 use Rattle.sb_packet.specs.Plans.{NetFlow}
 use Rattle.sb_packet.specs.declared.entry.Entry.{Entry}
-use Rattle.sb_net.specs.Lists.{IsPrefix}
+use Rattle.sb_packet.specs.Prefixes.{IsPrefix}
 use Rattle.sb_net.specs.Flows.{asked_of, replies_to}
 use Rattle.sb_net.specs.Moments.{Moment, arrived}
 use Rattle.sb_net.specs.Courses.{CarriesItsFlows}
