@@ -7,7 +7,7 @@ use Rattle.sb_packet.specs.declared.item.Item.{Item}
 use Rattle.sb_packet.specs.declared.item.Item.TheVariants as items
 use Rattle.sb_net.specs.Stages.{Stages}
 use Rattle.sb_net.specs.Standstills.{RoundEnd, IsStandstill}
-use Rattle.sb_net.specs.Endings.{HasMet, IsFinished, IsWaiting, IsWithin, IsWholeStandstill}
+use Rattle.sb_net.specs.Endings.{HasLearnt, IsFinished, IsWaiting, IsWithin, IsWholeStandstill}
 use Rattle.sb_net.proofs.ExampleNetwork.{small, steps, read}
 use Rattle.sb_net.proofs.ExampleLayout.{the_flow, small_layout, of_one}
 use Rattle.sb_net.proofs.ExampleRun.{all_items, the_end, end_of_small}
@@ -124,8 +124,8 @@ pub waiting_is_not_finished : IsFinished side_stages waiting 0 → ⊥
 waiting_is_not_finished finished = let closed : false ≡ true = finished.closed refl in cc
 
 -- Rings of two places whose ends have met: one is full, and the other is empty.
-pub full_ring : HasMet 2 3 1 1 3
+pub full_ring : HasLearnt 2 3 1 1 3
 full_ring = record { some = lit< tt; met_taken = lit≤ tt; met_known = lit≤ tt }
 
-pub empty_ring : HasMet 2 3 3 3 3
+pub empty_ring : HasLearnt 2 3 3 3 3
 empty_ring = record { some = lit< tt; met_taken = lit≤ tt; met_known = lit≤ tt }

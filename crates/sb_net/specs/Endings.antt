@@ -17,7 +17,7 @@ use Rattle.sb_net.specs.Standstills.{RoundEnd, is_closed, has_ended, IsStandstil
 
 -- The numbers of a ring whose ends have met, and over which nothing went since: what was sent and received, and what the sender knows of
 -- the other end and the receiver of this one.
-pub record HasMet (capacity sent received taken known : ℕ) : Type 0 where
+pub record HasLearnt (capacity sent received taken known : ℕ) : Type 0 where
   pub some : 0 < capacity
   pub met_taken : received ≤ taken
   pub met_known : sent ≤ known

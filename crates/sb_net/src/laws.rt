@@ -8,7 +8,7 @@ ghost use Rattle.sb_packet.specs.Plans.{NetFlow};
 ghost use Rattle.sb_packet.specs.declared.entry.Entry.{Entry};
 ghost use Rattle.sb_net.specs.Arrivals.{BeginsSources, CarriesSources, HasEnded, PicksSources};
 ghost use Rattle.sb_net.specs.Courses.{Course};
-ghost use Rattle.sb_net.specs.Endings.{HasMet, IsFinished, IsQuietReceiver, IsQuietSender, IsWaiting, IsWholeStandstill};
+ghost use Rattle.sb_net.specs.Endings.{HasLearnt, IsFinished, IsQuietReceiver, IsQuietSender, IsWaiting, IsWholeStandstill};
 ghost use Rattle.sb_net.specs.Flows.{asked_of, given_to};
 ghost use Rattle.sb_net.specs.Layouts.{IsLayout, Layout};
 ghost use Rattle.sb_net.specs.Moments.{Moment};
@@ -86,10 +86,10 @@ pub fn answers_are_the_journals()
 /// received, and where its receiver finds it empty all was.
 pub fn learnt_counts_are_true()
     ensures full { (capacity sent received taken known : ℕ)
-        → HasMet capacity sent received taken known → sent ≡ taken + capacity
+        → HasLearnt capacity sent received taken known → sent ≡ taken + capacity
         → received < sent }
     ensures empty { (capacity sent received taken known : ℕ)
-        → HasMet capacity sent received taken known → received ≡ known
+        → HasLearnt capacity sent received taken known → received ≡ known
         → sent ≤ received }
 {}
 
