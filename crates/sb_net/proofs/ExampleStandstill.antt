@@ -56,7 +56,7 @@ last_round_is_a_standstill = record {
   rising = λ r here. record { rises = rises r here; within = within r here };
   wires = λ r here. record { in_not_empty = λ e. absurd (cc); in_not_full = λ e. absurd (cc); out_not_full = λ e. absurd (cc) };
   rings = λ r here i o. record { link = end_of_small.links r; full = λ e. absurd (cc); empty = λ e. omega arith };
-  senders = λ r here i. record { owes = λ e. absurd (cc); merges = λ e. absurd (cc); settled = λ e f. refl; closed = λ e f g. ended r here; host = λ e f. absurd (cc); node = λ e f. refl };
+  senders = λ r here i. record { port = record { owes = λ e. absurd (cc); merges = λ e. absurd (cc); settled = λ e f. refl; closed = λ e f g. ended r here }; host = λ e f. absurd (cc); node = λ e f. refl };
   receivers = λ r here o. record { held = λ p e. absurd (cc); none_held = λ e. refl; drained = λ e. inl refl };
 }
 
@@ -103,7 +103,7 @@ waiting_is_a_standstill = record {
   rising = λ r here. record { rises = omega arith; within = omega arith };
   wires = λ r here. record { in_not_empty = λ e. refl; in_not_full = λ e. refl; out_not_full = λ e. refl };
   rings = λ r here i o. absurd (no_ring r here i o);
-  senders = λ r here i. record { owes = λ e. absurd (cc); merges = λ e. absurd (cc); settled = λ e f. refl; closed = λ e f g. absurd (cc); host = λ e f. inl refl; node = λ e f. absurd (no_ring r here i e) };
+  senders = λ r here i. record { port = record { owes = λ e. absurd (cc); merges = λ e. absurd (cc); settled = λ e f. refl; closed = λ e f g. absurd (cc) }; host = λ e f. inl refl; node = λ e f. absurd (no_ring r here i e) };
   receivers = λ r here o. record { held = λ p e. absurd (cc); none_held = λ e. refl; drained = λ e. absurd (not_open r here o e) };
 }
   where

@@ -57,13 +57,13 @@ module _ (stages : Stages) (s : RoundEnd) (still : IsStandstill stages s) where
 
   -- nothing is kept in front of any
   pub quiet_sender : (r : ℕ) → r < stages.rings → stages.comes_in r ≡ false → IsQuietSender s r
-  quiet_sender r here i = record { room = not_true (s.full r) (none_full r here); owes = owes; merges = merges; sent = (still.senders r here i).settled owes merges }
+  quiet_sender r here i = record { room = not_true (s.full r) (none_full r here); owes = owes; merges = merges; sent = (still.senders r here i).port.settled owes merges }
     where
       owes : s.owes r ≡ false
-      owes = not_true (s.owes r) (λ o. none_full r here ((still.senders r here i).owes o))
+      owes = not_true (s.owes r) (λ o. none_full r here ((still.senders r here i).port.owes o))
 
       merges : s.merges r ≡ false
-      merges = not_true (s.merges r) (λ o. none_full r here ((still.senders r here i).merges o))
+      merges = not_true (s.merges r) (λ o. none_full r here ((still.senders r here i).port.merges o))
 
   -- and nothing behind any: all that was sent was received
   pub quiet_receiver : (r : ℕ) → r < stages.rings → stages.goes_out r ≡ false → IsQuietReceiver stages s r
@@ -106,7 +106,7 @@ module _ (stages : Stages) (s : RoundEnd) (still : IsStandstill stages s) where
             (λ p ring o at. let up = (still.rising p ring).rises in ((earlier p ring (omega arith)).ended o, (quiet_receiver p ring o).holds))
 
         shut : stages.comes_in r ≡ false → is_closed s r ≡ true
-        shut i = let quiet = quiet_sender r here i in (still.senders r here i).closed (by_host i (stages.leaves_host r) refl) quiet.owes quiet.merges
+        shut i = let quiet = quiet_sender r here i in (still.senders r here i).port.closed (by_host i (stages.leaves_host r) refl) quiet.owes quiet.merges
 
         got : stages.goes_out r ≡ false → (b : Bool) → stages.comes_in r ≡ b → has_ended s r ≡ true
         got o true i = (quiet_receiver r here o).ended i

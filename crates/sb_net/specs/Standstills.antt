@@ -40,14 +40,18 @@ pub record IsOpenWire (stages : Stages) (s : RoundEnd) (r : ℕ) : Type 0 where
   pub in_not_full : stages.comes_in r ≡ true → s.full r ≡ false
   pub out_not_full : stages.goes_out r ≡ true → s.full r ≡ false
 
--- The node that sends over a ring.
-pub record IsIdleSender (stages : Stages) (s : RoundEnd) (r : ℕ) : Type 0 where
-  -- its port keeps an item or a packet only in front of a full ring
+-- The port in front of a ring.
+pub record IsIdlePort (s : RoundEnd) (r : ℕ) : Type 0 where
+  -- it keeps an item or a packet only where the ring is full
   pub owes : s.owes r ≡ true → s.full r ≡ true
   pub merges : s.merges r ≡ true → s.full r ≡ true
-  -- a port that keeps nothing has sent all that it was offered, and its Close once it was told to
+  -- where it keeps nothing it has sent all that it was offered, and its Close once it was told to
   pub settled : s.owes r ≡ false → s.merges r ≡ false → item_accesses (s.at.sent r) ≡ s.at.offered r
   pub closed : s.told r ≡ true → s.owes r ≡ false → s.merges r ≡ false → is_closed s r ≡ true
+
+-- The node that sends over a ring.
+pub record IsIdleSender (stages : Stages) (s : RoundEnd) (r : ℕ) : Type 0 where
+  pub port : IsIdlePort s r
   -- a host that hasn't told its port to close waits for a slot, or its ring is full
   pub host : stages.leaves_host r ≡ true → s.told r ≡ false → (s.waits r ≡ true) ⊎ (s.full r ≡ true)
   -- any other node has told it, where each ring into the node's stage has ended and nothing that came by it is held
