@@ -15,6 +15,7 @@ pub mod Stillness
 pub mod Windows
 pub mod LastRounds
 pub mod Bounds
+pub mod InTurn
 pub mod ClosedLists
 pub mod ExampleNetwork
 pub mod ExampleLayout

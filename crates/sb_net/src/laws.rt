@@ -4,14 +4,16 @@ ghost use Rattle.std.specs.Prelude.{◌≡◌, ◌≤◌, ◌<◌, ◌+◌, ◌�
 ghost use Rattle.sb_packet.specs.Accesses.{Access};
 ghost use Rattle.sb_packet.specs.Journals.{IsLawful, IsPlaced};
 ghost use Rattle.sb_packet.specs.Networks.{Network};
-ghost use Rattle.sb_packet.specs.Plans.{NetFlow};
+ghost use Rattle.sb_packet.specs.Plans.{NetFlow, RingPlan};
+ghost use Rattle.sb_packet.specs.Traffic.{AreInTurn, item_accesses};
 ghost use Rattle.sb_packet.specs.declared.entry.Entry.{Entry};
+ghost use Rattle.sb_packet.specs.declared.item.Item.{Item};
 ghost use Rattle.sb_net.specs.Arrivals.{BeginsSources, CarriesSources, HasEnded, PicksSources};
 ghost use Rattle.sb_net.specs.Courses.{Course};
 ghost use Rattle.sb_net.specs.Endings.{HasLearnt, IsFinished, IsQuietReceiver, IsQuietSender, IsWaiting, IsWholeStandstill};
 ghost use Rattle.sb_net.specs.Flows.{asked_of, given_to};
 ghost use Rattle.sb_net.specs.Layouts.{IsLayout, Layout};
-ghost use Rattle.sb_net.specs.Moments.{Moment};
+ghost use Rattle.sb_net.specs.Moments.{ClosesLast, Moment};
 ghost use Rattle.sb_net.specs.Moves.{AreMovingRounds, IsWithinBudget, RingUse, move_bound};
 ghost use Rattle.sb_net.specs.Promises.{KeepsOrder, KeepsPromises};
 ghost use Rattle.sb_net.specs.Runs.{HasEntries, IsMomentOf};
@@ -80,6 +82,13 @@ pub fn answers_are_the_journals()
     ensures found { (network : Network) (layout : Layout) (journal : List Entry) (m : Moment)
         → IsLayout network layout → IsMomentOf network layout journal m → HasAllEnded layout m
         → All (AreAnswered network layout journal m) layout.requests.flows }
+{}
+
+/// Of items that may follow one another by a plan the Close is the last, and their words are within the plan's budget.
+pub fn traffic_keeps_to_its_plan()
+    ensures closes_last { (plan : RingPlan) (list : List Item) → AreInTurn plan list → ClosesLast list }
+    ensures few { (plan : RingPlan) (list : List Item)
+        → AreInTurn plan list → length (item_accesses list) ≤ plan.budget }
 {}
 
 /// A ring whose ends have met, and over which nothing went since: where its sender finds it full something wasn't
