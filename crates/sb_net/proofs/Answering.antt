@@ -10,10 +10,12 @@ use Rattle.sb_packet.specs.Accesses.{Access}
 use Rattle.sb_packet.specs.Memories.{MemoryState, access_step, access_answer, answers_in, answer_by, reply, held_at, write_code, old_bytes}
 use Rattle.sb_packet.specs.Networks.{Network}
 use Rattle.sb_packet.specs.Answers.{answer_at_first, same_access}
+use Rattle.sb_packet.specs.Journals.{is_request}
 use Rattle.sb_packet.specs.Plans.{NetFlow}
 use Rattle.sb_packet.proofs.FoundAnswers.{same_access_self}
 use Rattle.sb_packet.proofs.Lists.{AllPairs-head, AllPairs-tail}
-use Rattle.sb_net.specs.Flows.{is_of, words_of, is_answered}
+use Rattle.sb_packet.specs.Rings.{is_answered}
+use Rattle.sb_net.specs.Flows.{is_of, words_of}
 use Rattle.sb_net.specs.Wholes.{answers_op}
 
 -- the answers to some words, one step after another
@@ -41,17 +43,17 @@ answer_is network m a b e = by_op a.op refl e
     by_op RespRd is e = absurd (cc)
     by_op RespWr is e = absurd (cc)
 
--- a word that is answered has an answer, and any other has none
-pub answered_has_one : (m : MemoryState) (a : Access) → is_answered a.op ≡ true → access_answer m a ≡ None → ⊥
-answered_has_one m a t e = by_op a.op refl t e
+-- a word that asks and is answered has an answer, and a posted one has none
+pub answered_has_one : (m : MemoryState) (a : Access) → is_request a.op ≡ true → is_answered a.op ≡ true → access_answer m a ≡ None → ⊥
+answered_has_one m a asks t e = by_op a.op asks t e
   where
-    by_op : (op : Op) → a.op ≡ op → is_answered op ≡ true → answer_by op m a ≡ None → ⊥
-    by_op ReqRd is t e = cc
-    by_op ReqWr is t e = cc
-    by_op ReqWrPosted is t e = cc
-    by_op ReqAtomic is t e = cc
-    by_op RespRd is t e = cc
-    by_op RespWr is t e = cc
+    by_op : (op : Op) → is_request op ≡ true → is_answered op ≡ true → answer_by op m a ≡ None → ⊥
+    by_op ReqRd asks t e = cc
+    by_op ReqWr asks t e = cc
+    by_op ReqWrPosted asks t e = cc
+    by_op ReqAtomic asks t e = cc
+    by_op RespRd asks t e = cc
+    by_op RespWr asks t e = cc
 
 pub others_have_none : (m : MemoryState) (a : Access) → is_answered a.op ≡ false → access_answer m a ≡ None
 others_have_none m a t = by_op a.op t
@@ -61,8 +63,8 @@ others_have_none m a t = by_op a.op t
     by_op ReqWr t = absurd (cc)
     by_op ReqWrPosted t = refl
     by_op ReqAtomic t = absurd (cc)
-    by_op RespRd t = refl
-    by_op RespWr t = refl
+    by_op RespRd t = absurd (cc)
+    by_op RespWr t = absurd (cc)
 
 -- words with other reply addresses are others
 pub other_access : (x a : Access) → x.src ≢ a.src → same_access x a ≡ false

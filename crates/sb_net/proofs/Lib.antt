@@ -24,3 +24,8 @@ pub mod ExampleHalfway
 pub mod ExampleStandstill
 pub mod ExampleMoves
 pub mod Entries
+pub mod LinksOfWays
+pub mod RingsOfWays
+pub mod LinksToDevices
+pub mod NetworkLaidOut
+pub mod CarriedRings

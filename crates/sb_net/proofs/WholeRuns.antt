@@ -13,7 +13,8 @@ use Rattle.sb_packet.specs.Answers.{answer_at_first, access_reply, answer_from}
 use Rattle.sb_packet.specs.Plans.{NetFlow}
 use Rattle.sb_packet.specs.declared.entry.Entry.{Entry}
 use Rattle.sb_packet.proofs.Lists.{filter_all}
-use Rattle.sb_net.specs.Flows.{is_of, words_of, is_answered, script_of, asked_of, answered_of, device_answers, given_to, replies_to}
+use Rattle.sb_packet.specs.Rings.{is_answered}
+use Rattle.sb_net.specs.Flows.{is_of, words_of, script_of, asked_of, answered_of, device_answers, given_to, replies_to}
 use Rattle.sb_net.specs.Moments.{Moment}
 use Rattle.sb_net.specs.Courses.{flows_over, budget_over, is_carried, goes_over, AlongWay}
 use Rattle.sb_net.specs.Promises.{Forwards, Offers, KeepsPromises}

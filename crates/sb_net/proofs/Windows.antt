@@ -7,12 +7,13 @@ use Rattle.std.proofs.lemmas.List.Elements.{All-nil, All-cons, All-head, All-tai
 use Rattle.sb_packet.specs.Accesses.{Access}
 use Rattle.sb_packet.specs.Memories.{MemoryState, access_step, access_answer}
 use Rattle.sb_packet.specs.Networks.{Network, opening_memory}
-use Rattle.sb_packet.specs.Journals.{journal_accesses}
+use Rattle.sb_packet.specs.Journals.{journal_accesses, is_request}
 use Rattle.sb_packet.specs.Plans.{NetFlow}
 use Rattle.sb_packet.specs.Traffic.{item_accesses}
 use Rattle.sb_packet.specs.declared.entry.Entry.{Entry}
 use Rattle.sb_packet.proofs.Lists.{All-kept}
-use Rattle.sb_net.specs.Flows.{is_of, words_of, is_answered, asked_of, given_to}
+use Rattle.sb_packet.specs.Rings.{is_answered}
+use Rattle.sb_net.specs.Flows.{is_of, words_of, asked_of, given_to}
 use Rattle.sb_net.specs.Moments.{Moment, arrived}
 use Rattle.sb_net.specs.Courses.{Course, way_of, budget_over, came_for, AlongWay}
 use Rattle.sb_net.specs.Promises.{IsLink, IsPort, Forwards}
@@ -26,7 +27,9 @@ use Rattle.sb_net.proofs.FlowMembers.{at_flow}
 use Rattle.sb_net.proofs.Ways.{at_number, at_last}
 use Rattle.sb_net.proofs.Courses.{all_sound, room}
 use Rattle.sb_net.proofs.Answering.{given, answer_is, answered_has_one}
-use Rattle.sb_net.proofs.Journals.{request_course}
+use Rattle.sb_net.proofs.Journals.{request_course, history}
+use Rattle.sb_net.proofs.Prefixes.{All-prefix}
+use Rattle.sb_net.proofs.ScriptFacts.{asked_asks}
 use Rattle.sb_net.proofs.WholeRuns.{answer_course, device_offers}
 use Rattle.sb_net.proofs.FoundReplies.{looks_like}
 use Rattle.sb_net.proofs.Stillness.{quiet_sender, quiet_receiver}
@@ -52,7 +55,7 @@ settled_along network c m links ports room f source k (j ∷ js) ways rests e =
     ∙ sym (ways.0.whole (λ i d below. all_sound network c m links ports (get_or (c.ins j) i d)) (room j)) ∙ here))
 
 -- a word that is answered has among the answers one of its flow that looks like it
-module _ (network : Network) (f : NetFlow) (a : Access) (of_f : is_of network f a ≡ true) (answered : is_answered a.op ≡ true) where
+module _ (network : Network) (f : NetFlow) (a : Access) (of_f : is_of network f a ≡ true) (asks : is_request a.op ≡ true) (answered : is_answered a.op ≡ true) where
   never_missing : (m : MemoryState) (list : List Access) → Contains list a → All (λ x. is_of network f x ≡ true → is_answer_to a x ≡ false) (given m list) → ⊥
   never_missing m [] (i, inside, is) none = absurd (omega arith)
   never_missing m (x ∷ list) (zero, inside, is) none = by_answer (access_answer m a) refl (subst (λ (y : Access). All (λ z. is_of network f z ≡ true → is_answer_to a z ≡ false) (cons_option (access_answer m y) (given (access_step m y) list))) same none)
@@ -61,7 +64,7 @@ module _ (network : Network) (f : NetFlow) (a : Access) (of_f : is_of network f 
       same = is
 
       by_answer : (o : Option Access) → access_answer m a ≡ o → All (λ z. is_of network f z ≡ true → is_answer_to a z ≡ false) (cons_option o (given (access_step m a) list)) → ⊥
-      by_answer None e rest = answered_has_one m a answered e
+      by_answer None e rest = answered_has_one m a asks answered e
       by_answer (Some b) e rest =
           let is = answer_is network m a b e in
           let yes = looks_like network a b is in
@@ -125,9 +128,10 @@ module _ (network : Network) (layout : Layout) (journal : List Entry) (stages : 
           let taken = subst (λ (list : List Access). Contains list misses.word) (sym (came.taken ∙ offered)) misses.offered in
           let words = journal_accesses journal f.device in
           let of_f = All-contains (λ a. is_of network f a ≡ true) (words_of network f words) misses.word (filter_passes (is_of network f) words) taken in
+          let asks = All-contains (λ a. is_request a.op ≡ true) (words_of network f words) misses.word (All-prefix (λ (a : Access). is_request a.op ≡ true) (history network layout journal s.at laid now f) (asked_asks network laid.scripts f)) taken in
           let in_journal = All-contains (Contains words) (words_of network f words) misses.word (All-filter (is_of network f) (Contains words) words (All-contains_itself words)) taken in
           let home = arrived s.at (ring_home layout f) in
           let missing = All-filter (is_of network f) (λ x. is_answer_to misses.word x ≡ false) home (none_found (is_answer_to misses.word) home misses.missing) in
           let not_given = subst (All (λ x. is_answer_to misses.word x ≡ false)) came.back missing in
-          never_missing network f misses.word of_f misses.answered (opening_memory network f.device) words in_journal
+          never_missing network f misses.word of_f asks misses.answered (opening_memory network f.device) words in_journal
           (All-kept (is_of network f) (λ x. is_answer_to misses.word x ≡ false) (given (opening_memory network f.device) words) not_given)

@@ -6,7 +6,8 @@ use Rattle.sb_packet.specs.Networks.{Network}
 use Rattle.sb_packet.specs.Plans.{NetFlow}
 use Rattle.sb_packet.specs.Traffic.{item_accesses}
 use Rattle.sb_packet.specs.declared.entry.Entry.{Entry}
-use Rattle.sb_net.specs.Flows.{words_of, is_among, is_answered}
+use Rattle.sb_packet.specs.Rings.{is_answered}
+use Rattle.sb_net.specs.Flows.{words_of, is_among}
 use Rattle.sb_net.specs.Moments.{Moment, arrived}
 use Rattle.sb_net.specs.Courses.{way_of}
 use Rattle.sb_net.specs.Layouts.{Layout, ring_home}

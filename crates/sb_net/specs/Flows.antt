@@ -2,14 +2,13 @@
 use Rattle.std.specs.Prelude.{ℕ, Bool, ◌&&◌, ◌==◌, true, false, List, [], filter, filter_map}
 use Rattle.std.specs.List.{find, list_any}
 use Rattle.std.specs.Option.{option_map_or}
-use Rattle.sb_word.specs.declared.command.Op.{Op}
-use Rattle.sb_word.specs.declared.command.Op.TheVariants.{ReqRd, ReqWr, ReqWrPosted, ReqAtomic, RespRd, RespWr}
 use Rattle.sb_packet.specs.Accesses.{Access}
 use Rattle.sb_packet.specs.Networks.{Network, device_at}
 use Rattle.sb_packet.specs.Scripts.{script_accesses}
 use Rattle.sb_packet.specs.Journals.{journal_accesses, is_at}
 use Rattle.sb_packet.specs.Answers.{access_run, access_reply}
 use Rattle.sb_packet.specs.Plans.{NetFlow}
+use Rattle.sb_packet.specs.Rings.{is_answered}
 use Rattle.sb_packet.specs.declared.entry.Entry.{Entry}
 
 -- a word is of a flow: of its host, and at its device
@@ -38,15 +37,6 @@ aimed_script network id = filter (λ a. option_map_or (λ d. true) (device_at ne
 -- What a flow's host asks of its device.
 abbrev pub asked_of : Network → NetFlow → List Access
 asked_of network f = words_of network f (script_of network f.host)
-
--- an opcode that is answered; a posted write isn't, nor is an answer
-abbrev pub is_answered : Op → Bool
-is_answered ReqRd = true
-is_answered ReqWr = true
-is_answered ReqWrPosted = false
-is_answered ReqAtomic = true
-is_answered RespRd = false
-is_answered RespWr = false
 
 -- the words of a flow that are answered
 abbrev pub answered_of : Network → NetFlow → List Access

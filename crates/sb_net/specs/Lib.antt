@@ -10,3 +10,5 @@ pub mod Stages
 pub mod Standstills
 pub mod Endings
 pub mod Moves
+pub mod NetworkLayouts
+pub mod NetworkWays

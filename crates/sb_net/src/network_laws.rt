@@ -1,0 +1,34 @@
+//! Laws of the ways of a network: the laws of whole runs hold of it, and say what its rings carried.
+
+ghost use Rattle.std.specs.Prelude.{◌≡◌, ◌<◌, ℕ, List};
+ghost use Rattle.sb_packet.specs.Networks.{Network};
+ghost use Rattle.sb_packet.specs.Rings.{IsCarried, ring_budget};
+ghost use Rattle.sb_packet.specs.declared.entry.Entry.{Entry};
+ghost use Rattle.sb_net.specs.Courses.{budget_over};
+ghost use Rattle.sb_net.specs.Layouts.{IsLayout};
+ghost use Rattle.sb_net.specs.Moments.{Moment, arrived};
+ghost use Rattle.sb_net.specs.NetworkLayouts.{answer_ring, network_answers, network_layout, network_requests, request_ring, ring_count};
+ghost use Rattle.sb_net.specs.NetworkWays.{HasWays};
+ghost use Rattle.sb_net.specs.Wholes.{IsWholeRun};
+
+/// A network whose ways lead to its devices is laid out by the rings of its links.
+pub fn networks_are_laid_out()
+    ensures laid_out { (network : Network) → HasWays network → IsLayout network (network_layout network) }
+{}
+
+/// The budgets of its courses are those of its rings.
+pub fn budgets_are_the_rings()
+    ensures requests { (network : Network) (k : ℕ)
+        → HasWays network → request_ring k < ring_count network
+        → budget_over (network_requests network) (request_ring k) ≡ ring_budget network (request_ring k) }
+    ensures answers { (network : Network) (k : ℕ)
+        → HasWays network → answer_ring k < ring_count network
+        → budget_over (network_answers network) (answer_ring k) ≡ ring_budget network (answer_ring k) }
+{}
+
+/// In a whole run each of its rings carried just what a ring is to carry.
+pub fn rings_carry_their_flows()
+    ensures carried { (network : Network) (journal : List Entry) (m : Moment) (ring : ℕ)
+        → HasWays network → IsWholeRun network (network_layout network) journal m
+        → ring < ring_count network → IsCarried network journal ring (arrived m ring) }
+{}
