@@ -36,7 +36,7 @@ filter-map {X} {Y} p q f (x ∷ xs) same = rw (All-head (λ x. p (f x) ≡ q x) 
     by_test true rest = ap (λ (l : List Y). f x ∷ l) rest
     by_test false rest = rest
 
-list_any-map : {X Y : Type 0} (p : Y → Bool) (f : X → Y) (xs : List X) → list_any p (map f xs) ≡ list_any (λ x. p (f x)) xs
+pub list_any-map : {X Y : Type 0} (p : Y → Bool) (f : X → Y) (xs : List X) → list_any p (map f xs) ≡ list_any (λ x. p (f x)) xs
 list_any-map p f [] = refl
 list_any-map p f (x ∷ xs) = ap (λ (b : Bool). p (f x) || b) (list_any-map p f xs)
 

@@ -54,7 +54,7 @@ of_one P x h = All-from_recursion P (x ∷ []) (h, tt)
 no_pairs : {A : Type 0} (R : A → A → Type 0) (xs : List A) → length xs ≤ 1 → AllPairs R xs
 no_pairs R xs few i j d below inside = absurd (omega arith)
 
-scripts_of_small : HasScripts small
+pub scripts_of_small : HasScripts small
 scripts_of_small = record {
   transactions = of_one (λ host. All IsTransaction host.script) cpu (All-from_recursion IsTransaction cpu.script (
     record { size = lit≤ tt; some = lit< tt; most = lit≤ tt; atomic = tt; body = refl; aligned = refl; page = lit≤ tt; range = lit< tt },

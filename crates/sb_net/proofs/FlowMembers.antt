@@ -33,7 +33,7 @@ one_number (Some k) d e p q = grind (arith, nat_tests)
 pub same_flow_from : (f g : NetFlow) → f.host ≡ g.host → (f.device == g.device) ≡ true → is_same_flow f g ≡ true
 same_flow_from f g e d = let same : (f.host == g.host) ≡ true = grind (arith, nat_tests) in rw (same, d) refl
 
-and_parts : (a b : Bool) → (a && b) ≡ true → (a ≡ true) × (b ≡ true)
+pub and_parts : (a b : Bool) → (a && b) ≡ true → (a ≡ true) × (b ≡ true)
 and_parts true true e = (refl, refl)
 and_parts true false e = absurd (cc)
 and_parts false b e = absurd (cc)

@@ -42,7 +42,7 @@ filter_within {A} p q (x ∷ xs) h = by_tests (p x) refl (q x) refl (filter_with
     by_tests false t false u rest = rest
 
 -- a place that is found is one of the list
-place_below : {A : Type 0} (test : A → Bool) (i k : ℕ) (xs : List A) → position_from test i xs ≡ Some k → k < i + length xs
+pub place_below : {A : Type 0} (test : A → Bool) (i k : ℕ) (xs : List A) → position_from test i xs ≡ Some k → k < i + length xs
 place_below test i k [] e = absurd (cc)
 place_below {A} test i k (x ∷ xs) e = by_test (test x) e (place_below test (i + 1) k xs)
   where

@@ -29,3 +29,10 @@ pub mod RingsOfWays
 pub mod LinksToDevices
 pub mod NetworkLaidOut
 pub mod CarriedRings
+pub mod WalkedWays
+pub mod ListPlaces
+pub mod RoutedWays
+pub mod AskedWays
+pub mod WaysOfRouted
+pub mod RisingStages
+pub mod ExampleRouted

@@ -46,13 +46,13 @@ module _ (network : Network) where
   flow_way f (k ∷ js) is way start = record { head = k; tail = js; links = is; way = way; start = start }
 
   -- by the rings of requests a flow takes its links, and by the rings of answers the same
-  requests_way : (f : NetFlow) (w : FlowWay network f) → way_of (network_requests network) f ≡ map request_ring (w.head ∷ w.tail)
+  pub requests_way : (f : NetFlow) (w : FlowWay network f) → way_of (network_requests network) f ≡ map request_ring (w.head ∷ w.tail)
   requests_way f w = ap (λ (l : List ℕ). request_ring (slice_index_or l 0 0) ∷ map request_ring (drop 1 l)) w.links
 
   back_links : (f : NetFlow) (w : FlowWay network f) → reverse (flow_links network f) ≡ last_of w.head w.tail ∷ (reversed w.head w.tail).rest
   back_links f w = ap reverse w.links ∙ (reversed w.head w.tail).is
 
-  answers_way : (f : NetFlow) (w : FlowWay network f) → way_of (network_answers network) f ≡ map answer_ring (reverse (w.head ∷ w.tail))
+  pub answers_way : (f : NetFlow) (w : FlowWay network f) → way_of (network_answers network) f ≡ map answer_ring (reverse (w.head ∷ w.tail))
   answers_way f w =
       ap (λ (l : List ℕ). answer_ring (slice_index_or l 0 0) ∷ map answer_ring (drop 1 l)) (back_links f w)
       ∙ ap (map answer_ring) (sym (reversed w.head w.tail).is)
@@ -113,7 +113,7 @@ module _ (network : Network) where
         let way = get_or (network_ways network) k w in
         flow_way (flow_of way) way.links (ways.found k w below) (ways.ways k w below) (ways.starts k w below)
 
-    flow_ways : All (FlowWay network) (network_flows network)
+    pub flow_ways : All (FlowWay network) (network_flows network)
     flow_ways = All-map (FlowWay network) flow_of (network_ways network) way_flows
 
     one_way : (r : ℕ) → IsOneWay (network_requests network) r

@@ -19,7 +19,7 @@ use Rattle.sb_net.specs.Flows.{is_of, words_of, script_of, asked_of}
 use Rattle.sb_net.specs.Layouts.{HasScripts}
 
 -- what is found passes the test, and is one of the list
-found_fact : {A : Type 0} (P : A → Type 0) (test : A → Bool) (xs : List A) (x : A) → find test xs ≡ Some x → All P xs → (test x ≡ true) × P x
+pub found_fact : {A : Type 0} (P : A → Type 0) (test : A → Bool) (xs : List A) (x : A) → find test xs ≡ Some x → All P xs → (test x ≡ true) × P x
 found_fact P test [] x e h = absurd (cc)
 found_fact {A} P test (y ∷ ys) x e h = by_test (test y) refl e (λ later. found_fact P test ys x later (All-tail P y ys h))
   where
@@ -27,7 +27,7 @@ found_fact {A} P test (y ∷ ys) x e h = by_test (test y) refl e (λ later. foun
     by_test true t e later = let same : y ≡ x = cc in (subst (λ (z : A). test z ≡ true) same t, subst P same (All-head P y ys h))
     by_test false t e later = later e
 
-asks : (kind : Kind) → is_request (request_of kind) ≡ true
+pub asks : (kind : Kind) → is_request (request_of kind) ≡ true
 asks Read = refl
 asks Write = refl
 asks Posted = refl

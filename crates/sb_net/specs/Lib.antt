@@ -12,3 +12,5 @@ pub mod Endings
 pub mod Moves
 pub mod NetworkLayouts
 pub mod NetworkWays
+pub mod Routed
+pub mod NetworkStages

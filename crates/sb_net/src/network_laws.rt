@@ -1,15 +1,24 @@
 //! Laws of the ways of a network: the laws of whole runs hold of it, and say what its rings carried.
 
-ghost use Rattle.std.specs.Prelude.{◌≡◌, ◌<◌, ℕ, List};
+ghost use Rattle.std.specs.Prelude.{◌≡◌, ◌<◌, ℕ, List, All};
 ghost use Rattle.sb_packet.specs.Networks.{Network};
 ghost use Rattle.sb_packet.specs.Rings.{IsCarried, ring_budget};
 ghost use Rattle.sb_packet.specs.declared.entry.Entry.{Entry};
 ghost use Rattle.sb_net.specs.Courses.{budget_over};
 ghost use Rattle.sb_net.specs.Layouts.{IsLayout};
 ghost use Rattle.sb_net.specs.Moments.{Moment, arrived};
-ghost use Rattle.sb_net.specs.NetworkLayouts.{answer_ring, network_answers, network_layout, network_requests, request_ring, ring_count};
+ghost use Rattle.sb_net.specs.Endings.{IsWithin};
+ghost use Rattle.sb_net.specs.NetworkLayouts.{answer_ring, network_answers, network_flows, network_layout, network_requests, request_ring, ring_count};
+ghost use Rattle.sb_net.specs.NetworkStages.{network_stages};
 ghost use Rattle.sb_net.specs.NetworkWays.{HasWays};
+ghost use Rattle.sb_net.specs.Routed.{IsRouted};
+ghost use Rattle.sb_net.specs.Stages.{Rises};
 ghost use Rattle.sb_net.specs.Wholes.{IsWholeRun};
+
+/// Where links and routes lead on, each way leads to its device, and there is one wherever a host aims.
+pub fn routed_networks_have_ways()
+    ensures ways { (network : Network) → IsRouted network → HasWays network }
+{}
 
 /// A network whose ways lead to its devices is laid out by the rings of its links.
 pub fn networks_are_laid_out()
@@ -24,6 +33,14 @@ pub fn budgets_are_the_rings()
     ensures answers { (network : Network) (k : ℕ)
         → HasWays network → answer_ring k < ring_count network
         → budget_over (network_answers network) (answer_ring k) ≡ ring_budget network (answer_ring k) }
+{}
+
+/// Its stages rise along each ring, and its ways are made of its rings.
+pub fn stages_rise()
+    ensures rises { (network : Network) (ring : ℕ) → IsRouted network → Rises (network_stages network) ring }
+    ensures within { (network : Network)
+        → IsRouted network
+        → All (IsWithin (network_stages network) (network_layout network)) (network_flows network) }
 {}
 
 /// In a whole run each of its rings carried just what a ring is to carry.
