@@ -55,23 +55,23 @@ module _ (network : Network) (ways : HasWays network) where
       (network_ways network) ways.hosts
 
   -- the flows over the rings of a link are those of the ways that have it
-  flows_there : (k : ℕ) → flows_over (network_requests network) (request_ring k) ≡ map flow_of (link_ways network k)
+  pub flows_there : (k : ℕ) → flows_over (network_requests network) (request_ring k) ≡ map flow_of (link_ways network k)
   flows_there k = filter-map (goes_over (network_requests network) (request_ring k)) (has_link k) flow_of (network_ways network)
       (λ i w below. let way = get_or (network_ways network) i w in let flow : FlowWay network (flow_of way) = way_flows network ways i w below in
       goes_there network (flow_of way) flow k ∙ ap (is_in k) (sym flow.links ∙ ways.found i w below))
 
-  flows_back : (k : ℕ) → flows_over (network_answers network) (answer_ring k) ≡ map flow_of (link_ways network k)
+  pub flows_back : (k : ℕ) → flows_over (network_answers network) (answer_ring k) ≡ map flow_of (link_ways network k)
   flows_back k = filter-map (goes_over (network_answers network) (answer_ring k)) (has_link k) flow_of (network_ways network)
       (λ i w below. let way = get_or (network_ways network) i w in let flow : FlowWay network (flow_of way) = way_flows network ways i w below in
       goes_back network (flow_of way) flow k ∙ ap (is_in k) (sym flow.links ∙ ways.found i w below))
 
-  request_ways : (k : ℕ) → k < length network.links → ring_ways network (request_ring k) ≡ link_ways network k
+  pub request_ways : (k : ℕ) → k < length network.links → ring_ways network (request_ring k) ≡ link_ways network k
   request_ways k here =
       let half : 2 * k / 2 ≡ k = omega arith in
       let there : nat_lt k (length network.links) ≡ true = grind (arith, nat_tests) in
       rw (half, there) refl
 
-  answer_ways : (k : ℕ) → k < length network.links → ring_ways network (answer_ring k) ≡ link_ways network k
+  pub answer_ways : (k : ℕ) → k < length network.links → ring_ways network (answer_ring k) ≡ link_ways network k
   answer_ways k here =
       let half : (2 * k + 1) / 2 ≡ k = omega arith in
       let there : nat_lt k (length network.links) ≡ true = grind (arith, nat_tests) in

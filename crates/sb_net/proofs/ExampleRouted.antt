@@ -1,8 +1,9 @@
 -- The example's network is routed: so its layout and its stages are those that its links give.
-use Rattle.std.proofs.Common.{◌≡◌, ◌<◌, lit<, ℕ, zero, suc, ◌%◌, true, Some, refl, arith, [], ◌∷◌, inl}
-use Rattle.std.specs.Prelude.{map, All}
+use Rattle.std.proofs.Common.{◌≡◌, ◌<◌, lit<, lit≤, ℕ, zero, suc, ◌%◌, true, Some, refl, arith, [], ◌∷◌, inl}
+use Rattle.std.specs.Prelude.{map, All, false, slice_get}
+use Rattle.std.specs.Option.{option_map_or}
 use Rattle.std.proofs.lemmas.List.Elements.{All-from_recursion}
-use Rattle.sb_packet.specs.Networks.{NetHost}
+use Rattle.sb_packet.specs.Networks.{NetHost, has_address}
 use Rattle.sb_packet.specs.Ways.{aims_at, route_at, router_before, router_after, way_links}
 use Rattle.sb_net.specs.NetworkLayouts.{network_flows, network_requests, network_answers}
 use Rattle.sb_net.specs.NetworkStages.{network_stages}
@@ -25,6 +26,11 @@ the_link : (d k : ℕ) → is_link_to small d k ≡ true → k ≡ 1
 the_link d zero e = absurd (cc)
 the_link d (suc zero) e = refl
 the_link d (suc (suc k)) e = absurd (cc)
+
+apart_in_small : (address d e : ℕ) → option_map_or (has_address address) (slice_get small.devices d) false ≡ true → option_map_or (has_address address) (slice_get small.devices e) false ≡ true → d ≡ e
+apart_in_small address zero zero p q = refl
+apart_in_small address zero (suc e) p q = absurd (cc)
+apart_in_small address (suc d) e p q = absurd (cc)
 
 there_in_small : (k q : ℕ) → router_after small k ≡ Some q → q < 1
 there_in_small zero q e = let same : 0 ≡ q = cc in omega arith
@@ -55,6 +61,8 @@ unbroken_in_small zero (suc d) host inside there aims = absurd (omega arith)
 pub small_is_routed : IsRouted small
 small_is_routed = record {
   scripts = scripts_of_small;
+  few = lit≤ tt;
+  apart = apart_in_small;
   pages = of_one (λ d. d.base % 4096 ≡ 0) _ refl;
   first = first_of_small;
   linked = linked_in_small;

@@ -36,3 +36,5 @@ pub mod AskedWays
 pub mod WaysOfRouted
 pub mod RisingStages
 pub mod ExampleRouted
+pub mod PlannedWords
+pub mod CarriedPlans

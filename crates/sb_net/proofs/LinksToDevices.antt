@@ -9,11 +9,11 @@ use Rattle.sb_net.specs.NetworkWays.{is_link_to, HasWays}
 
 module _ {A : Type 0} (test : A → Bool) where
   -- a place that passes
-  record Passes (xs : List A) (at : ℕ) : Type 0 where
-    inside : at < length xs
-    passes : option_map_or test (slice_get xs at) false ≡ true
+  pub record Passes (xs : List A) (at : ℕ) : Type 0 where
+    pub inside : at < length xs
+    pub passes : option_map_or test (slice_get xs at) false ≡ true
 
-  found_place : (i k : ℕ) (xs : List A) → position_from test i xs ≡ Some k → (j : ℕ) × (k ≡ i + j) × Passes xs j
+  pub found_place : (i k : ℕ) (xs : List A) → position_from test i xs ≡ Some k → (j : ℕ) × (k ≡ i + j) × Passes xs j
   found_place i k [] e = absurd (cc)
   found_place i k (x ∷ xs) e = by_test (test x) refl e (found_place (i + 1) k xs)
     where
@@ -21,7 +21,7 @@ module _ {A : Type 0} (test : A → Bool) where
       by_test true t e later = let same : i ≡ k = cc in (0, omega arith, record { inside = omega arith; passes = t })
       by_test false t e later = let rest = later e in (suc rest.0, omega (arith, rest.1), record { inside = let h = rest.2.inside in omega arith; passes = rest.2.passes })
 
-  none_found : (i j : ℕ) (xs : List A) → position_from test i xs ≡ None → option_map_or test (slice_get xs j) false ≡ true → ⊥
+  pub none_found : (i j : ℕ) (xs : List A) → position_from test i xs ≡ None → option_map_or test (slice_get xs j) false ≡ true → ⊥
   none_found i j [] e p = cc
   none_found i zero (x ∷ xs) e p = let never : Some i ≡ None = ap (λ (b : Bool). cond b (Some i) (position_from test (i + 1) xs)) (sym p) ∙ e in cc
   none_found i (suc j) (x ∷ xs) e p = by_test (test x) e (λ later. none_found (i + 1) j xs later p)

@@ -1,6 +1,7 @@
 -- When the routes of a network lead each flow to its device. An accepted network is routed.
-use Rattle.std.specs.Prelude.{◌≡◌, ◌<◌, ◌%◌, ℕ, true, ◌⊎◌, length, All, Some, None}
-use Rattle.sb_packet.specs.Networks.{NetHost, Network}
+use Rattle.std.specs.Prelude.{◌≡◌, ◌≤◌, ◌<◌, ◌%◌, ℕ, true, false, slice_get, ◌⊎◌, length, All, Some, None}
+use Rattle.std.specs.Option.{option_map_or}
+use Rattle.sb_packet.specs.Networks.{NetHost, Network, has_address}
 use Rattle.sb_packet.specs.Ways.{aims_at, first_link, route_at, router_before, router_after, way_links}
 use Rattle.sb_net.specs.Layouts.{HasScripts}
 use Rattle.sb_net.specs.NetworkWays.{is_link_to}
@@ -26,8 +27,10 @@ pub record IsFirstLink (network : Network) (h k : ℕ) : Type 0 where
 -- Links and routes lead on, and no route is missing where a host aims.
 pub record IsRouted (network : Network) : Type 0 where
   pub scripts : HasScripts network
-  -- devices begin with a page
+  -- at most 32 devices, which begin with a page, and none of which has an address of another
+  pub few : length network.devices ≤ 32
   pub pages : All (λ d. d.base % 4096 ≡ 0) network.devices
+  pub apart : (address d e : ℕ) → option_map_or (has_address address) (slice_get network.devices d) false ≡ true → option_map_or (has_address address) (slice_get network.devices e) false ≡ true → d ≡ e
   -- each host has a link to a router, and one link leads to each device
   pub first : (h : ℕ) → h < length network.hosts → (k : ℕ) × IsFirstLink network h k
   pub linked : (d : ℕ) → d < length network.devices → (k : ℕ) × (k < length network.links) × (is_link_to network d k ≡ true)

@@ -1,10 +1,12 @@
 //! Laws of the ways of a network: the laws of whole runs hold of it, and say what its rings carried.
 
-ghost use Rattle.std.specs.Prelude.{◌≡◌, ◌<◌, ℕ, List, All};
+ghost use Rattle.std.specs.Prelude.{◌≡◌, ◌<◌, ℕ, true, List, All};
 ghost use Rattle.sb_packet.specs.Networks.{Network};
-ghost use Rattle.sb_packet.specs.Rings.{IsCarried, ring_budget};
+ghost use Rattle.sb_packet.specs.Rings.{IsCarried, ring_budget, ring_plan};
+ghost use Rattle.sb_packet.specs.Traffic.{AreInTurn, item_accesses};
 ghost use Rattle.sb_packet.specs.declared.entry.Entry.{Entry};
-ghost use Rattle.sb_net.specs.Courses.{budget_over};
+ghost use Rattle.sb_packet.specs.declared.item.Item.{Item};
+ghost use Rattle.sb_net.specs.Courses.{budget_over, is_carried};
 ghost use Rattle.sb_net.specs.Layouts.{IsLayout};
 ghost use Rattle.sb_net.specs.Moments.{Moment, arrived};
 ghost use Rattle.sb_net.specs.Endings.{IsWithin};
@@ -41,6 +43,18 @@ pub fn stages_rise()
     ensures within { (network : Network)
         → IsRouted network
         → All (IsWithin (network_stages network) (network_layout network)) (network_flows network) }
+{}
+
+/// What may go over a ring by its plan is words of the ring's flows.
+pub fn planned_words_are_carried()
+    ensures requests { (network : Network) (k : ℕ) (list : List Item)
+        → IsRouted network → request_ring k < ring_count network
+        → AreInTurn (ring_plan network (request_ring k)) list
+        → All (λ a. is_carried network (network_requests network) (request_ring k) a ≡ true) (item_accesses list) }
+    ensures answers { (network : Network) (k : ℕ) (list : List Item)
+        → IsRouted network → answer_ring k < ring_count network
+        → AreInTurn (ring_plan network (answer_ring k)) list
+        → All (λ a. is_carried network (network_answers network) (answer_ring k) a ≡ true) (item_accesses list) }
 {}
 
 /// In a whole run each of its rings carried just what a ring is to carry.
