@@ -52,10 +52,10 @@ routes_of_small zero zero k there inside e = let same : k ≡ 1 = cc in rw same 
 routes_of_small (suc d) r k there inside e = absurd (omega arith)
 routes_of_small zero (suc r) k there inside e = absurd (omega arith)
 
-unbroken_in_small : (h d : ℕ) (host : NetHost) → h < 1 → d < 1 → aims_at small host d ≡ true → All (λ k. (r : ℕ) → router_after small k ≡ Some r → (j : ℕ) × (route_at small d r ≡ Some j)) (way_links small h d)
+unbroken_in_small : (h d : ℕ) (host : NetHost) → slice_get small.hosts h ≡ Some host → d < 1 → aims_at small host d ≡ true → All (λ k. (r : ℕ) → router_after small k ≡ Some r → (j : ℕ) × (route_at small d r ≡ Some j)) (way_links small h d)
 unbroken_in_small zero zero host inside there aims = All-from_recursion (λ k. (r : ℕ) → router_after small k ≡ Some r → (j : ℕ) × (route_at small 0 r ≡ Some j)) (0 ∷ 1 ∷ [])
     (λ r e. (let same : r ≡ 0 = cc in rw same (1, refl)), (λ r e. absurd (cc), tt))
-unbroken_in_small (suc h) d host inside there aims = absurd (omega arith)
+unbroken_in_small (suc h) d host inside there aims = absurd (cc)
 unbroken_in_small zero (suc d) host inside there aims = absurd (omega arith)
 
 pub small_is_routed : IsRouted small

@@ -1,10 +1,11 @@
 -- The ways of a network whose routes lead on lead to its devices, and each is found by its flow.
 use Rattle.std.proofs.Common.{◌≡◌, ◌≢◌, ◌<◌, ℕ, zero, suc, ◌+◌, Bool, true, false, cond, List, [], ◌∷◌, length, refl, sym, ap, ◌∙◌, arith, subst, inr}
-use Rattle.std.specs.Prelude.{◌==◌, ◌&&◌, filter, All, AllPairs, Contains, Option, Some, None, get_or, slice_index_or}
+use Rattle.std.specs.Prelude.{◌==◌, ◌&&◌, filter, All, AllPairs, Contains, Option, Some, None, get_or, slice_get, slice_index_or}
 use Rattle.std.specs.List.{find, enumerate_from, range_with_len}
 use Rattle.std.specs.Option.{option_map_or}
 use Rattle.std.proofs.lemmas.Bool.Decides.{nat_tests}
 use Rattle.std.proofs.lemmas.List.Elements.{All-map, All-filter, All-weaker, filter_passes, Contains-get_or}
+use Rattle.std.proofs.lemmas.Option.{slice_get-get_or}
 use Rattle.std.proofs.lemmas.List.Kept.{AllPairs-filter}
 use Rattle.sb_packet.specs.Networks.{NetHost, Network}
 use Rattle.sb_packet.specs.Ways.{NetWay, aims_at, next_link, links_from, way_links, host_ways, network_ways, is_way_of, flow_links, router_before}
@@ -19,6 +20,7 @@ use Rattle.sb_net.proofs.WalkedWays.{walked}
 record HostWay (network : Network) (way : NetWay) : Type 0 where
   place : ℕ
   inside : place < length network.hosts
+  at : slice_get network.hosts place ≡ Some way.host
   host : Contains network.hosts way.host
   device : way.device < length network.devices
   aims : aims_at network way.host way.device ≡ true
@@ -27,13 +29,14 @@ record HostWay (network : Network) (way : NetWay) : Type 0 where
 module _ (network : Network) where
   all_host_ways : All (HostWay network) (network_ways network)
   all_host_ways = All-joined (HostWay network) (λ p. host_ways network p.0 p.1) (enumerate_from 0 network.hosts)
-      (All-enumerated (λ p. All (HostWay network) (host_ways network p.0 p.1)) 0 network.hosts (λ h host below. of_host (0 + h) (get_or network.hosts h host) (omega arith) (Contains-get_or network.hosts h host below)))
+      (All-enumerated (λ p. All (HostWay network) (host_ways network p.0 p.1)) 0 network.hosts (λ h host below. of_host (0 + h) (get_or network.hosts h host) (omega arith) (let same : 0 + h ≡ h = omega arith in rw same (slice_get-get_or network.hosts h host below)) (Contains-get_or network.hosts h host below)))
     where
-      of_host : (h : ℕ) (host : NetHost) → h < length network.hosts → Contains network.hosts host → All (HostWay network) (host_ways network h host)
-      of_host h host inside contains = All-map (HostWay network) (λ d. record { host = host; device = d; links = way_links network h d }) (filter (aims_at network host) (range_with_len 0 (length network.devices)))
+      of_host : (h : ℕ) (host : NetHost) → h < length network.hosts → slice_get network.hosts h ≡ Some host → Contains network.hosts host → All (HostWay network) (host_ways network h host)
+      of_host h host inside at contains = All-map (HostWay network) (λ d. record { host = host; device = d; links = way_links network h d }) (filter (aims_at network host) (range_with_len 0 (length network.devices)))
           (λ k d below. record {
             place = h;
             inside = inside;
+            at = at;
             host = contains;
             device = All-filter (aims_at network host) (λ e. e < length network.devices) (range_with_len 0 (length network.devices)) (range_below (length network.devices)) k d below;
             aims = filter_passes (aims_at network host) (range_with_len 0 (length network.devices)) k d below;
@@ -82,9 +85,9 @@ module _ (network : Network) where
 
   module _ (routed : IsRouted network) where
     -- a host's way to a device that it aims at, link by link
-    way_walked : (h d : ℕ) (host : NetHost) → h < length network.hosts → d < length network.devices → aims_at network host d ≡ true →
+    way_walked : (h d : ℕ) (host : NetHost) → h < length network.hosts → slice_get network.hosts h ≡ Some host → d < length network.devices → aims_at network host d ≡ true →
         IsWayTo network d (way_links network h d) × (router_before network (slice_index_or (way_links network h d) 0 0) ≡ None)
-    way_walked h d host inside there aims = (rw is (walked network routed d there (length network.routers) k first.there (inr (first.router, first.leads)) (λ q e. omega arith) (rw is at (routed.unbroken h d host inside there aims))), rw is first.leaves)
+    way_walked h d host inside at there aims = (rw is (walked network routed d there (length network.routers) k first.there (inr (first.router, first.leads)) (λ q e. omega arith) (rw is at (routed.unbroken h d host at there aims))), rw is first.leaves)
       where
         k : ℕ
         k = (routed.first h inside).0
@@ -96,11 +99,11 @@ module _ (network : Network) where
         is = ap (links_from (suc (length network.routers)) network d) first.first
 
     pub ways_lead : All (λ way. IsWayTo network way.device way.links) (network_ways network)
-    ways_lead = All-weaker (HostWay network) (λ way. IsWayTo network way.device way.links) (λ way w. subst (IsWayTo network way.device) (sym w.links) (way_walked w.place way.device way.host w.inside w.device w.aims).0) (network_ways network) all_host_ways
+    ways_lead = All-weaker (HostWay network) (λ way. IsWayTo network way.device way.links) (λ way w. subst (IsWayTo network way.device) (sym w.links) (way_walked w.place way.device way.host w.inside w.at w.device w.aims).0) (network_ways network) all_host_ways
 
     pub ways_start : All (λ way. router_before network (slice_index_or way.links 0 0) ≡ None) (network_ways network)
     ways_start = All-weaker (HostWay network) (λ way. router_before network (slice_index_or way.links 0 0) ≡ None)
-        (λ way w. subst (λ (l : List ℕ). router_before network (slice_index_or l 0 0) ≡ None) (sym w.links) (way_walked w.place way.device way.host w.inside w.device w.aims).1) (network_ways network) all_host_ways
+        (λ way w. subst (λ (l : List ℕ). router_before network (slice_index_or l 0 0) ≡ None) (sym w.links) (way_walked w.place way.device way.host w.inside w.at w.device w.aims).1) (network_ways network) all_host_ways
 
   pub ways_hosts : All (λ way. Contains network.hosts way.host) (network_ways network)
   ways_hosts = All-weaker (HostWay network) (λ way. Contains network.hosts way.host) (λ way w. w.host) (network_ways network) all_host_ways

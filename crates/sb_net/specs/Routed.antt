@@ -41,5 +41,5 @@ pub record IsRouted (network : Network) : Type 0 where
   pub forward : (k r q : ℕ) → router_before network k ≡ Some r → router_after network k ≡ Some q → r < q
   -- a route leaves its router and leads on, and each router on a way to a device that a host aims at has one
   pub routes : (d r k : ℕ) → d < length network.devices → r < length network.routers → route_at network d r ≡ Some k → IsRoute network d r k
-  pub unbroken : (h d : ℕ) (host : NetHost) → h < length network.hosts → d < length network.devices → aims_at network host d ≡ true →
+  pub unbroken : (h d : ℕ) (host : NetHost) → slice_get network.hosts h ≡ Some host → d < length network.devices → aims_at network host d ≡ true →
       All (λ k. (r : ℕ) → router_after network k ≡ Some r → (j : ℕ) × (route_at network d r ≡ Some j)) (way_links network h d)
