@@ -38,3 +38,6 @@ pub mod RisingStages
 pub mod ExampleRouted
 pub mod PlannedWords
 pub mod CarriedPlans
+pub mod NoFaults
+pub mod FitLinks
+pub mod AcceptedNetworks

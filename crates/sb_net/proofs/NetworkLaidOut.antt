@@ -27,7 +27,7 @@ pub record FlowWay (network : Network) (f : NetFlow) : Type 0 where
   pub way : IsWayTo network f.device (head ∷ tail)
   pub start : router_before network head ≡ None
 
-named : (r : ℕ) (o : Option ℕ) → is_some_number r o ≡ true → o ≡ Some r
+pub named : (r : ℕ) (o : Option ℕ) → is_some_number r o ≡ true → o ≡ Some r
 named r None e = absurd (cc)
 named r (Some k) e = let same : k ≡ r = grind (arith, nat_tests) in ap Some same
 

@@ -6,6 +6,7 @@ ghost use Rattle.sb_packet.specs.Rings.{IsCarried, ring_budget, ring_plan};
 ghost use Rattle.sb_packet.specs.Traffic.{AreInTurn, item_accesses};
 ghost use Rattle.sb_packet.specs.declared.entry.Entry.{Entry};
 ghost use Rattle.sb_packet.specs.declared.item.Item.{Item};
+ghost use Rattle.sb_flow.specs.Accepted.{IsAccepted};
 ghost use Rattle.sb_net.specs.Courses.{budget_over, is_carried};
 ghost use Rattle.sb_net.specs.Layouts.{IsLayout};
 ghost use Rattle.sb_net.specs.Moments.{Moment, arrived};
@@ -16,6 +17,11 @@ ghost use Rattle.sb_net.specs.NetworkWays.{HasWays};
 ghost use Rattle.sb_net.specs.Routed.{IsRouted};
 ghost use Rattle.sb_net.specs.Stages.{Rises};
 ghost use Rattle.sb_net.specs.Wholes.{IsWholeRun};
+
+/// The links and routes of an accepted network lead on.
+pub fn accepted_networks_are_routed()
+    ensures routed { (network : Network) → IsAccepted network → IsRouted network }
+{}
 
 /// Where links and routes lead on, each way leads to its device, and there is one wherever a host aims.
 pub fn routed_networks_have_ways()
