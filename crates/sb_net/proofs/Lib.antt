@@ -41,3 +41,5 @@ pub mod CarriedPlans
 pub mod NoFaults
 pub mod FitLinks
 pub mod AcceptedNetworks
+pub mod PortSides
+pub mod SidePromises

@@ -14,3 +14,4 @@ pub mod NetworkLayouts
 pub mod NetworkWays
 pub mod Routed
 pub mod NetworkStages
+pub mod RoundSides

@@ -3,3 +3,4 @@
 
 pub mod laws;
 pub mod network_laws;
+pub mod side_laws;
