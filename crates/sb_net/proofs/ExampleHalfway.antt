@@ -87,7 +87,7 @@ half_of_small = record {
   carried_back = half_carried_back;
   recorded = λ d there. let first : d ≡ 0 = omega arith in rw first refl;
   hosts = of_one (IsHost small small_layout halfway) the_flow (record { in_order = same_prefix refl; closed = λ e. refl });
-  devices = of_one (IsDevice small small_layout first_step halfway) the_flow (record { in_order = same_subsequence (item_accesses (half_sent 3)); whole = λ sound few. refl });
+  devices = of_one (IsDevice small small_layout first_step halfway) the_flow (record { whole = λ sound few. refl });
   routers = of_one (λ f. AlongWay (Forwards small small_layout.requests halfway f) 0 (2 ∷ [])) the_flow
       (record { in_order = kept none; whole = λ sound few. refl; closed = λ e. absurd (cc) }, tt);
   routers_back = of_one (λ f. AlongWay (Forwards small small_layout.answers halfway f) 3 (1 ∷ [])) the_flow

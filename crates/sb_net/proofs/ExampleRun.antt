@@ -90,7 +90,7 @@ end_of_small = record {
   carried_back = carried_back;
   recorded = λ d there. let first : d ≡ 0 = omega arith in rw first refl;
   hosts = of_one (IsHost small small_layout the_end) the_flow (record { in_order = same_prefix refl; closed = λ e. refl });
-  devices = of_one (IsDevice small small_layout steps the_end) the_flow (record { in_order = same_subsequence (item_accesses answering); whole = λ sound few. refl });
+  devices = of_one (IsDevice small small_layout steps the_end) the_flow (record { whole = λ sound few. refl });
   routers = of_one (λ f. AlongWay (Forwards small small_layout.requests the_end f) 0 (2 ∷ [])) the_flow
       (record { in_order = same_subsequence (item_accesses asking); whole = λ sound few. refl; closed = λ e. refl }, tt);
   routers_back = of_one (λ f. AlongWay (Forwards small small_layout.answers the_end f) 3 (1 ∷ [])) the_flow

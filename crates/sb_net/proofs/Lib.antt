@@ -43,3 +43,4 @@ pub mod FitLinks
 pub mod AcceptedNetworks
 pub mod PortSides
 pub mod SidePromises
+pub mod DeviceSides

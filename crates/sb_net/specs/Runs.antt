@@ -6,8 +6,8 @@ use Rattle.sb_packet.specs.Journals.{journal_accesses, is_in_round_order}
 use Rattle.sb_packet.specs.Plans.{NetFlow}
 use Rattle.sb_packet.specs.Traffic.{has_close}
 use Rattle.sb_packet.specs.declared.entry.Entry.{Entry}
-use Rattle.sb_packet.specs.Prefixes.{IsPrefix, IsSubsequence}
-use Rattle.sb_net.specs.Flows.{words_of, aimed_script, device_answers, given_to}
+use Rattle.sb_packet.specs.Prefixes.{IsPrefix}
+use Rattle.sb_net.specs.Flows.{aimed_script, device_answers}
 use Rattle.sb_net.specs.Moments.{Moment, arrived, AreSound}
 use Rattle.sb_net.specs.Courses.{budget_over, CarriesItsFlows, AlongWay}
 use Rattle.sb_net.specs.Promises.{IsLink, IsPort, Forwards}
@@ -18,10 +18,9 @@ pub record IsHost (network : Network) (layout : Layout) (m : Moment) (f : NetFlo
   pub in_order : IsPrefix (m.offered (layout.requests.first f)) (aimed_script network f.host)
   pub closed : has_close (m.sent (layout.requests.first f)) ≡ true → m.offered (layout.requests.first f) ≡ aimed_script network f.host
 
--- A device, for one of its flows: it offers the answers to what it took, perhaps with some left out;
--- and none is left out while all that came is sound and the answers are within the budget of the ring that they go by.
+-- A device, for one of its flows: it offers the answers to what it took, in order, and leaves none out while all that came is sound and
+-- the answers are within the budget of the ring that they go by.
 pub record IsDevice (network : Network) (layout : Layout) (journal : List Entry) (m : Moment) (f : NetFlow) : Type 0 where
-  pub in_order : IsSubsequence (words_of network f (m.offered (layout.answers.first f))) (given_to network journal f)
   pub whole : AreSound (m.received (layout.into f.device)) →
       length (device_answers network journal f.device) ≤ budget_over layout.answers (layout.answers.first f) →
       m.offered (layout.answers.first f) ≡ device_answers network journal f.device

@@ -1,6 +1,7 @@
 //! Whole runs of a network: for now the laws on which they rest, over plain data.
 #![tactic(auto)]
 
+pub mod device_laws;
 pub mod laws;
 pub mod network_laws;
 pub mod side_laws;

@@ -1,0 +1,9 @@
+-- A device that served what came in keeps a device's promise.
+use Rattle.sb_net.proofs.DeviceSides.{device_promise, device_records}
+use Rattle.sb_net.proofs.device_laws.devices_keep_their_promise.Goals as goal
+
+pub returns-clause-promise : goal.returns-clause-promise
+returns-clause-promise c = λ network layout journal entries m f memory ring port got has budget same served. device_promise network layout journal entries m f memory ring port got has budget same served
+
+pub returns-clause-recorded : goal.returns-clause-recorded
+returns-clause-recorded c = λ layout journal entries m d ring got same packets. device_records layout journal entries m d ring got same packets

@@ -1,0 +1,52 @@
+//! Laws of devices as they stand in a network: they keep the promises on which whole runs rest.
+
+ghost use Rattle.std.specs.Prelude.{◌≡◌, ◌<◌, ℕ, false, List, [], ◌∷◌, None};
+ghost use Rattle.sb_device.specs.Served.{HasServed, entry_accesses, entry_packets, item_packets};
+ghost use Rattle.sb_device.specs.Steps.{IsBlockedPort};
+ghost use Rattle.sb_node.specs.Idle.{IsIdleAt};
+ghost use Rattle.sb_node.specs.Sides.{PortSide, RingSide, has_ended};
+ghost use Rattle.sb_packet.specs.Journals.{journal_accesses};
+ghost use Rattle.sb_packet.specs.Memories.{MemoryState};
+ghost use Rattle.sb_packet.specs.Networks.{Network, opening_memory};
+ghost use Rattle.sb_packet.specs.Plans.{NetFlow};
+ghost use Rattle.sb_packet.specs.declared.entry.Entry.{Entry};
+ghost use Rattle.sb_port.specs.Ports.{IsFit};
+ghost use Rattle.sb_net.specs.Courses.{budget_over};
+ghost use Rattle.sb_net.specs.Layouts.{Layout};
+ghost use Rattle.sb_net.specs.Moments.{Moment, arrived};
+ghost use Rattle.sb_net.specs.RoundSides.{HasPort, HasRing, ShowsPort, ShowsRing};
+ghost use Rattle.sb_net.specs.Runs.{IsDevice};
+ghost use Rattle.sb_net.specs.Stages.{Stages};
+ghost use Rattle.sb_net.specs.Standstills.{IsIdleReceiver, IsIdleSender, RoundEnd};
+
+/// A device that served what came in keeps a device's promise, where the journal has its entries.
+pub fn devices_keep_their_promise()
+    ensures promise { (network : Network) (layout : Layout) (journal entries : List Entry) (m : Moment) (f : NetFlow)
+        (memory : MemoryState) (ring : RingSide) (port : PortSide)
+        → HasRing m (layout.into f.device) ring → HasPort m (layout.answers.first f) port
+        → port.plan.budget ≡ budget_over layout.answers (layout.answers.first f)
+        → journal_accesses journal f.device ≡ entry_accesses entries
+        → HasServed (opening_memory network f.device) memory entries ring port
+        → IsDevice network layout journal m f }
+    ensures recorded { (layout : Layout) (journal entries : List Entry) (m : Moment) (d : ℕ) (ring : RingSide)
+        → HasRing m (layout.into d) ring
+        → journal_accesses journal d ≡ entry_accesses entries → entry_packets entries ≡ item_packets ring.received
+        → journal_accesses journal d ≡ arrived m (layout.into d) }
+{}
+
+/// A device that did nothing in its turn is idle at the ring that leads to it, and at the ring that leads back.
+pub fn idle_devices_are_idle()
+    ensures receiver { (stages : Stages) (s : RoundEnd) (into back : ℕ) (ring : RingSide) (port : PortSide)
+        → ShowsRing s into ring → ShowsPort s back port
+        → back < stages.rings → stages.from back ≡ stages.to into
+        → s.holds into ≡ None → s.at.held into ≡ []
+        → IsIdleAt (λ ring. IsBlockedPort port) (port ∷ []) (ring ∷ [])
+        → IsIdleReceiver stages s into }
+    ensures sender { (stages : Stages) (s : RoundEnd) (into back : ℕ) (ring : RingSide) (port : PortSide)
+        → ShowsRing s into ring → ShowsPort s back port
+        → into < stages.rings → stages.goes_out into ≡ false → stages.from back ≡ stages.to into
+        → stages.leaves_host back ≡ false
+        → IsFit port.plan port.state → port.state.closing ≡ has_ended ring
+        → IsIdleAt (λ ring. IsBlockedPort port) (port ∷ []) (ring ∷ [])
+        → IsIdleSender stages s back }
+{}
