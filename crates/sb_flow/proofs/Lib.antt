@@ -24,3 +24,4 @@ pub mod ReadPlans
 pub mod AcceptedLinks
 pub mod WayCourses
 pub mod AcceptedExample
+pub mod SampleNetworks

@@ -13,3 +13,4 @@ pub mod Tables
 pub mod Counts
 pub mod Gathered
 pub mod LoadOf
+pub mod Samples

@@ -18,6 +18,8 @@ mod place;
 mod ranges;
 mod router_plan;
 mod script_counts;
+#[cfg(test)]
+mod tests;
 mod walk;
 
 pub use addresses::target;
