@@ -20,6 +20,8 @@ mod router_plan;
 mod script_counts;
 #[cfg(test)]
 mod tests;
+#[cfg(test)]
+mod twin_tests;
 mod walk;
 
 pub use addresses::target;

@@ -19,7 +19,7 @@ use std::alloc::Global;
 use std::test::Fail;
 
 /// A name of three letters, of which the last two count.
-fn label(letter: u8, n: u8) -> Result<Name, Fail>
+pub fn label(letter: u8, n: u8) -> Result<Name, Fail>
     ensures { IfOk result (λ name. name ≡ label_of letter n) }
 {
     let text = [letter, 97 + n / 26, 97 + n % 26];
@@ -187,5 +187,25 @@ fn one_page_is_aimed_at(rt: HostRuntime) -> Result<(), Fail> {
     assert_eq!(rt; target(&bundle, 4096), Some(0));
     assert_eq!(rt; target(&bundle, 8191), Some(0));
     assert_eq!(rt; target(&bundle, 8192), None);
+    Ok(())
+}
+
+/// The plan of a ring in the middle of the chain, where the wire is, and those of the wire's far ends.
+#[test]
+fn chain_is_planned(rt: HostRuntime) -> Result<(), Fail> {
+    let bundle = chain(rt.alloc())?;
+    let paths = Paths::new(rt.alloc(), &bundle)?;
+    let down = paths.plan(&bundle, 32);
+    let up = paths.plan(&bundle, 33);
+    let far_down = paths.plan(&bundle, 66);
+    let far_up = paths.plan(&bundle, 67);
+    assert_eq!(rt; (down.ring, down.up, down.width, down.capacity, down.budget), (32, false, 32, 17, 3));
+    assert_eq!(rt; (up.ring, up.up, up.width, up.capacity, up.budget), (33, true, 32, 17, 2));
+    assert_eq!(rt; (far_down.ring, far_down.up, far_down.width, far_down.capacity, far_down.budget), (66, false, 32, 17, 3));
+    assert_eq!(rt; (far_up.ring, far_up.up, far_up.width, far_up.capacity, far_up.budget), (67, true, 32, 17, 2));
+    assert_eq!(rt; down.flows.count, 1);
+    assert_eq!(rt; down.flows.base, far_up.flows.base);
+    assert_eq!(rt; far_up.flows.through, down.flows.through);
+    assert_eq!(rt; down.flows, far_down.flows);
     Ok(())
 }
