@@ -58,7 +58,8 @@ chain_rows_accepted hosts routers devices links same = subst (λ (n : Network). 
 pub twin_lines : All IsTransaction twin_script
 twin_lines = All-from_recursion IsTransaction twin_script (
   record { size = lit≤ tt; some = lit≤ tt; most = lit≤ tt; atomic = tt; body = refl; aligned = refl; page = lit≤ tt; range = lit≤ tt },
-  (record { size = lit≤ tt; some = lit≤ tt; most = lit≤ tt; atomic = tt; body = refl; aligned = refl; page = lit≤ tt; range = lit≤ tt }, tt))
+  (record { size = lit≤ tt; some = lit≤ tt; most = lit≤ tt; atomic = tt; body = refl; aligned = refl; page = lit≤ tt; range = lit≤ tt }, tt),
+)
 
 pub twins_are_accepted : IsAccepted twins
 twins_are_accepted = record {
@@ -84,9 +85,9 @@ pub twin_rows_accepted : (hosts : List HostPlan) (routers : List RouterPlan) (de
 twin_rows_accepted hosts routers devices links hosts_are routers_are devices_are links_are =
     let two : length devices ≡ 2 = sym (length-map devices device_of) ∙ ap length devices_are in
     let same : rows_network hosts routers devices links None ≡ twins =
-      ap (λ (hs : List NetHost). let n : Network = record { hosts = hs; routers = map (router_of (length devices)) routers; devices = map device_of devices; links = map link_of links; wire = None } in n) hosts_are
-      ∙ ap (λ (n : ℕ). let net : Network = record { hosts = twin_hosts; routers = map (router_of n) routers; devices = map device_of devices; links = map link_of links; wire = None } in net) two
-      ∙ ap (λ (rs : List NetRouter). let n : Network = record { hosts = twin_hosts; routers = rs; devices = map device_of devices; links = map link_of links; wire = None } in n) routers_are
-      ∙ ap (λ (ds : List NetDevice). let n : Network = record { hosts = twin_hosts; routers = twin_routers; devices = ds; links = map link_of links; wire = None } in n) devices_are
-      ∙ ap (λ (ls : List NetLink). let n : Network = record { hosts = twin_hosts; routers = twin_routers; devices = page_device 0 ∷ page_device 1 ∷ []; links = ls; wire = None } in n) links_are in
+    ap (λ (hs : List NetHost). let n : Network = record { hosts = hs; routers = map (router_of (length devices)) routers; devices = map device_of devices; links = map link_of links; wire = None } in n) hosts_are
+    ∙ ap (λ (n : ℕ). let net : Network = record { hosts = twin_hosts; routers = map (router_of n) routers; devices = map device_of devices; links = map link_of links; wire = None } in net) two
+    ∙ ap (λ (rs : List NetRouter). let n : Network = record { hosts = twin_hosts; routers = rs; devices = map device_of devices; links = map link_of links; wire = None } in n) routers_are
+    ∙ ap (λ (ds : List NetDevice). let n : Network = record { hosts = twin_hosts; routers = twin_routers; devices = ds; links = map link_of links; wire = None } in n) devices_are
+    ∙ ap (λ (ls : List NetLink). let n : Network = record { hosts = twin_hosts; routers = twin_routers; devices = page_device 0 ∷ page_device 1 ∷ []; links = ls; wire = None } in n) links_are in
     subst (λ (n : Network). IsAccepted n) (sym same) twins_are_accepted

@@ -199,10 +199,34 @@ fn chain_is_planned(rt: HostRuntime) -> Result<(), Fail> {
     let up = paths.plan(&bundle, 33);
     let far_down = paths.plan(&bundle, 66);
     let far_up = paths.plan(&bundle, 67);
-    assert_eq!(rt; (down.ring, down.up, down.width, down.capacity, down.budget), (32, false, 32, 17, 3));
-    assert_eq!(rt; (up.ring, up.up, up.width, up.capacity, up.budget), (33, true, 32, 17, 2));
-    assert_eq!(rt; (far_down.ring, far_down.up, far_down.width, far_down.capacity, far_down.budget), (66, false, 32, 17, 3));
-    assert_eq!(rt; (far_up.ring, far_up.up, far_up.width, far_up.capacity, far_up.budget), (67, true, 32, 17, 2));
+    assert_eq!(rt;
+        (down.ring, down.up, down.width, down.capacity, down.budget),
+        (32, false, 32, 17, 3)
+    );
+    assert_eq!(rt;
+        (up.ring, up.up, up.width, up.capacity, up.budget),
+        (33, true, 32, 17, 2)
+    );
+    assert_eq!(rt;
+        (
+            far_down.ring,
+            far_down.up,
+            far_down.width,
+            far_down.capacity,
+            far_down.budget
+        ),
+        (66, false, 32, 17, 3)
+    );
+    assert_eq!(rt;
+        (
+            far_up.ring,
+            far_up.up,
+            far_up.width,
+            far_up.capacity,
+            far_up.budget
+        ),
+        (67, true, 32, 17, 2)
+    );
     assert_eq!(rt; down.flows.count, 1);
     assert_eq!(rt; down.flows.base, far_up.flows.base);
     assert_eq!(rt; far_up.flows.through, down.flows.through);

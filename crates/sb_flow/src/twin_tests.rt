@@ -20,10 +20,16 @@ use std::test::Fail;
 
 /// A read of words of 8 bytes.
 fn read(alloc: Global, addr: u64, count: u16) -> Txn
-    ensures { result ≡ record { kind = Read; size = 3; addr = addr; count = count; body = [] } }
+    ensures { result ≡ record { kind = Kind.Read; size = 3; addr = addr; count = count; body = [] } }
 {
     let body = Bytes::new(Vec::new(alloc));
-    Txn { kind: Kind::Read, size: 3, addr, count, body }
+    Txn {
+        kind: Kind::Read,
+        size: 3,
+        addr,
+        count,
+        body,
+    }
 }
 
 /// The hosts: the first reads at both devices.
@@ -35,8 +41,20 @@ fn hosts(alloc: Global) -> Result<Vec<HostPlan>, Fail>
     let idle_script = Script::new(Vec::new(alloc));
     let name = label(104, 0)?;
     let idle_name = label(104, 1)?;
-    let host = HostPlan { name, id: 3, qos: 0, prot: 0, script };
-    let idle = HostPlan { name: idle_name, id: 9, qos: 0, prot: 0, script: idle_script };
+    let host = HostPlan {
+        name,
+        id: 3,
+        qos: 0,
+        prot: 0,
+        script,
+    };
+    let idle = HostPlan {
+        name: idle_name,
+        id: 9,
+        qos: 0,
+        prot: 0,
+        script: idle_script,
+    };
     Ok(Vec::from_array(alloc, [host, idle])?)
 }
 
@@ -47,11 +65,19 @@ fn routers(alloc: Global) -> Result<Vec<RouterPlan>, Fail>
     let mut routes = [None; 32];
     routes[0] = Some(2);
     routes[1] = Some(3);
-    let first = RouterPlan { name: label(114, 0)?, side: 0, routes };
+    let first = RouterPlan {
+        name: label(114, 0)?,
+        side: 0,
+        routes,
+    };
     let mut later_routes = [None; 32];
     later_routes[0] = Some(4);
     later_routes[1] = Some(5);
-    let second = RouterPlan { name: label(114, 1)?, side: 0, routes: later_routes };
+    let second = RouterPlan {
+        name: label(114, 1)?,
+        side: 0,
+        routes: later_routes,
+    };
     Ok(Vec::from_array(alloc, [first, second])?)
 }
 
@@ -62,7 +88,13 @@ fn page_device(alloc: Global, number: u8) -> Result<DevicePlan, Fail>
     let name = label(100, number)?;
     let image = Bytes::new(Vec::new(alloc));
     let base = (u64::from(number) + 1) * 4096;
-    Ok(DevicePlan { name, base, pages: 1, readonly: false, image })
+    Ok(DevicePlan {
+        name,
+        base,
+        pages: 1,
+        readonly: false,
+        image,
+    })
 }
 
 /// The devices.
@@ -79,7 +111,13 @@ fn plain_link(number: u8, from: Place, to: Place) -> Result<LinkRow, Fail>
     ensures { IfOk result (λ link. link_of link ≡ plain_link_at number (place_of from) (place_of to)) }
 {
     let name = label(108, number)?;
-    Ok(LinkRow { name, from, to, width: 32, capacity: 4 })
+    Ok(LinkRow {
+        name,
+        from,
+        to,
+        width: 32,
+        capacity: 4,
+    })
 }
 
 /// The links.
@@ -101,7 +139,13 @@ fn twins(alloc: Global) -> Result<Bundle, Fail> {
     let routers = routers(alloc)?;
     let devices = devices(alloc)?;
     let links = links(alloc)?;
-    Ok(Bundle { hosts, routers, devices, links, wire: None })
+    Ok(Bundle {
+        hosts,
+        routers,
+        devices,
+        links,
+        wire: None,
+    })
 }
 
 /// Each flow has its own link between the routers; the idle host has none.
