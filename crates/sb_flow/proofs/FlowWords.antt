@@ -85,3 +85,9 @@ flow_answered network host d device placed apart there lines =
     one true false n = refl
     one false true n = refl
     one false false n = refl
+
+-- The same by the transactions' own devices.
+pub flow_transactions : (network : Network) (host : NetHost) (d : ℕ) → misplaced_device network ≡ None → All IsTransaction host.script → length (flow_part network host d (script_accesses host)) ≡ sum_by (λ t. if is_aimed_at network d t then t.count else 0) host.script
+flow_transactions network host d placed lines =
+    script_count host (λ a. (a.host == host.id) && is_at network d a) (is_aimed_at network d) 0 host.script
+    (λ t line i j h. rw (eq-eqb host.id host.id refl) (word_at network d host i j t placed line h)) (recursion_from_All IsTransaction host.script lines)

@@ -25,3 +25,4 @@ pub mod AcceptedLinks
 pub mod WayCourses
 pub mod AcceptedExample
 pub mod SampleNetworks
+pub mod RingLaws

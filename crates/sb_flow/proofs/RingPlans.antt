@@ -31,7 +31,7 @@ plan_with network ring found link = record {
 }
 
 -- the budget of a link's ring
-budget_of : (network : Network) (up : Bool) (ways : List NetWay) → sum_by (λ way. length (if up then filter (λ a. is_answered a.op) (way_accesses network way) else way_accesses network way)) ways
+pub budget_of : (network : Network) (up : Bool) (ways : List NetWay) → sum_by (λ way. length (if up then filter (λ a. is_answered a.op) (way_accesses network way) else way_accesses network way)) ways
     ≡ (if up then sum_by (λ way. length (filter (λ a. is_answered a.op) (way_accesses network way))) ways else sum_by (λ way. length (way_accesses network way)) ways)
 budget_of network true ways = refl
 budget_of network false ways = refl
