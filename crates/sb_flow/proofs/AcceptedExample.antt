@@ -1,21 +1,18 @@
 -- The example network, with links of the width that there is now, is accepted; and each test finds the fault of a network that has it.
-use Rattle.std.proofs.Common.{◌≡◌, ◌≤◌, lit≤, refl, [], ◌∷◌, List, ℕ, zero, suc, true, false, Some, None, map, replicate}
+use Rattle.std.proofs.Common.{◌≡◌, lit≤, refl, [], ◌∷◌, false, Some, None, map}
 use Rattle.std.specs.Prelude.{All, codes}
-use Rattle.std.specs.List.{AllByRecursion}
 use Rattle.std.proofs.lemmas.List.Elements.{All-from_recursion}
-use Rattle.sb_packet.specs.Networks.{NetDevice, NetHost, NetLink, NetRouter, Network, at_host, at_router, at_device}
+use Rattle.sb_packet.specs.Networks.{NetDevice, NetHost, NetLink, NetRouter, Network, at_host, at_router}
 use Rattle.sb_packet.specs.Scripts.{IsTransaction}
-use Rattle.sb_packet.specs.Rings.{ring_budget, ring_plan}
 use Rattle.sb_packet.specs.Ways.{network_ways}
 use Rattle.sb_packet.proofs.NetworkExample.{cpu0, cpu1, eight_links, four_devices, three_routers, wired}
 use Rattle.sb_flow.specs.Accepted.{IsAccepted}
 use Rattle.sb_flow.specs.Courses.{IsCourse, link_rank}
 use Rattle.sb_flow.specs.Ends.{backward_link, odd_width, unfit_link, unlinked_place}
-use Rattle.sb_flow.specs.Firsts.{Clash}
 use Rattle.sb_flow.specs.Limits.{is_limited, word_count}
 use Rattle.sb_flow.specs.Names.{names_what_is_there, repeated_id, repeated_link_name, repeated_name}
 use Rattle.sb_flow.specs.Ranges.{misplaced_device, overfull_device, overlapping_device}
-use Rattle.sb_flow.specs.Routes.{RouteAt, route_fault}
+use Rattle.sb_flow.specs.Routes.{route_fault}
 use Rattle.sb_flow.proofs.WayCourses.{all_courses}
 
 -- all links 32 bytes wide

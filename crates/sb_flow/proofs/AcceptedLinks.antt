@@ -1,17 +1,15 @@
 -- What is known of the links and the routes of an accepted network, one by one.
-use Rattle.std.proofs.Common.{◌≡◌, ◌≤◌, ◌<◌, ℕ, zero, suc, ◌+◌, ◌-◌, ◌*◌, Bool, true, false, ◌&&◌, not, cond, List, [], ◌∷◌, ◌++◌, length, refl, ap, sym, ◌∙◌, arith, Option, Some, None, subst, ltb-true, leb-false}
-use Rattle.std.specs.Prelude.{◌==◌, nat_le, nat_lt, option_and_then, option_map, slice_get, if◌then◌else◌}
-use Rattle.std.specs.List.{AllByRecursion, list_all, list_any, range_with_len, find}
-use Rattle.std.specs.Option.{option_map_or}
+use Rattle.std.proofs.Common.{◌≡◌, ◌≤◌, ◌<◌, ℕ, zero, suc, ◌+◌, Bool, true, false, ◌&&◌, not, List, [], ◌∷◌, ◌++◌, length, refl, arith, Some, None, subst, ltb-true, leb-false}
+use Rattle.std.specs.Prelude.{slice_get, if◌then◌else◌}
+use Rattle.std.specs.List.{AllByRecursion, list_all, list_any, range_with_len}
 use Rattle.std.proofs.lemmas.Bool.{and_parts, cases_eq, not-false}
-use mathlib.Core.Logic.{◌⊎◌, inl, inr}
-use Rattle.sb_packet.specs.Networks.{NetLink, NetPlace, NetRouter, Network, at_device, at_host, at_router}
-use Rattle.sb_packet.specs.Ways.{is_some_number, route_at, router_after, router_before}
+use mathlib.Core.Logic.{inl, inr}
+use Rattle.sb_packet.specs.Networks.{NetLink, NetPlace, Network, at_device, at_host, at_router}
+use Rattle.sb_packet.specs.Ways.{is_some_number, route_at}
 use Rattle.sb_flow.specs.Accepted.{IsAccepted}
-use Rattle.sb_flow.specs.Ends.{backward_link, goes_back, is_fit_link, joins, keeps_sides, share_an_end, unfit_behind, unfit_link}
-use Rattle.sb_flow.specs.Routes.{RouteAt, is_stray, leads_on, route_fault, stray_route, stray_route_of, lost_flow}
-use Rattle.sb_flow.specs.Firsts.{first_told}
-use Rattle.sb_flow.specs.Names.{is_link_there, is_there, names_what_is_there}
+use Rattle.sb_flow.specs.Ends.{goes_back, is_fit_link, joins, keeps_sides, share_an_end, unfit_behind}
+use Rattle.sb_flow.specs.Routes.{is_stray, leads_on, stray_route, stray_route_of, lost_flow}
+use Rattle.sb_flow.specs.Names.{is_link_there, is_there}
 use Rattle.sb_flow.specs.Courses.{down_stage, up_stage}
 use Rattle.sb_flow.proofs.RingLinks.{each_passes}
 use Rattle.sb_flow.proofs.Clashes.{cond-None, first_told-None, option_or-None, position_from-None}

@@ -1,5 +1,5 @@
 -- The budgets of rings, and the ways of flows, as laws.
-use Rattle.std.proofs.Common.{◌≡◌, ◌≤◌, ◌<◌, ℕ, zero, suc, ◌+◌, Bool, true, false, ◌&&◌, cond, List, [], ◌∷◌, length, get_or, refl, ap, sym, ◌∙◌, arith, Option, Some, None, subst, eq-eqb}
+use Rattle.std.proofs.Common.{◌≡◌, ◌≤◌, ◌<◌, ℕ, zero, suc, Bool, true, false, cond, List, [], ◌∷◌, length, get_or, refl, ap, sym, ◌∙◌, arith, Option, Some, None, eq-eqb}
 use Rattle.std.specs.Prelude.{◌==◌, All, filter, slice_get, sum_by, if◌then◌else◌}
 use Rattle.std.specs.List.{find, enumerate_from}
 use Rattle.std.specs.Option.{option_map_or}
@@ -7,12 +7,11 @@ use Rattle.sb_packet.specs.Accesses.{Access}
 use Rattle.sb_packet.specs.Networks.{NetHost, Network}
 use Rattle.sb_packet.specs.Plans.{NetFlow}
 use Rattle.sb_packet.specs.Ways.{NetWay, aims_at, flow_links, is_way_of, network_ways, way_links}
-use Rattle.sb_packet.specs.Rings.{counted_accesses, is_answered, is_upward, link_ways, ring_budget, ring_link, ring_ways, way_accesses}
+use Rattle.sb_packet.specs.Rings.{counted_accesses, is_answered, is_upward, link_ways, ring_budget, ring_link, way_accesses}
 use Rattle.sb_flow.specs.Accepted.{IsAccepted}
-use Rattle.sb_flow.specs.Tables.{link_table_of}
 use Rattle.sb_flow.proofs.FlowWays.{find-filter, found_way, one_way}
 use Rattle.sb_flow.proofs.RingLinks.{ring_link-there}
-use Rattle.sb_flow.proofs.RingPlans.{budget_in, budget_of, table_bounded}
+use Rattle.sb_flow.proofs.RingPlans.{budget_of, table_bounded}
 
 -- a ring has no more words than all scripts together
 pub budget_bounded : (network : Network) (ring : ℕ) → IsAccepted network → ring_budget network ring ≤ 262144

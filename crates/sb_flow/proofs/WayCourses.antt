@@ -1,18 +1,17 @@
 -- The ways of an accepted network lead to their devices, in the order of routers.
-use Rattle.std.proofs.Common.{◌≡◌, ◌≢◌, ◌≤◌, ◌<◌, ℕ, zero, suc, ◌+◌, Bool, true, false, ◌&&◌, ◌||◌, not, cond, List, [], ◌∷◌, ◌++◌, length, get_or, refl, ap, sym, ◌∙◌, arith, Option, Some, None, subst, leb-false}
-use Rattle.std.specs.Prelude.{◌==◌, All, AllPairs, filter, flat_map, map, nat_le, option_and_then, option_map, slice_get, slice_index_or, if◌then◌else◌}
+use Rattle.std.proofs.Common.{◌≡◌, ◌≤◌, ◌<◌, ℕ, zero, suc, ◌+◌, Bool, true, false, ◌||◌, not, cond, List, [], ◌∷◌, length, get_or, refl, ap, sym, ◌∙◌, arith, Option, Some, None, subst, leb-false}
+use Rattle.std.specs.Prelude.{◌==◌, All, AllPairs, filter, flat_map, map, option_and_then, option_map, slice_get, slice_index_or}
 use Rattle.std.specs.List.{AllByRecursion, enumerate_from, find, list_any, position_from, range_with_len}
-use Rattle.std.specs.Option.{option_map_or, option_or}
+use Rattle.std.specs.Option.{option_map_or}
 use Rattle.std.proofs.lemmas.Bool.{and_parts, eqb-true, not-false}
-use Rattle.std.proofs.lemmas.List.Elements.{All-append, All-from_recursion, recursion_from_All}
+use Rattle.std.proofs.lemmas.List.Elements.{All-append, All-from_recursion}
 use Rattle.sb_packet.specs.Networks.{NetHost, NetLink, NetPlace, NetRouter, Network, at_device, at_host, at_router, leads_to}
 use Rattle.sb_packet.specs.Sides.{leaves_from}
-use Rattle.sb_packet.specs.Ways.{NetWay, aims_at, first_link, host_ways, is_some_number, links_from, network_ways, next_link, route_at, router_after, router_before, router_of, way_links}
+use Rattle.sb_packet.specs.Ways.{aims_at, first_link, host_ways, is_some_number, links_from, network_ways, next_link, route_at, router_after, router_before, router_of, way_links}
 use Rattle.sb_flow.specs.Accepted.{IsAccepted}
 use Rattle.sb_flow.specs.Courses.{AreJoined, IsCourse, ends_at, link_rank}
-use Rattle.sb_flow.specs.Ends.{goes_back, joins, unlinked_place}
-use Rattle.sb_flow.specs.Firsts.{first_told}
-use Rattle.sb_flow.specs.Routes.{RouteAt, is_other_device, leads_on, lost_behind, lost_flow, lost_of_host, lost_on_way, stray_route}
+use Rattle.sb_flow.specs.Ends.{goes_back, joins}
+use Rattle.sb_flow.specs.Routes.{RouteAt, is_other_device, lost_behind, lost_flow, lost_of_host, lost_on_way, stray_route}
 use Rattle.sb_flow.proofs.Clashes.{cond-None, first_told-None, option_map-None, option_or-None}
 use Rattle.sb_flow.proofs.AcceptedLinks.{at_range, got_below, link_forward, link_joins, route_leads_on}
 

@@ -1,5 +1,5 @@
 -- The rows are the chain's, which is accepted.
-use Rattle.std.proofs.Common.{◌≡◌, Some}
+use Rattle.std.proofs.Common.{Some}
 use Rattle.sb_flow.specs.Rows.{rows_network}
 use Rattle.sb_flow.specs.Accepted.{IsAccepted}
 use Rattle.sb_flow.proofs.SampleNetworks.{chain_rows, chain_rows_accepted}

@@ -1,6 +1,5 @@
 -- Each turn adds one.
-use Rattle.std.proofs.Common.{◌≡◌, ◌≤◌, arith}
-use Rattle.sb_flow.specs.Rows.{link_of, router_of}
+use Rattle.sb_flow.specs.Rows.{router_of}
 use Rattle.sb_flow.specs.Samples.{chain_router}
 use Rattle.sb_flow.proofs.Tabled.{seen_push, table_end}
 use Rattle.sb_flow.proofs.tests.routers.Goals as goal

@@ -1,7 +1,7 @@
 -- The routers so far.
 use Rattle.std.proofs.Common.{◌≡◌, map}
 use Rattle.std.specs.List.{range_with_len}
-use Rattle.sb_flow.specs.Rows.{link_of, router_of}
+use Rattle.sb_flow.specs.Rows.{router_of}
 use Rattle.sb_flow.specs.Samples.{chain_router}
 use Rattle.sb_flow.proofs.tests.routers.Given as goal
 

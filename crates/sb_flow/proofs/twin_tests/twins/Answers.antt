@@ -1,5 +1,5 @@
 -- The rows are the twins', which are accepted.
-use Rattle.std.proofs.Common.{◌≡◌, None}
+use Rattle.std.proofs.Common.{None}
 use Rattle.sb_flow.specs.Rows.{rows_network}
 use Rattle.sb_flow.specs.Accepted.{IsAccepted}
 use Rattle.sb_flow.proofs.SampleNetworks.{twin_rows_accepted}
