@@ -1,6 +1,6 @@
 -- A device that begins, and one whose ends are put back.
-use Rattle.std.proofs.Common.{◌≡◌, List, [], refl, sym, ap, ◌∙◌, subst}
-use Rattle.std.specs.Prelude.{Option, Some}
+use Rattle.std.proofs.Common.{◌≡◌, List, [], refl, sym, ap, ◌∙◌, subst, ℕ, eq-eqb, true}
+use Rattle.std.specs.Prelude.{Option, Some, if◌then◌else◌, ◌==◌, None}
 use Rattle.std.specs.Option.{ForSome}
 use Rattle.sb_packet.specs.Accesses.{Access}
 use Rattle.sb_packet.specs.Ledger.{Ledger}
@@ -96,3 +96,19 @@ serves_with_port opening d port port_then h at r ring has y is =
     (subst (λ (p : RingPlan). HasServed opening d.memory d.journal.entries ring (record port_then { plan = p })) (sym r.plan)
     (subst (λ (s : PortState). HasServed opening d.memory d.journal.entries ring (record port_then { plan = port.plan; state = s })) (sym r.state)
     (record { stepped = before.stepped; answered_some = before.answered_some; answered_all = before.answered_all })))
+
+-- a device whose ring's end was taken out by its number and put back is whole again
+pub whole_after_ring : (n : ℕ) (d d_out d_in : DeviceSide) (ring ring_then : RingSide) → IsWholeDevice d → d.asked_by ≡ n → Some ring ≡ (if n == d.asked_by then d.requests else None)
+    → d_out ≡ (if n == d.asked_by then record d { requests = None } else d) → d_in ≡ record d_out { requests = Some ring_then } → IsRestoredRing ring ring_then → IsWholeDevice d_in
+whole_after_ring n d d_out d_in ring ring_then w number taken out back r =
+    let found : (n == d.asked_by) ≡ true = eq-eqb n d.asked_by (sym number) in
+    subst IsWholeDevice (sym (back ∙ ap (λ (x : DeviceSide). record x { requests = Some ring_then }) (out ∙ ap (λ b. if b then record d { requests = None } else d) found)))
+    (whole_with_ring d ring ring_then w (sym (taken ∙ ap (λ b. if b then d.requests else None) found)) r)
+
+-- and one whose port was
+pub whole_after_port : (n : ℕ) (d d_out d_in : DeviceSide) (port port_then : PortSide) → IsWholeDevice d → d.answers_by ≡ n → Some port ≡ (if n == d.answers_by then d.answers else None)
+    → d_out ≡ (if n == d.answers_by then record d { answers = None } else d) → d_in ≡ record d_out { answers = Some port_then } → IsRestoredPort port port_then → IsWholeDevice d_in
+whole_after_port n d d_out d_in port port_then w number taken out back r =
+    let found : (n == d.answers_by) ≡ true = eq-eqb n d.answers_by (sym number) in
+    subst IsWholeDevice (sym (back ∙ ap (λ (x : DeviceSide). record x { answers = Some port_then }) (out ∙ ap (λ b. if b then record d { answers = None } else d) found)))
+    (whole_with_port d port port_then w (sym (taken ∙ ap (λ b. if b then d.answers else None) found)) r)
