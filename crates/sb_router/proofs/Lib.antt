@@ -1,0 +1,4 @@
+pub mod Places
+pub mod SameLane
+pub mod NextPlaces
+pub mod Handed

@@ -1,0 +1,13 @@
+pub mod Lanes
+pub mod Steps
+pub mod Forwarding
+pub mod Whole
+pub mod Causes
+pub mod Popping
+pub mod Sending
+pub mod InletOf
+pub mod OutletOf
+pub mod RouteOf
+pub mod LaneOf
+pub mod Moves
+pub mod Handing

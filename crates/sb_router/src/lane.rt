@@ -1,0 +1,104 @@
+//! One direction of a router.
+
+ghost use Rattle.std.specs.Prelude.{◌≡◌, ◌<◌, false, not, vec_len, set};
+ghost use Rattle.sb_port.specs.Ports.{owes};
+ghost use Rattle.sb_router.specs.Lanes.{inlet_at, next_place, outlet_at};
+ghost use Rattle.sb_router.specs.LaneOf.{lane_of, lane_route};
+ghost use Rattle.sb_router.specs.Handing.{IsHanded};
+ghost use Rattle.sb_router.specs.Popping.{IsPoppedAt};
+ghost use Rattle.sb_router.specs.Sending.{IsHandedAt};
+ghost use Rattle.sb_router.specs.Steps.{emptied};
+ghost use Rattle.sb_router.specs.Whole.{IsWholeLane};
+
+use crate::inlet::Inlet;
+use crate::outlet::{hand_to, is_ready};
+use crate::routes::Routes;
+use sb_link::{RxEnd, TxEnd};
+use sb_node::{Findings, Seat};
+use sb_packet::Packet;
+use sb_port::OutPort;
+
+/// One direction of a router, requests or answers: the rings that come in, those that go out, and where each flow goes.
+#[derive(Drop)]
+pub struct Lane<T: TxEnd, U: RxEnd> {
+    pub inlets: Vec<Inlet<U>>,
+    pub outlets: Vec<Seat<OutPort<T>>>,
+    pub routes: Routes,
+}
+
+impl<T: TxEnd, U: RxEnd> Lane<T, U> {
+    // pops the ring at a place
+    fn pop_at(&mut self, place: usize) -> Findings
+        requires whole { IsWholeLane (lane_route self.old) (lane_of T.TxEnd U.RxEnd self.old) }
+        requires within { place < vec_len self.old.inlets }
+        ensures routes { self.new.routes ≡ self.old.routes }
+        ensures popped { IsPoppedAt place (lane_of T.TxEnd U.RxEnd self.old) (lane_of T.TxEnd U.RxEnd self.new) result }
+    {
+        self.inlets[place].pop()
+    }
+
+    // the place of the port to which a packet goes that came by the ring at a place
+    fn next(&self, place: usize, packet: &Packet) -> Option<u8>
+        requires whole { IsWholeLane (lane_route self.now) (lane_of T.TxEnd U.RxEnd self.now) }
+        requires within { place < vec_len self.now.inlets }
+        ensures next { result ≡ next_place (lane_route self.now) (inlet_at (lane_of T.TxEnd U.RxEnd self.now) place).ring.plan packet.now }
+    {
+        let flow = self.inlets[place].flow(packet)?;
+        self.routes.place(&flow)
+    }
+
+    // lets go what is held of the ring at a place
+    fn empty_at(&mut self, place: usize)
+        requires within { place < vec_len self.old.inlets }
+        ensures routes { self.new.routes ≡ self.old.routes }
+        ensures outlets { self.new.outlets ≡ self.old.outlets }
+        ensures emptied { (lane_of T.TxEnd U.RxEnd self.new).inlets ≡ set (lane_of T.TxEnd U.RxEnd self.old).inlets place (emptied (inlet_at (lane_of T.TxEnd U.RxEnd self.old) place)) }
+    {
+        self.inlets[place].held = None;
+    }
+
+    // the port at a place can be offered a packet
+    fn is_ready_at(&self, place: usize) -> bool
+        requires whole { IsWholeLane (lane_route self.now) (lane_of T.TxEnd U.RxEnd self.now) }
+        requires within { place < vec_len self.now.outlets }
+        ensures ready { result ≡ not (owes (outlet_at (lane_of T.TxEnd U.RxEnd self.now) place).port.state) }
+    {
+        is_ready(&self.outlets[place])
+    }
+
+    // hands a packet to the port at a place
+    fn hand_to_at(&mut self, place: usize, packet: &Packet)
+        requires whole { IsWholeLane (lane_route self.old) (lane_of T.TxEnd U.RxEnd self.old) }
+        requires within { place < vec_len self.old.outlets }
+        requires ready { owes (outlet_at (lane_of T.TxEnd U.RxEnd self.old) place).port.state ≡ false }
+        requires untold { (outlet_at (lane_of T.TxEnd U.RxEnd self.old) place).port.state.closing ≡ false }
+        ensures routes { self.new.routes ≡ self.old.routes }
+        ensures inlets { self.new.inlets ≡ self.old.inlets }
+        ensures handed { IsHandedAt place (lane_of T.TxEnd U.RxEnd self.old) (lane_of T.TxEnd U.RxEnd self.new) packet.now }
+    {
+        hand_to(&mut self.outlets[place], packet);
+    }
+
+    // hands on what is held of the ring at a place, and says whether it did
+    fn hand_at(&mut self, place: usize) -> bool
+        requires whole { IsWholeLane (lane_route self.old) (lane_of T.TxEnd U.RxEnd self.old) }
+        requires within { place < vec_len self.old.inlets }
+        ensures routes { self.new.routes ≡ self.old.routes }
+        ensures handed { IsHanded (lane_route self.old) place (lane_of T.TxEnd U.RxEnd self.old) (lane_of T.TxEnd U.RxEnd self.new) result }
+    {
+        let Some(packet) = self.inlets[place].held else {
+            return false;
+        };
+        let Some(next) = self.next(place, &packet) else {
+            self.empty_at(place);
+            return true;
+        };
+        let outlet = usize::from(next);
+        if !self.is_ready_at(outlet) {
+            return false;
+        }
+        self.hand_to_at(outlet, &packet);
+        self.empty_at(place);
+        true
+    }
+}
