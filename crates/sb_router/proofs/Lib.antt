@@ -6,3 +6,4 @@ pub mod Subsequences
 pub mod Shapes
 pub mod Forwards
 pub mod Handling
+pub mod WholeSteps

@@ -2,6 +2,7 @@
 use Rattle.std.proofs.Common.{◌≡◌, ◌⊎◌, inl, inr, ℕ, ◌<◌, List, length, set, get_or, refl, sym, ap, ◌∙◌, subst, arith}
 use Rattle.std.proofs.lemmas.List.{length-set}
 use Rattle.sb_packet.specs.Plans.{NetFlow, RingPlan, goes_through}
+use Rattle.sb_node.specs.Sides.{PortSide}
 use Rattle.sb_router.specs.Lanes.{InletState, LaneState, OutletState, Route, inlet_at, no_inlet, no_outlet, outlet_at, next_place}
 use Rattle.sb_router.specs.Steps.{Step, Steps, receives, looks, drops, offers, turns, tells, none, further, emptied}
 use Rattle.sb_router.specs.Forwarding.{Words, Passes, IsLaid}
@@ -55,7 +56,7 @@ step_shape {route} {s} (offers i o p y lt within held next is) = record {
   out_plans = outlet_set s o y within is.kept.plan;
 }
 step_shape {route} {s} (turns o y lt is) = outlets_shape s o y lt is.kept.plan
-step_shape {route} {s} (tells o y lt silent is) = outlets_shape s o y lt is.kept.plan
+step_shape {route} {s} (tells o y lt silent is) = outlets_shape s o y lt (ap (λ (port : PortSide). port.plan) is.told)
 
 pub steps_shape : {route : Route} {s t : LaneState} → Steps route s t → SameShape s t
 steps_shape {route} {s} none = same_shape s

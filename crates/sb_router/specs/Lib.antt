@@ -11,3 +11,4 @@ pub mod RouteOf
 pub mod LaneOf
 pub mod Moves
 pub mod Handing
+pub mod Turning

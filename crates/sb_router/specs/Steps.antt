@@ -60,12 +60,11 @@ pub record IsTurned (before after : OutletState) : Type 0 where
   pub fit : IsFit after.port.plan after.port.state
   pub told : after.port.state.closing ≡ before.port.state.closing
 
--- a port was told to close
+-- a port was told to close, or had been told before
 pub record IsTold (before after : OutletState) : Type 0 where
   pub there : after.there ≡ before.there
   pub number : after.number ≡ before.number
-  pub words : offered_words after.port ≡ offered_words before.port
-  pub kept : IsKeptPort before.port after.port
+  pub told : after.port ≡ record before.port { state = record before.port.state { closing = true } }
   pub fit : IsFit after.port.plan after.port.state
 
 -- by a ring nothing more comes, and nothing is held of it

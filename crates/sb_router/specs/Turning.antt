@@ -1,0 +1,87 @@
+-- What one turn of a direction does, part by part: it pops, hands on, closes, and turns its ports.
+use Rattle.std.specs.Prelude.{◌≡◌, ◌≢◌, ◌≤◌, ◌<◌, ◌+◌, ◌⊎◌, ◌||◌, ℕ, Bool, true, false, List, length, map, All, Option, None, Some, is_some, if◌then◌else◌}
+use Rattle.sb_link.specs.declared.answers.Cause.{Cause}
+use Rattle.sb_link.specs.declared.answers.Cause.TheVariants as causes
+use Rattle.sb_packet.specs.declared.packet.Packet.{Packet}
+use Rattle.sb_node.specs.Sides.{has_rest, is_drained, is_full}
+use Rattle.sb_node.specs.Turns.{empty_cause, full_cause}
+use Rattle.sb_node.specs.declared.findings.Findings.{Findings}
+use Rattle.sb_router.specs.Lanes.{InletState, LaneState, OutletState, Route, inlet_at, next_place, outlet_at}
+use Rattle.sb_router.specs.Steps.{IsSilent, Steps}
+use Rattle.sb_router.specs.Handing.{IsWaiting}
+use Rattle.sb_router.specs.Moves.{IsToldMoved}
+use Rattle.sb_router.specs.Causes.{lowest}
+
+-- a ring was found empty, or there was a cause to leave it: it gave its Close, or a packet that came by it is held
+abbrev pub IsSeen : InletState → Type 0
+IsSeen x = (x.ended ≡ true) ⊎ ((x.held ≢ None) ⊎ (is_drained x.ring ≡ true))
+
+-- an item came by each ring at most
+abbrev pub OneItemEach : LaneState → LaneState → Type 0
+OneItemEach s t = (i : ℕ) → length (inlet_at t i).ring.received ≤ length (inlet_at s i).ring.received + 1
+
+-- what was found by a pop of a ring that is empty
+abbrev pub pop_cause : InletState → Option Cause
+pop_cause x = if x.ended || is_some x.held then None else Some (causes.Empty x.ring.plan.ring (length x.ring.received) x.ring.known)
+
+-- Each ring had its turn to be popped.
+pub record HasPopped (route : Route) (s t : LaneState) (found : Findings) : Type 0 where
+  pub steps : Steps route s t
+  pub outlets : t.outlets ≡ s.outlets
+  pub moved : IsToldMoved s t found.moved
+  pub one_item : OneItemEach s t
+  pub seen : found.moved ≡ false → All IsSeen t.inlets
+  pub empty : found.moved ≡ false → found.empty ≡ lowest (map pop_cause t.inlets)
+
+-- What is held of each ring had its turn to be handed on.
+pub record HasHanded (route : Route) (s t : LaneState) (moved : Bool) : Type 0 where
+  pub steps : Steps route s t
+  pub moved_is : IsToldMoved s t moved
+  pub rings : (i : ℕ) → (inlet_at t i).ring ≡ (inlet_at s i).ring
+  pub still : moved ≡ false → t ≡ s
+  pub waiting : moved ≡ false → (i : ℕ) → i < length t.inlets → IsWaiting route i t
+
+-- All ports were told to close, where nothing more comes.
+pub record HasClosed (route : Route) (s t : LaneState) : Type 0 where
+  pub steps : Steps route s t
+  pub inlets : t.inlets ≡ s.inlets
+  pub moved : IsToldMoved s t false
+  pub told : All IsSilent s.inlets → (o : ℕ) → o < length t.outlets → (outlet_at t o).port.state.closing ≡ true
+  pub untold : (All IsSilent s.inlets → ⊥) → t ≡ s
+
+-- a port has nothing left to send, or its ring is full; and nothing else changed
+pub record IsPortIdle (before after : OutletState) : Type 0 where
+  pub same : after.port.state ≡ before.port.state
+  pub rest : has_rest after.port ≡ true → is_full after.port ≡ true
+
+-- Each port took its turn.
+pub record HasTurned (route : Route) (s t : LaneState) (found : Findings) : Type 0 where
+  pub steps : Steps route s t
+  pub inlets : t.inlets ≡ s.inlets
+  pub moved : IsToldMoved s t found.moved
+  pub told : (o : ℕ) → (outlet_at t o).port.state.closing ≡ (outlet_at s o).port.state.closing
+  pub idle : found.moved ≡ false → (o : ℕ) → o < length t.outlets → IsPortIdle (outlet_at s o) (outlet_at t o)
+  pub full : found.moved ≡ false → found.full ≡ lowest (map (λ y. full_cause y.port) t.outlets)
+
+-- What holds of a direction after a turn in which it did nothing.
+pub record IsIdleLane (route : Route) (s : LaneState) : Type 0 where
+  -- what is held is for a port whose ring is full
+  pub held_awaits_full : (i : ℕ) (p : Packet) → i < length s.inlets → (inlet_at s i).held ≡ Some p
+      → (o : ℕ) × (next_place route (inlet_at s i).ring.plan p ≡ Some o) × (is_full (outlet_at s o).port ≡ true)
+  -- a port that has something left to send found its ring full
+  pub owing_are_full : All (λ y. has_rest y.port ≡ true → is_full y.port ≡ true) s.outlets
+  -- a ring that didn't give its Close was found empty, or a packet that came by it is held
+  pub open_are_seen : All IsSeen s.inlets
+
+-- One turn of a direction, and what was found in it.
+pub record IsLaneTurn (route : Route) (s t : LaneState) (found : Findings) : Type 0 where
+  pub steps : Steps route s t
+  pub moved : IsToldMoved s t found.moved
+  pub one_item : OneItemEach s t
+  -- all ports were told to close once nothing more comes
+  pub closed : All IsSilent t.inlets → (o : ℕ) → o < length t.outlets → (outlet_at t o).port.state.closing ≡ true
+  pub idle : found.moved ≡ false → IsIdleLane route t
+  pub full : found.moved ≡ false → found.full ≡ lowest (map (λ y. full_cause y.port) t.outlets)
+  pub waits : found.waits ≡ None
+  -- where nothing is held, each ring that didn't give its Close was found empty
+  pub empty : found.moved ≡ false → All (λ x. x.held ≡ None) t.inlets → found.empty ≡ lowest (map (λ x. empty_cause x.ring) t.inlets)
