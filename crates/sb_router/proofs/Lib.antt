@@ -7,3 +7,7 @@ pub mod Shapes
 pub mod Forwards
 pub mod Handling
 pub mod WholeSteps
+pub mod Lowest
+pub mod MoveSteps
+pub mod KeptSteps
+pub mod ForwardSteps

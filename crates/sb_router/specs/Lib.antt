@@ -12,3 +12,4 @@ pub mod LaneOf
 pub mod Moves
 pub mod Handing
 pub mod Turning
+pub mod Kept

@@ -1,0 +1,36 @@
+-- Of the causes of a list and one more, the one at the lowest ring.
+use Rattle.std.proofs.Common.{◌≡◌, ℕ, ◌≤◌, Bool, true, false, cond, nat_le, List, [], ◌∷◌, ◌++◌, Option, Some, None, refl, sym, ap, ◌∙◌, arith}
+use Rattle.std.proofs.lemmas.Bool.Decides.{nat_tests}
+use Rattle.sb_link.specs.declared.answers.Cause.{Cause}
+use Rattle.sb_router.specs.Causes.{lower, lowest, ring_of_cause}
+
+-- no cause is lower than one
+pub lower_none : (a : Option Cause) → lower a None ≡ a
+lower_none None = refl
+lower_none (Some a) = refl
+
+-- of three causes
+lower_three : (a b c : Cause) (x y z : Bool) → nat_le (ring_of_cause a) (ring_of_cause b) ≡ x → nat_le (ring_of_cause b) (ring_of_cause c) ≡ y → nat_le (ring_of_cause a) (ring_of_cause c) ≡ z
+    → lower (cond x (Some a) (Some b)) (Some c) ≡ lower (Some a) (cond y (Some b) (Some c))
+lower_three a b c true true true p q r = ap (λ (t : Bool). cond t (Some a) (Some c)) r ∙ sym (ap (λ (t : Bool). cond t (Some a) (Some b)) p)
+lower_three a b c true true false p q r = let no_way : ⊥ = grind (arith, nat_tests) in absurd no_way
+lower_three a b c true false z p q r = refl
+lower_three a b c false true z p q r = ap (λ (t : Bool). cond t (Some b) (Some c)) q ∙ sym (ap (λ (t : Bool). cond t (Some a) (Some b)) p)
+lower_three a b c false false true p q r = let no_way : ⊥ = grind (arith, nat_tests) in absurd no_way
+lower_three a b c false false false p q r = ap (λ (t : Bool). cond t (Some b) (Some c)) q ∙ sym (ap (λ (t : Bool). cond t (Some a) (Some c)) r)
+
+pub lower_then : (a b c : Option Cause) → lower (lower a b) c ≡ lower a (lower b c)
+lower_then None b c = refl
+lower_then (Some a) None c = refl
+lower_then (Some a) (Some b) None = lower_none (lower (Some a) (Some b))
+lower_then (Some a) (Some b) (Some c) = lower_three a b c (nat_le (ring_of_cause a) (ring_of_cause b)) (nat_le (ring_of_cause b) (ring_of_cause c)) (nat_le (ring_of_cause a) (ring_of_cause c)) refl refl refl
+
+-- one more cause behind a list
+pub lowest_more : (list : List (Option Cause)) (cause : Option Cause) → lowest (list ++ cause ∷ []) ≡ lower (lowest list) cause
+lowest_more [] cause = lower_none cause
+lowest_more (first ∷ rest) cause = ap (lower first) (lowest_more rest cause) ∙ sym (lower_then first (lowest rest) cause)
+
+-- no cause in a list of nothing
+pub lowest_append : (xs ys : List (Option Cause)) → lowest (xs ++ ys) ≡ lower (lowest xs) (lowest ys)
+lowest_append [] ys = refl
+lowest_append (first ∷ rest) ys = ap (lower first) (lowest_append rest ys) ∙ sym (lower_then first (lowest rest) (lowest ys))
