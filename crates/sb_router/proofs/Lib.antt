@@ -9,5 +9,6 @@ pub mod Handling
 pub mod WholeSteps
 pub mod Lowest
 pub mod MoveSteps
+pub mod PoppingEach
 pub mod KeptSteps
 pub mod ForwardSteps

@@ -8,8 +8,10 @@ ghost use Rattle.sb_router.specs.Handing.{IsHanded};
 ghost use Rattle.sb_router.specs.Popping.{IsPoppedAt};
 ghost use Rattle.sb_router.specs.Sending.{IsHandedAt};
 ghost use Rattle.sb_router.specs.Steps.{emptied};
+ghost use Rattle.sb_router.specs.Turning.{HasPopped};
 ghost use Rattle.sb_router.specs.Whole.{IsWholeLane};
 
+use crate::causes::both;
 use crate::inlet::Inlet;
 use crate::outlet::{hand_to, is_ready};
 use crate::routes::Routes;
@@ -100,5 +102,19 @@ impl<T: TxEnd, U: RxEnd> Lane<T, U> {
         self.hand_to_at(outlet, &packet);
         self.empty_at(place);
         true
+    }
+
+    // pops each ring once
+    fn pop_each(&mut self) -> Findings
+        requires whole { IsWholeLane (lane_route self.old) (lane_of T.TxEnd U.RxEnd self.old) }
+        ensures routes { self.new.routes ≡ self.old.routes }
+        ensures popped { HasPopped (lane_route self.old) (lane_of T.TxEnd U.RxEnd self.old) (lane_of T.TxEnd U.RxEnd self.new) result }
+    {
+        let mut found = Findings::new();
+        for place in 0..self.inlets.len() {
+            let one = self.pop_at(place);
+            found = both(&found, &one);
+        }
+        found
     }
 }

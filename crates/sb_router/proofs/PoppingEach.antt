@@ -1,0 +1,169 @@
+-- Popping one ring after another.
+use Rattle.std.proofs.Common.{◌≡◌, ◌≢◌, ◌⊎◌, inl, inr, ℕ, ◌<◌, ◌≤◌, ◌+◌, ◌||◌, Bool, true, false, cond, is_some, List, [], ◌∷◌, ◌++◌, length, map, take, set, get_or, All, Option, Some, None, refl, sym, ap, ◌∙◌, subst, arith, length-append}
+use Rattle.std.proofs.lemmas.List.{get_or_default, get_or-set_same, map_push, take_all}
+use Rattle.std.proofs.lemmas.Grind.{take-set_at}
+use Rattle.std.proofs.lemmas.Bool.{cases_eq}
+use Rattle.sb_link.specs.declared.answers.Cause.{Cause}
+use Rattle.sb_link.specs.declared.answers.Cause.TheVariants as causes
+use Rattle.sb_packet.specs.declared.packet.Packet.{Packet}
+use Rattle.sb_packet.specs.declared.item.Item.{Item}
+use Rattle.sb_node.specs.declared.findings.Findings.{Findings}
+use Rattle.sb_node.specs.Kept.{kept_ring_same}
+use Rattle.sb_router.specs.Lanes.{InletState, LaneState, OutletState, Route, inlet_at, no_inlet, outlet_at}
+use Rattle.sb_router.specs.Steps.{IsReceived, IsUnmoved, Step, Steps, receives, looks, none, further}
+use Rattle.sb_router.specs.Causes.{found_in_both, lower, lowest, nothing_found}
+use Rattle.sb_router.specs.Moves.{IsToldMoved}
+use Rattle.sb_router.specs.Popping.{IsFoundEmpty, IsLeft, IsPopped, IsPoppedAt, IsTaken}
+use Rattle.sb_router.specs.Turning.{HasPopped, IsSeen, OneItemEach, pop_cause}
+use Rattle.sb_router.proofs.Places.{set_cases}
+use Rattle.sb_router.proofs.Shapes.{steps_shape}
+use Rattle.sb_router.proofs.Lowest.{lowest_more}
+use Rattle.sb_router.proofs.MoveSteps.{inlet_more, inlet_received, inlet_same, inlet_unmoved, moved_none, moved_then}
+
+-- What one pop shows of a ring, by what was found.
+pub record IsOnePop (route : Route) (s t : LaneState) (i : ℕ) (x : InletState) (one : Findings) : Type 0 where
+  pub step : Step route s t
+  pub moved : IsToldMoved s t one.moved
+  pub seen : one.moved ≡ false → IsSeen x
+  pub cause : one.moved ≡ false → one.empty ≡ pop_cause x
+  pub one_item : length x.ring.received ≤ length (inlet_at s i).ring.received + 1
+  pub full : one.full ≡ None
+  pub waits : one.waits ≡ None
+
+unmoved_same : (x : InletState) → IsUnmoved x x
+unmoved_same x = record { there = refl; number = refl; received = refl; kept = kept_ring_same x.ring; ended = refl; held = refl }
+
+-- a ring that was left has no cause
+left_none : (ended : Bool) (held : Option Packet) → (ended ≡ true) ⊎ (held ≢ None) → (ended || is_some held) ≡ true
+left_none true held cause = refl
+left_none false (Some p) cause = refl
+left_none false None (inl e) = let no_way : ⊥ = cc in absurd no_way
+left_none false None (inr held) = absurd (held refl)
+
+seen_left : (x : InletState) → (x.ended ≡ true) ⊎ (x.held ≢ None) → IsSeen x
+seen_left x (inl e) = inl e
+seen_left x (inr held) = inr (inl held)
+
+one_pop : {route : Route} (s : LaneState) (i : ℕ) (x : InletState) (one : Findings) → i < length s.inlets → IsPopped (inlet_at s i) x one → IsOnePop route s (record s { inlets = set s.inlets i x }) i x one
+one_pop {route} s i x one lt (inl left) =
+    let is : IsUnmoved (inlet_at s i) x = subst (λ (y : InletState). IsUnmoved (inlet_at s i) y) (sym left.same) (unmoved_same (inlet_at s i)) in
+    let cause : (x.ended ≡ true) ⊎ (x.held ≢ None) = subst (λ (y : InletState). (y.ended ≡ true) ⊎ (y.held ≢ None)) (sym left.same) left.cause in
+    record {
+      step = looks i x lt is;
+      moved = subst (λ (b : Bool). IsToldMoved s (record s { inlets = set s.inlets i x }) b) (sym (ap (λ (f : Findings). f.moved) left.found_nothing)) (inlet_same s i x lt (inlet_unmoved (inlet_at s i) x is));
+      seen = λ _. seen_left x cause;
+      cause = λ _. ap (λ (f : Findings). f.empty) left.found_nothing
+          ∙ sym (ap (λ (b : Bool). cond b None (Some (causes.Empty x.ring.plan.ring (length x.ring.received) x.ring.known))) (left_none x.ended x.held cause));
+      one_item = let same = ap length is.received in omega (arith, same);
+      full = ap (λ (f : Findings). f.full) left.found_nothing;
+      waits = ap (λ (f : Findings). f.waits) left.found_nothing;
+    }
+one_pop {route} s i x one lt (inr (inl taken)) =
+    let moved : one.moved ≡ true = ap (λ (f : Findings). f.moved) taken.found_move in
+    record {
+      step = receives i x taken.item lt taken.received;
+      moved = subst (λ (b : Bool). IsToldMoved s (record s { inlets = set s.inlets i x }) b) (sym moved) (inlet_more s i x lt (inlet_received (inlet_at s i) x taken.item taken.received));
+      seen = λ e. let no_way : ⊥ = cc in absurd no_way;
+      cause = λ e. let no_way : ⊥ = cc in absurd no_way;
+      one_item = let long = ap length taken.received.received ∙ length-append (inlet_at s i).ring.received (taken.item ∷ []) in omega (arith, long);
+      full = ap (λ (f : Findings). f.full) taken.found_move;
+      waits = ap (λ (f : Findings). f.waits) taken.found_move;
+    }
+one_pop {route} s i x one lt (inr (inr empty)) =
+    record {
+      step = looks i x lt empty.same;
+      moved = subst (λ (b : Bool). IsToldMoved s (record s { inlets = set s.inlets i x }) b) (sym (ap (λ (f : Findings). f.moved) empty.found_empty)) (inlet_same s i x lt (inlet_unmoved (inlet_at s i) x empty.same));
+      seen = λ _. inr (inr empty.drained);
+      cause = λ _. ap (λ (f : Findings). f.empty) empty.found_empty
+          ∙ sym (ap (λ (b : Bool). cond (b || is_some x.held) None (Some (causes.Empty x.ring.plan.ring (length x.ring.received) x.ring.known))) empty.open_after
+          ∙ ap (λ (h : Option Packet). cond (is_some h) None (Some (causes.Empty x.ring.plan.ring (length x.ring.received) x.ring.known))) empty.free);
+      one_item = let same = ap length empty.same.received in omega (arith, same);
+      full = ap (λ (f : Findings). f.full) empty.found_empty;
+      waits = ap (λ (f : Findings). f.waits) empty.found_empty;
+    }
+
+-- The rings before a place were popped, and no other ones.
+pub record PopsSoFar (route : Route) (s now : LaneState) (found : Findings) (place : ℕ) : Type 0 where
+  pub steps : Steps route s now
+  pub outlets : now.outlets ≡ s.outlets
+  pub moved : IsToldMoved s now found.moved
+  pub one_item : OneItemEach s now
+  pub ahead : (j : ℕ) → place ≤ j → inlet_at now j ≡ inlet_at s j
+  pub seen : found.moved ≡ false → (j : ℕ) → j < place → IsSeen (inlet_at now j)
+  pub empty : found.moved ≡ false → found.empty ≡ lowest (map pop_cause (take place now.inlets))
+
+pub pops_none : (route : Route) (s : LaneState) → PopsSoFar route s s nothing_found 0
+pops_none route s = record {
+  steps = none;
+  outlets = refl;
+  moved = moved_none s;
+  one_item = λ i. omega arith;
+  ahead = λ j le. refl;
+  seen = λ e j lt. absurd (omega arith);
+  empty = λ e. refl;
+}
+
+or_false : (a b : Bool) → (a || b) ≡ false → (a ≡ false) × (b ≡ false)
+or_false true b e = let no_way : ⊥ = cc in absurd no_way
+or_false false b e = (refl, e)
+
+pub pops_more : {route : Route} {s now then : LaneState} {found one : Findings} {place : ℕ} → PopsSoFar route s now found place → place < length now.inlets → IsPoppedAt place now then one
+    → PopsSoFar route s then (found_in_both found one) (place + 1)
+pops_more {route} {s} {now} {then} {found} {one} {place} h lt at =
+    subst (λ (t : LaneState). PopsSoFar route s t (found_in_both found one) (place + 1)) (sym at.state) so_far
+  where
+    x : InletState
+    x = at.inlet
+
+    t : LaneState
+    t = record now { inlets = set now.inlets place x }
+
+    popped : IsOnePop route now t place x one
+    popped = one_pop now place x one lt at.popped
+
+    so_far : PopsSoFar route s t (found_in_both found one) (place + 1)
+    so_far = record {
+      steps = further h.steps popped.step;
+      outlets = h.outlets;
+      moved = moved_then found.moved one.moved h.moved popped.moved;
+      one_item = λ j. elim (set_cases now.inlets place j x no_inlet lt) [
+        | inl w ↦
+          let ahead = ap (λ (y : InletState). length y.ring.received) (h.ahead place (omega arith)) in
+          let new = ap (λ (y : InletState). length y.ring.received) w.1 in
+          let old = ap (λ (k : ℕ). length (inlet_at s k).ring.received) w.0 in
+          let one_item = popped.one_item in omega (arith, ahead, new, old, one_item)
+        | inr w ↦ let same = ap (λ (y : InletState). length y.ring.received) w in let old = h.one_item j in omega (arith, same, old)
+      ];
+      ahead = λ j le. elim (set_cases now.inlets place j x no_inlet lt) [
+        | inl w ↦ absurd (omega (arith, w.0, le))
+        | inr w ↦ w ∙ h.ahead j (omega (arith, le))
+      ];
+      seen = λ e j below. let two = or_false found.moved one.moved e in elim (set_cases now.inlets place j x no_inlet lt) [
+        | inl w ↦ subst IsSeen (sym w.1) (popped.seen two.1)
+        | inr w ↦ subst IsSeen (sym w) (elim (le_cases j place below) [
+          | inl before ↦ h.seen two.0 j before
+          | inr same ↦ let here : inlet_at now j ≡ x = sym w ∙ ap (λ (k : ℕ). get_or (set now.inlets place x) k no_inlet) same ∙ get_or-set_same now.inlets place x no_inlet lt in
+            subst IsSeen (sym here) (popped.seen two.1)
+        ])
+      ];
+      empty = λ e. let two = or_false found.moved one.moved e in
+          ap (λ (c : Option Cause). lower c one.empty) (h.empty two.0) ∙ ap (lower (lowest (map pop_cause (take place now.inlets)))) (popped.cause two.1)
+          ∙ sym (ap (λ (l : List InletState). lowest (map pop_cause l)) (take-set_at now.inlets place (place + 1) x refl lt)
+          ∙ ap lowest (map_push pop_cause (take place now.inlets) x) ∙ lowest_more (map pop_cause (take place now.inlets)) (pop_cause x));
+    }
+      where
+        le_cases : (j n : ℕ) → j < n + 1 → (j < n) ⊎ (j ≡ n)
+        le_cases j n below = elim (cases_eq j n) [
+          | inl e ↦ inr e
+          | inr other ↦ inl (omega (arith, below, other))
+        ]
+
+pub pops_all : {route : Route} {s now : LaneState} {found : Findings} {place : ℕ} → PopsSoFar route s now found place → length now.inlets ≤ place → HasPopped route s now found
+pops_all {route} {s} {now} {found} {place} h over = record {
+  steps = h.steps;
+  outlets = h.outlets;
+  moved = h.moved;
+  one_item = h.one_item;
+  seen = λ e k d lt. subst IsSeen (get_or_default now.inlets k no_inlet d lt) (h.seen e k (omega (arith, over, lt)));
+  empty = λ e. h.empty e ∙ ap (λ (l : List InletState). lowest (map pop_cause l)) (take_all place now.inlets over);
+}
