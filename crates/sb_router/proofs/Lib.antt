@@ -9,6 +9,10 @@ pub mod Handling
 pub mod WholeSteps
 pub mod Lowest
 pub mod MoveSteps
+pub mod Cases
 pub mod PoppingEach
+pub mod HandingEach
+pub mod ClosingEach
+pub mod TurningEach
 pub mod KeptSteps
 pub mod ForwardSteps

@@ -2,7 +2,6 @@
 use Rattle.std.proofs.Common.{◌≡◌, ◌≢◌, ◌⊎◌, inl, inr, ℕ, ◌<◌, ◌≤◌, ◌+◌, ◌||◌, Bool, true, false, cond, is_some, List, [], ◌∷◌, ◌++◌, length, map, take, set, get_or, All, Option, Some, None, refl, sym, ap, ◌∙◌, subst, arith, length-append}
 use Rattle.std.proofs.lemmas.List.{get_or_default, get_or-set_same, map_push, take_all}
 use Rattle.std.proofs.lemmas.Grind.{take-set_at}
-use Rattle.std.proofs.lemmas.Bool.{cases_eq}
 use Rattle.sb_link.specs.declared.answers.Cause.{Cause}
 use Rattle.sb_link.specs.declared.answers.Cause.TheVariants as causes
 use Rattle.sb_packet.specs.declared.packet.Packet.{Packet}
@@ -15,6 +14,7 @@ use Rattle.sb_router.specs.Causes.{found_in_both, lower, lowest, nothing_found}
 use Rattle.sb_router.specs.Moves.{IsToldMoved}
 use Rattle.sb_router.specs.Popping.{IsFoundEmpty, IsLeft, IsPopped, IsPoppedAt, IsTaken}
 use Rattle.sb_router.specs.Turning.{HasPopped, IsSeen, OneItemEach, pop_cause}
+use Rattle.sb_router.proofs.Cases.{le_cases, or_false}
 use Rattle.sb_router.proofs.Places.{set_cases}
 use Rattle.sb_router.proofs.Shapes.{steps_shape}
 use Rattle.sb_router.proofs.Lowest.{lowest_more}
@@ -103,10 +103,6 @@ pops_none route s = record {
   empty = λ e. refl;
 }
 
-or_false : (a b : Bool) → (a || b) ≡ false → (a ≡ false) × (b ≡ false)
-or_false true b e = let no_way : ⊥ = cc in absurd no_way
-or_false false b e = (refl, e)
-
 pub pops_more : {route : Route} {s now then : LaneState} {found one : Findings} {place : ℕ} → PopsSoFar route s now found place → place < length now.inlets → IsPoppedAt place now then one
     → PopsSoFar route s then (found_in_both found one) (place + 1)
 pops_more {route} {s} {now} {then} {found} {one} {place} h lt at =
@@ -151,12 +147,6 @@ pops_more {route} {s} {now} {then} {found} {one} {place} h lt at =
           ∙ sym (ap (λ (l : List InletState). lowest (map pop_cause l)) (take-set_at now.inlets place (place + 1) x refl lt)
           ∙ ap lowest (map_push pop_cause (take place now.inlets) x) ∙ lowest_more (map pop_cause (take place now.inlets)) (pop_cause x));
     }
-      where
-        le_cases : (j n : ℕ) → j < n + 1 → (j < n) ⊎ (j ≡ n)
-        le_cases j n below = elim (cases_eq j n) [
-          | inl e ↦ inr e
-          | inr other ↦ inl (omega (arith, below, other))
-        ]
 
 pub pops_all : {route : Route} {s now : LaneState} {found : Findings} {place : ℕ} → PopsSoFar route s now found place → length now.inlets ≤ place → HasPopped route s now found
 pops_all {route} {s} {now} {found} {place} h over = record {

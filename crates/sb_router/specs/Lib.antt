@@ -12,4 +12,5 @@ pub mod LaneOf
 pub mod Moves
 pub mod Handing
 pub mod Turning
+pub mod Ports
 pub mod Kept
