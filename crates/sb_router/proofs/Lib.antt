@@ -10,9 +10,11 @@ pub mod WholeSteps
 pub mod Lowest
 pub mod MoveSteps
 pub mod Cases
+pub mod Silences
 pub mod PoppingEach
 pub mod HandingEach
 pub mod ClosingEach
 pub mod TurningEach
+pub mod LaneTurns
 pub mod KeptSteps
 pub mod ForwardSteps

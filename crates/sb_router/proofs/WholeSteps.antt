@@ -53,7 +53,7 @@ whole_emptied before w = record {
 }
 
 -- where something is held not all is silent
-not_silent : (s : LaneState) (i : ℕ) (p : Packet) → i < length s.inlets → (inlet_at s i).held ≡ Some p → All IsSilent s.inlets → ⊥
+pub not_silent : (s : LaneState) (i : ℕ) (p : Packet) → i < length s.inlets → (inlet_at s i).held ≡ Some p → All IsSilent s.inlets → ⊥
 not_silent s i p lt held silent = let at = All-get_or IsSilent s.inlets i no_inlet lt silent in let none = at.free in cc
 
 -- nor where a ring is open

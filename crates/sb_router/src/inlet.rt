@@ -1,6 +1,7 @@
 //! A ring that comes into a router.
 
-ghost use Rattle.std.specs.Prelude.{◌≡◌};
+ghost use Rattle.std.specs.Prelude.{◌≡◌, ◌&&◌, is_none};
+ghost use Rattle.std.specs.List.{list_all};
 ghost use Rattle.std.specs.Option.{option_map};
 ghost use Rattle.sb_packet.specs.Messages.{message_of};
 ghost use Rattle.sb_packet.specs.Plans.{message_flow};
@@ -53,4 +54,13 @@ impl<U: RxEnd> Inlet<U> {
         };
         ring.plan().flows.flow(packet)
     }
+}
+
+/// Whether nothing more comes by any of these rings, and nothing is held of them.
+pub fn are_silent<U: RxEnd>(inlets: &[Inlet<U>]) -> bool
+    ensures silent { result ≡ list_all (λ x. x.ended && is_none x.held) inlets.now }
+{
+    inlets
+        .iter()
+        .all(|inlet| inlet.ended && inlet.held.is_none())
 }

@@ -1,19 +1,20 @@
 //! One direction of a router.
 
-ghost use Rattle.std.specs.Prelude.{◌≡◌, ◌<◌, false, not, vec_len, set};
+ghost use Rattle.std.specs.Prelude.{◌≡◌, ◌<◌, All, true, false, not, vec_len, set};
 ghost use Rattle.sb_port.specs.Ports.{owes};
 ghost use Rattle.sb_router.specs.Lanes.{inlet_at, next_place, outlet_at};
 ghost use Rattle.sb_router.specs.LaneOf.{lane_of, lane_route};
 ghost use Rattle.sb_router.specs.Handing.{IsHanded};
 ghost use Rattle.sb_router.specs.Popping.{IsPoppedAt};
+ghost use Rattle.sb_router.specs.Ports.{IsToldAt, IsTurnedAt};
 ghost use Rattle.sb_router.specs.Sending.{IsHandedAt};
-ghost use Rattle.sb_router.specs.Steps.{emptied};
-ghost use Rattle.sb_router.specs.Turning.{HasPopped};
+ghost use Rattle.sb_router.specs.Steps.{IsSilent, emptied};
+ghost use Rattle.sb_router.specs.Turning.{HasClosed, HasHanded, HasPopped, HasTurned, IsLaneTurn};
 ghost use Rattle.sb_router.specs.Whole.{IsWholeLane};
 
 use crate::causes::both;
-use crate::inlet::Inlet;
-use crate::outlet::{hand_to, is_ready};
+use crate::inlet::{Inlet, are_silent};
+use crate::outlet::{close_outlet, hand_to, is_ready, turn_outlet};
 use crate::routes::Routes;
 use sb_link::{RxEnd, TxEnd};
 use sb_node::{Findings, Seat};
@@ -116,5 +117,95 @@ impl<T: TxEnd, U: RxEnd> Lane<T, U> {
             found = both(&found, &one);
         }
         found
+    }
+
+    // hands on what is held of each ring, and says whether it did
+    fn hand_each(&mut self) -> bool
+        requires whole { IsWholeLane (lane_route self.old) (lane_of T.TxEnd U.RxEnd self.old) }
+        ensures routes { self.new.routes ≡ self.old.routes }
+        ensures handed { HasHanded (lane_route self.old) (lane_of T.TxEnd U.RxEnd self.old) (lane_of T.TxEnd U.RxEnd self.new) result }
+    {
+        let mut moved = false;
+        for place in 0..self.inlets.len() {
+            let handed = self.hand_at(place);
+            moved |= handed;
+        }
+        moved
+    }
+
+    // nothing more comes by any ring, and nothing is held
+    fn is_silent(&self) -> bool
+        ensures yes { result ≡ true → All IsSilent (lane_of T.TxEnd U.RxEnd self.now).inlets }
+        ensures no { All IsSilent (lane_of T.TxEnd U.RxEnd self.now).inlets → result ≡ true }
+    {
+        are_silent(&self.inlets)
+    }
+
+    // tells the port at a place to close
+    fn close_at(&mut self, place: usize)
+        requires whole { IsWholeLane (lane_route self.old) (lane_of T.TxEnd U.RxEnd self.old) }
+        requires within { place < vec_len self.old.outlets }
+        ensures routes { self.new.routes ≡ self.old.routes }
+        ensures told { IsToldAt place (lane_of T.TxEnd U.RxEnd self.old) (lane_of T.TxEnd U.RxEnd self.new) }
+    {
+        close_outlet(&mut self.outlets[place]);
+    }
+
+    // tells all ports to close, where nothing more comes
+    fn close_each(&mut self)
+        requires whole { IsWholeLane (lane_route self.old) (lane_of T.TxEnd U.RxEnd self.old) }
+        ensures routes { self.new.routes ≡ self.old.routes }
+        ensures closed { HasClosed (lane_route self.old) (lane_of T.TxEnd U.RxEnd self.old) (lane_of T.TxEnd U.RxEnd self.new) }
+    {
+        if !self.is_silent() {
+            return;
+        }
+        for place in 0..self.outlets.len() {
+            self.close_at(place);
+        }
+    }
+
+    // turns the port at a place
+    fn turn_at(&mut self, place: usize) -> Findings
+        requires whole { IsWholeLane (lane_route self.old) (lane_of T.TxEnd U.RxEnd self.old) }
+        requires within { place < vec_len self.old.outlets }
+        ensures routes { self.new.routes ≡ self.old.routes }
+        ensures turned { IsTurnedAt place (lane_of T.TxEnd U.RxEnd self.old) (lane_of T.TxEnd U.RxEnd self.new) result }
+    {
+        turn_outlet(&mut self.outlets[place])
+    }
+
+    // turns each port once
+    fn turn_each(&mut self) -> Findings
+        requires whole { IsWholeLane (lane_route self.old) (lane_of T.TxEnd U.RxEnd self.old) }
+        ensures routes { self.new.routes ≡ self.old.routes }
+        ensures turned { HasTurned (lane_route self.old) (lane_of T.TxEnd U.RxEnd self.old) (lane_of T.TxEnd U.RxEnd self.new) result }
+    {
+        let mut found = Findings::new();
+        for place in 0..self.outlets.len() {
+            let one = self.turn_at(place);
+            found = both(&found, &one);
+        }
+        found
+    }
+
+    /// Takes one turn: pops each ring of which nothing is held, hands on what is held to the ports that are ready,
+    /// tells the ports to close once nothing more comes, and turns each port once. Takes no memory.
+    pub fn turn(&mut self) -> Findings
+        requires whole { IsWholeLane (lane_route self.old) (lane_of T.TxEnd U.RxEnd self.old) }
+        ensures routes { self.new.routes ≡ self.old.routes }
+        ensures turned { IsLaneTurn (lane_route self.old) (lane_of T.TxEnd U.RxEnd self.old) (lane_of T.TxEnd U.RxEnd self.new) result }
+        ensures whole { IsWholeLane (lane_route self.old) (lane_of T.TxEnd U.RxEnd self.new) }
+    {
+        let popped = self.pop_each();
+        let handed = self.hand_each();
+        self.close_each();
+        let turned = self.turn_each();
+        Findings {
+            moved: popped.moved | handed | turned.moved,
+            full: turned.full,
+            waits: None,
+            empty: popped.empty,
+        }
     }
 }

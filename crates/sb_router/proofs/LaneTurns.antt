@@ -1,0 +1,105 @@
+-- One turn of a direction, of its parts.
+use Rattle.std.proofs.Common.{◌≡◌, ◌⊎◌, inl, inr, ℕ, ◌<◌, ◌≤◌, ◌+◌, ◌||◌, Bool, true, false, cond, is_some, List, [], ◌∷◌, length, map, get_or, All, Option, Some, None, refl, sym, ap, ◌∙◌, subst, arith}
+use Rattle.std.specs.List.{AllByRecursion}
+use Rattle.std.proofs.lemmas.List.{get_or_default}
+use Rattle.std.proofs.lemmas.List.Elements.{All-get_or, recursion_from_All}
+use Rattle.sb_link.specs.declared.answers.Cause.{Cause}
+use Rattle.sb_link.specs.declared.answers.Cause.TheVariants as causes
+use Rattle.sb_packet.specs.declared.packet.Packet.{Packet}
+use Rattle.sb_port.specs.Ports.{PortState, owes}
+use Rattle.sb_node.specs.declared.findings.Findings.{Findings}
+use Rattle.sb_node.specs.Sides.{has_rest, is_full}
+use Rattle.sb_node.specs.Turns.{empty_cause, full_cause}
+use Rattle.sb_router.specs.Lanes.{InletState, LaneState, OutletState, Route, inlet_at, next_place, no_inlet, no_outlet, outlet_at}
+use Rattle.sb_router.specs.Steps.{IsSilent, Steps}
+use Rattle.sb_router.specs.Causes.{lowest}
+use Rattle.sb_router.specs.Moves.{IsToldMoved}
+use Rattle.sb_router.specs.Turning.{HasClosed, HasHanded, HasPopped, HasTurned, IsIdleLane, IsLaneTurn, IsSeen, pop_cause}
+use Rattle.sb_router.specs.Whole.{IsWholeInlet, IsWholeLane}
+use Rattle.sb_router.proofs.Cases.{or_false}
+use Rattle.sb_router.proofs.KeptSteps.{steps_then}
+use Rattle.sb_router.proofs.MoveSteps.{moved_then}
+use Rattle.sb_router.proofs.NextPlaces.{next_within}
+use Rattle.sb_router.proofs.Shapes.{steps_shape}
+use Rattle.sb_router.proofs.WholeSteps.{not_silent, whole_steps}
+
+or_none : (a : Bool) → (a || false) ≡ a
+or_none true = refl
+or_none false = refl
+
+-- where nothing is held, a ring that didn't give its Close is a cause
+same_cause : (x : InletState) → IsWholeInlet x → x.held ≡ None → pop_cause x ≡ empty_cause x.ring
+same_cause x w free = ap (λ (b : Bool). cond b None (Some (causes.Empty x.ring.plan.ring (length x.ring.received) x.ring.known)))
+    (ap (λ (h : Option Packet). x.ended || is_some h) free ∙ or_none x.ended ∙ w.ended)
+
+same_causes : (xs : List InletState) → AllByRecursion IsWholeInlet xs → AllByRecursion (λ x. x.held ≡ None) xs → map pop_cause xs ≡ map (λ x. empty_cause x.ring) xs
+same_causes [] w free = refl
+same_causes (x ∷ xs) w free = ap (λ (c : Option Cause). c ∷ map pop_cause xs) (same_cause x w.0 free.0) ∙ ap (λ (l : List (Option Cause)). empty_cause x.ring ∷ l) (same_causes xs w.1 free.1)
+
+module _ {route : Route} {s a b d t : LaneState} {popped turned : Findings} {handed : Bool} (whole : IsWholeLane route s)
+    (pops : HasPopped route s a popped) (hands : HasHanded route a b handed) (closes : HasClosed route b d) (turns : HasTurned route d t turned) where
+  all_steps : Steps route s t
+  all_steps = steps_then (steps_then (steps_then pops.steps hands.steps) closes.steps) turns.steps
+
+  -- no part changes the rings that come in but the first two
+  same_inlets : t.inlets ≡ b.inlets
+  same_inlets = turns.inlets ∙ closes.inlets
+
+  inlet_same : (i : ℕ) → inlet_at t i ≡ inlet_at b i
+  inlet_same i = ap (λ (l : List InletState). get_or l i no_inlet) same_inlets
+
+  abbrev pub found : Findings
+  found = record { moved = (popped.moved || handed) || turned.moved; full = turned.full; waits = None; empty = popped.empty }
+
+  none_moved : ((popped.moved || handed) || turned.moved) ≡ false → (popped.moved ≡ false) × (handed ≡ false) × (turned.moved ≡ false)
+  none_moved e = let two = or_false (popped.moved || handed) turned.moved e in let one = or_false popped.moved handed two.0 in (one.0, one.1, two.1)
+
+  count_same : length t.outlets ≡ length s.outlets
+  count_same = (steps_shape all_steps).outlets
+
+  -- what is held is for a port whose ring is full
+  held_waits : handed ≡ false → turned.moved ≡ false → (i : ℕ) (p : Packet) → i < length t.inlets → (inlet_at t i).held ≡ Some p
+      → (o : ℕ) × (next_place route (inlet_at t i).ring.plan p ≡ Some o) × (is_full (outlet_at t o).port ≡ true)
+  held_waits h m i p lt held =
+      let inside : i < length b.inlets = omega (arith, lt, ap length same_inlets) in
+      let held_before : (inlet_at b i).held ≡ Some p = sym (ap (λ (x : InletState). x.held) (inlet_same i)) ∙ held in
+      let waits = (hands.waiting h i inside).owing p held_before in
+      let o = waits.0 in
+      let whole_b = whole_steps whole (steps_then pops.steps hands.steps) in
+      let within = next_within route (inlet_at b i).ring.plan p o (length b.outlets) whole_b.routed waits.1 in
+      let unclosed : d ≡ b = closes.untold (not_silent b i p inside held_before) in
+      let within_t : o < length t.outlets = omega (arith, within, (steps_shape closes.steps).outlets, (steps_shape turns.steps).outlets) in
+      let idle = turns.idle m o within_t in
+      let owing : owes (outlet_at t o).port.state ≡ true = ap owes idle.same ∙ ap (λ (x : LaneState). owes (outlet_at x o).port.state) unclosed ∙ waits.2 in
+      let rest : has_rest (outlet_at t o).port ≡ true = ap (λ (y : Bool). y || is_some (outlet_at t o).port.state.waiting.held) owing in
+      (o, ap (λ (x : InletState). next_place route x.ring.plan p) (inlet_same i) ∙ waits.1, idle.rest rest)
+
+  seen : popped.moved ≡ false → handed ≡ false → All IsSeen t.inlets
+  seen p h = subst (λ (l : List InletState). All IsSeen l) (sym (same_inlets ∙ ap (λ (x : LaneState). x.inlets) (hands.still h))) (pops.seen p)
+
+  is_idle : popped.moved ≡ false → handed ≡ false → turned.moved ≡ false → IsIdleLane route t
+  is_idle p h m = record {
+    held_awaits_full = held_waits h m;
+    owing_are_full = λ k none lt. subst (λ (y : OutletState). has_rest y.port ≡ true → is_full y.port ≡ true) (get_or_default t.outlets k no_outlet none lt) (turns.idle m k lt).rest;
+    open_are_seen = seen p h;
+  }
+
+  empty_found : popped.moved ≡ false → handed ≡ false → All (λ x. x.held ≡ None) t.inlets → popped.empty ≡ lowest (map (λ x. empty_cause x.ring) t.inlets)
+  empty_found p h free = pops.empty p ∙ ap (λ (l : List InletState). lowest (map pop_cause l)) (sym (same_inlets ∙ ap (λ (x : LaneState). x.inlets) (hands.still h)))
+      ∙ ap lowest (same_causes t.inlets (recursion_from_All IsWholeInlet t.inlets (whole_steps whole all_steps).inlets) (recursion_from_All (λ x. x.held ≡ None) t.inlets free))
+
+  pub lane_turn : IsLaneTurn route s t found
+  lane_turn = record {
+    steps = all_steps;
+    moved = moved_then (popped.moved || handed) turned.moved
+        (subst (λ (x : Bool). IsToldMoved s d x) (or_none (popped.moved || handed)) (moved_then (popped.moved || handed) false (moved_then popped.moved handed pops.moved hands.moved_is) closes.moved)) turns.moved;
+    one_item = λ i. let one = pops.one_item i in let first = ap (λ (x : InletState). length x.ring.received) (inlet_same i) in let second = ap (λ ring. length ring.received) (hands.rings i) in omega (arith, one, first, second);
+    closed = λ silent o lt. turns.told o ∙ closes.told (subst (λ (l : List InletState). All IsSilent l) same_inlets silent) o (omega (arith, lt, (steps_shape turns.steps).outlets));
+    idle = λ e. let none = none_moved e in is_idle none.0 none.1 none.2;
+    full = λ e. turns.full (none_moved e).2;
+    waits = refl;
+    empty = λ e free. let none = none_moved e in empty_found none.0 none.1 free;
+  }
+
+  pub lane_whole : IsWholeLane route t
+  lane_whole = whole_steps whole all_steps

@@ -1,0 +1,47 @@
+-- close_each: each port was told once the place is behind the last one, or none.
+use Rattle.std.proofs.Common.{◌≡◌, sym, refl, ap, ◌∙◌, ◌+◌, subst, arith, length, map, true, false, All}
+use Rattle.std.proofs.lemmas.List.{length-map}
+use Rattle.sb_router.specs.Lanes.{LaneState, Route}
+use Rattle.sb_router.specs.LaneOf.{lane_of, lane_route}
+use Rattle.sb_router.specs.OutletOf.{outlet_of}
+use Rattle.sb_router.specs.RouteOf.{route_of}
+use Rattle.sb_router.specs.Steps.{IsSilent}
+use Rattle.sb_router.specs.Whole.{IsWholeLane}
+use Rattle.sb_router.proofs.ClosingEach.{TellsSoFar, tells_all, tells_more, tells_none, tells_not}
+use Rattle.sb_router.proofs.Shapes.{steps_shape}
+use Rattle.sb_router.proofs.WholeSteps.{whole_steps}
+use Rattle.sb_router.proofs.lane.Lane.close_each.Goals as goal
+
+pub returns-then-not-is_silent-clause-closed : goal.returns-then-not-is_silent-clause-closed
+returns-then-not-is_silent-clause-closed g c = tells_not (λ silent. let found = c.if-not-is_silent.ensures.no silent in let other = c.if-not-is_silent.true in cc)
+
+pub loop-place-init : goal.loop-place-init
+loop-place-init g c = record { routes = refl; told = tells_none (lane_route c.args.self.now) (lane_of g.T.TxEnd g.U.RxEnd c.args.self.now) }
+
+pub close_at-requires-clause-whole : goal.close_at-requires-clause-whole
+close_at-requires-clause-whole g c =
+    let now : LaneState = lane_of g.T.TxEnd g.U.RxEnd c.loop-place.self in
+    subst (λ rows. IsWholeLane (route_of rows.rows.items) now) (sym c.loop-place.invariant.routes) (whole_steps c.requires.whole c.loop-place.invariant.told.steps)
+
+pub close_at-requires-clause-within : goal.close_at-requires-clause-within
+close_at-requires-clause-within g c =
+    let shape = steps_shape c.loop-place.invariant.told.steps in
+    omega (arith, c.loop-place-test.true, c.len-place-end.ensures, c.args.self.now.outlets.ok.0, c.loop-place.self.outlets.ok.0, length-map c.args.self.now.outlets.items (outlet_of g.T.TxEnd),
+    length-map c.loop-place.self.outlets.items (outlet_of g.T.TxEnd), shape.outlets)
+
+pub loop-place-preserved : goal.loop-place-preserved
+loop-place-preserved g c =
+    let so_far = c.loop-place.invariant.told in
+    let shape = steps_shape so_far.steps in
+    record {
+      routes = c.close_at.ensures.routes ∙ c.loop-place.invariant.routes;
+      told = tells_more so_far (c.is_silent.ensures.yes c.if-not-is_silent.false)
+          (omega (arith, c.loop-place-test.true, c.len-place-end.ensures, c.args.self.now.outlets.ok.0, length-map c.args.self.now.outlets.items (outlet_of g.T.TxEnd), shape.outlets)) c.close_at.ensures.told;
+    }
+
+pub returns-clause-closed : goal.returns-clause-closed
+returns-clause-closed g c =
+    let so_far = c.loop-place.invariant.told in
+    let shape = steps_shape so_far.steps in
+    tells_all so_far (c.is_silent.ensures.yes c.if-not-is_silent.false)
+    (omega (arith, c.loop-place-test.false, c.len-place-end.ensures, c.args.self.now.outlets.ok.0, length-map c.args.self.now.outlets.items (outlet_of g.T.TxEnd), shape.outlets))

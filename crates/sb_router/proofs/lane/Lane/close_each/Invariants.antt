@@ -1,0 +1,11 @@
+-- The ports before the place were told.
+use Rattle.std.proofs.Common.{◌≡◌}
+use Rattle.sb_router.specs.LaneOf.{lane_of, lane_route}
+use Rattle.sb_router.proofs.ClosingEach.{TellsSoFar}
+use Rattle.sb_router.proofs.lane.Lane.close_each.Given as goal
+
+abbrev pub invariant-loop-place : goal.invariant-loop-place
+invariant-loop-place g l = record {
+  routes : l.self.routes ≡ l.initial.self.routes;
+  told : TellsSoFar (lane_route l.initial.self) (lane_of g.T.TxEnd g.U.RxEnd l.initial.self) (lane_of g.T.TxEnd g.U.RxEnd l.self) l.place;
+}
