@@ -16,10 +16,10 @@ use Rattle.sb_node.specs.Sides.{PortSide, offered_words, received_words}
 use Rattle.sb_router.specs.Lanes.{InletState, LaneState, OutletState, Route, came_at, held_at, held_words, inlet_at, no_inlet, no_outlet, offered_at, outlet_at, next_place}
 use Rattle.sb_router.specs.Steps.{IsUnmoved, Step, Steps, receives, looks, drops, offers, turns, tells, none, further}
 use Rattle.sb_router.specs.Whole.{IsWholeInlet, IsWholeLane}
-use Rattle.sb_router.specs.Forwarding.{Words, Passes, AreSound, IsLaid, came_for, held_for, part, popped_for}
+use Rattle.sb_router.specs.Forwarding.{Words, Passes, AreSound, Forwards, IsLaid, came_for, held_for, part, popped_for}
 use Rattle.sb_router.proofs.Places.{set_cases}
 use Rattle.sb_router.proofs.Shapes.{SameShape, inlets_shape, outlets_shape, passed_before, step_shape}
-use Rattle.sb_router.proofs.Forwards.{Forwards, receiving, sound_before}
+use Rattle.sb_router.proofs.Forwards.{receiving, sound_before}
 use Rattle.sb_router.proofs.Handling.{dropping, offering}
 use Rattle.sb_router.proofs.WholeSteps.{whole_steps}
 

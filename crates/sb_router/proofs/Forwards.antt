@@ -18,17 +18,10 @@ use Rattle.sb_packet.specs.declared.item.Item.TheVariants as items
 use Rattle.sb_node.specs.Sides.{offered_words, received_words}
 use Rattle.sb_router.specs.Lanes.{InletState, LaneState, OutletState, Route, came_at, held_at, held_words, inlet_at, no_inlet, no_outlet, offered_at, outlet_at, next_place}
 use Rattle.sb_router.specs.Steps.{IsReceived, IsUnmoved, held_of}
-use Rattle.sb_router.specs.Forwarding.{Words, Passes, AreSound, HasForwarded, came_for, held_for, part, popped_for}
+use Rattle.sb_router.specs.Forwarding.{Words, Passes, AreSound, Forwards, HasForwarded, came_for, held_for, part, popped_for}
 use Rattle.sb_router.proofs.Places.{set_cases}
 use Rattle.sb_router.proofs.Shapes.{SameShape, inlets_shape, passed_before}
 use Rattle.sb_router.proofs.Subsequences.{all_came, more_came, without_end}
-
--- Of each port's words at least as many were popped as were offered or are held. Of each flow that passes, what was offered and then what is held is what came, less some; and nothing is missing where all is sound and within the budget.
-pub record Forwards (words : Words) (route : Route) (s : LaneState) : Type 0 where
-  pub few : (o : ℕ) → length (offered_at s o) + sum_by (held_for words o) s.inlets ≤ popped_for words s o
-  pub picks : (f : NetFlow) (i o : ℕ) → Passes route s f i o → IsSubsequence (part words f (offered_at s o) ++ part words f (held_at s i)) (part words f (came_at s i))
-  pub whole : (f : NetFlow) (i o : ℕ) → Passes route s f i o → AreSound s → popped_for words s o ≤ (outlet_at s o).port.plan.budget
-      → part words f (came_at s i) ≡ part words f (offered_at s o) ++ part words f (held_at s i)
 
 pub has_forwarded : {words : Words} {route : Route} {s : LaneState} → Forwards words route s → (f : NetFlow) (i o : ℕ) → Passes route s f i o → HasForwarded words s f i o
 has_forwarded {words} {route} {s} h f i o passes = record {

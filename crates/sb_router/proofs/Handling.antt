@@ -21,12 +21,12 @@ use Rattle.sb_node.specs.Sides.{offered_words, received_words}
 use Rattle.sb_router.specs.Lanes.{InletState, LaneState, OutletState, Route, came_at, held_at, held_words, inlet_at, no_inlet, no_outlet, offered_at, outlet_at, next_place}
 use Rattle.sb_router.specs.Steps.{IsGiven, IsRefused, emptied}
 use Rattle.sb_router.specs.Whole.{IsLast, IsWholeInlet}
-use Rattle.sb_router.specs.Forwarding.{Words, Passes, AreSound, IsLaid, IsOneFlow, came_for, held_for, part, popped_for}
+use Rattle.sb_router.specs.Forwarding.{Words, Passes, AreSound, Forwards, IsLaid, IsOneFlow, came_for, held_for, part, popped_for}
 use Rattle.sb_router.proofs.Places.{set_cases}
 use Rattle.sb_router.proofs.NextPlaces.{next_flow}
 use Rattle.sb_router.proofs.Shapes.{SameShape, inlets_shape, outlet_set, passed_before}
 use Rattle.sb_router.proofs.Subsequences.{without_end}
-use Rattle.sb_router.proofs.Forwards.{Forwards, sound_before}
+use Rattle.sb_router.proofs.Forwards.{sound_before}
 
 -- what may go over a ring is of a flow that does
 pub allowed_flow : (flows : RingFlows) (m : Message) → is_allowed flows m ≡ true → (g : NetFlow) × (message_flow flows m ≡ Some g) × (goes_through flows g ≡ true)

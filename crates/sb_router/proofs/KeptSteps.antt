@@ -6,14 +6,8 @@ use Rattle.sb_node.specs.Sides.{PortSide}
 use Rattle.sb_node.specs.Kept.{IsKeptPort, begins_itself, kept_port_same, kept_port_then, kept_ring_same, kept_ring_then}
 use Rattle.sb_router.specs.Lanes.{InletState, LaneState, OutletState, Route, inlet_at, no_inlet, no_outlet, outlet_at}
 use Rattle.sb_router.specs.Steps.{Step, Steps, receives, looks, drops, offers, turns, tells, none, further, emptied}
-use Rattle.sb_router.specs.Kept.{IsKeptInlet, IsKeptLane, IsKeptOutlet}
+use Rattle.sb_router.specs.Kept.{IsKeptInlet, IsKeptLane, IsKeptOutlet, kept_inlet_same, kept_lane_same, kept_lane_then, kept_outlet_same}
 use Rattle.sb_router.proofs.Places.{set_cases}
-
-pub kept_inlet_same : (x : InletState) → IsKeptInlet x x
-kept_inlet_same x = record { there = refl; number = refl; ring = kept_ring_same x.ring }
-
-pub kept_outlet_same : (y : OutletState) → IsKeptOutlet y y
-kept_outlet_same y = record { there = refl; number = refl; port = kept_port_same y.port }
 
 -- a port that was told to close is as it was
 pub kept_told : (before : PortSide) → IsKeptPort before (record before { state = record before.state { closing = true } })
@@ -25,17 +19,6 @@ kept_told before = record {
   sent_more = begins_itself before.state.sent;
   learnt = omega arith;
   still_told = λ told. refl;
-}
-
-pub kept_lane_same : (s : LaneState) → IsKeptLane s s
-kept_lane_same s = record { inlet_count = refl; outlet_count = refl; inlets = λ i. kept_inlet_same (inlet_at s i); outlets = λ o. kept_outlet_same (outlet_at s o) }
-
-pub kept_lane_then : {s t u : LaneState} → IsKeptLane s t → IsKeptLane t u → IsKeptLane s u
-kept_lane_then {s} {t} {u} a b = record {
-  inlet_count = b.inlet_count ∙ a.inlet_count;
-  outlet_count = b.outlet_count ∙ a.outlet_count;
-  inlets = λ i. let x = a.inlets i in let y = b.inlets i in record { there = y.there ∙ x.there; number = y.number ∙ x.number; ring = kept_ring_then x.ring y.ring };
-  outlets = λ o. let x = a.outlets o in let y = b.outlets o in record { there = y.there ∙ x.there; number = y.number ∙ x.number; port = kept_port_then x.port y.port };
 }
 
 kept_inlet_set : (s : LaneState) (i : ℕ) (x : InletState) → i < length s.inlets → IsKeptInlet (inlet_at s i) x → (j : ℕ) → IsKeptInlet (inlet_at s j) (get_or (set s.inlets i x) j no_inlet)

@@ -14,7 +14,7 @@ use Rattle.sb_router.specs.Lanes.{InletState, LaneState, OutletState, Route, inl
 use Rattle.sb_router.specs.Steps.{IsSilent, Steps}
 use Rattle.sb_router.specs.Causes.{lowest}
 use Rattle.sb_router.specs.Moves.{IsToldMoved}
-use Rattle.sb_router.specs.Turning.{HasClosed, HasHanded, HasPopped, HasTurned, IsIdleLane, IsLaneTurn, IsSeen, pop_cause}
+use Rattle.sb_router.specs.Turning.{AwaitsFullPort, HasClosed, HasHanded, HasPopped, HasTurned, IsIdleLane, IsLaneTurn, IsSeen, pop_cause}
 use Rattle.sb_router.specs.Whole.{IsWholeInlet, IsWholeLane}
 use Rattle.sb_router.proofs.Cases.{or_false}
 use Rattle.sb_router.proofs.KeptSteps.{steps_then}
@@ -59,7 +59,7 @@ module _ {route : Route} {s a b d t : LaneState} {popped turned : Findings} {han
 
   -- what is held is for a port whose ring is full
   held_waits : handed ≡ false → turned.moved ≡ false → (i : ℕ) (p : Packet) → i < length t.inlets → (inlet_at t i).held ≡ Some p
-      → (o : ℕ) × (next_place route (inlet_at t i).ring.plan p ≡ Some o) × (is_full (outlet_at t o).port ≡ true)
+      → AwaitsFullPort route t i p
   held_waits h m i p lt held =
       let inside : i < length b.inlets = omega (arith, lt, ap length same_inlets) in
       let held_before : (inlet_at b i).held ≡ Some p = sym (ap (λ (x : InletState). x.held) (inlet_same i)) ∙ held in
@@ -72,7 +72,7 @@ module _ {route : Route} {s a b d t : LaneState} {popped turned : Findings} {han
       let idle = turns.idle m o within_t in
       let owing : owes (outlet_at t o).port.state ≡ true = ap owes idle.same ∙ ap (λ (x : LaneState). owes (outlet_at x o).port.state) unclosed ∙ waits.2 in
       let rest : has_rest (outlet_at t o).port ≡ true = ap (λ (y : Bool). y || is_some (outlet_at t o).port.state.waiting.held) owing in
-      (o, ap (λ (x : InletState). next_place route x.ring.plan p) (inlet_same i) ∙ waits.1, idle.rest rest)
+      record { place = o; within = within_t; next = ap (λ (x : InletState). next_place route x.ring.plan p) (inlet_same i) ∙ waits.1; owing = owing; full = idle.rest rest }
 
   seen : popped.moved ≡ false → handed ≡ false → All IsSeen t.inlets
   seen p h = subst (λ (l : List InletState). All IsSeen l) (sym (same_inlets ∙ ap (λ (x : LaneState). x.inlets) (hands.still h))) (pops.seen p)

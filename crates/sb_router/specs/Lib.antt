@@ -14,3 +14,4 @@ pub mod Handing
 pub mod Turning
 pub mod Ports
 pub mod Kept
+pub mod Routers

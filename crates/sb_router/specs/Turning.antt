@@ -3,6 +3,7 @@ use Rattle.std.specs.Prelude.{◌≡◌, ◌≢◌, ◌≤◌, ◌<◌, ◌+◌,
 use Rattle.sb_link.specs.declared.answers.Cause.{Cause}
 use Rattle.sb_link.specs.declared.answers.Cause.TheVariants as causes
 use Rattle.sb_packet.specs.declared.packet.Packet.{Packet}
+use Rattle.sb_port.specs.Ports.{owes}
 use Rattle.sb_node.specs.Sides.{has_rest, is_drained, is_full}
 use Rattle.sb_node.specs.Turns.{empty_cause, full_cause}
 use Rattle.sb_node.specs.declared.findings.Findings.{Findings}
@@ -63,11 +64,18 @@ pub record HasTurned (route : Route) (s t : LaneState) (found : Findings) : Type
   pub idle : found.moved ≡ false → (o : ℕ) → o < length t.outlets → IsPortIdle (outlet_at s o) (outlet_at t o)
   pub full : found.moved ≡ false → found.full ≡ lowest (map (λ y. full_cause y.port) t.outlets)
 
+-- a packet goes to a port that owes an item, and whose ring is full
+pub record AwaitsFullPort (route : Route) (s : LaneState) (i : ℕ) (p : Packet) : Type 0 where
+  pub place : ℕ
+  pub within : place < length s.outlets
+  pub next : next_place route (inlet_at s i).ring.plan p ≡ Some place
+  pub owing : owes (outlet_at s place).port.state ≡ true
+  pub full : is_full (outlet_at s place).port ≡ true
+
 -- What holds of a direction after a turn in which it did nothing.
 pub record IsIdleLane (route : Route) (s : LaneState) : Type 0 where
-  -- what is held is for a port whose ring is full
-  pub held_awaits_full : (i : ℕ) (p : Packet) → i < length s.inlets → (inlet_at s i).held ≡ Some p
-      → (o : ℕ) × (next_place route (inlet_at s i).ring.plan p ≡ Some o) × (is_full (outlet_at s o).port ≡ true)
+  -- what is held is for a port that owes an item, and whose ring is full
+  pub held_awaits_full : (i : ℕ) (p : Packet) → i < length s.inlets → (inlet_at s i).held ≡ Some p → AwaitsFullPort route s i p
   -- a port that has something left to send found its ring full
   pub owing_are_full : All (λ y. has_rest y.port ≡ true → is_full y.port ≡ true) s.outlets
   -- a ring that didn't give its Close was found empty, or a packet that came by it is held

@@ -1,0 +1,97 @@
+-- A router as rounds see it: its two directions.
+use Rattle.std.specs.Prelude.{◌≡◌, ◌≢◌, ◌≤◌, ◌<◌, ◌+◌, ◌++◌, ℕ, true, List, [], ◌∷◌, length, map, All, Option}
+use Rattle.std.proofs.Common.{refl, ◌∙◌}
+use Rattle.sb_link.specs.declared.answers.Turn.{Turn}
+use Rattle.sb_link.specs.declared.answers.Turn.TheVariants.{Moved}
+use Rattle.sb_node.specs.Sides.{PortSide, RingSide, is_done}
+use Rattle.sb_node.specs.Turns.{IsAnswered, empty_cause, full_cause}
+use Rattle.sb_router.specs.Lanes.{LaneState, outlet_at}
+use Rattle.sb_router.specs.RouteOf.{route_of}
+use Rattle.sb_router.specs.Steps.{IsSilent}
+use Rattle.sb_router.specs.Whole.{IsWholeLane}
+use Rattle.sb_router.specs.Moves.{lane_moves}
+use Rattle.sb_router.specs.Causes.{lowest}
+use Rattle.sb_router.specs.Turning.{IsIdleLane, OneItemEach}
+use Rattle.sb_router.specs.Kept.{IsKeptLane, kept_lane_same, kept_lane_then}
+use Rattle.sb_router.specs.Forwarding.{Forwards, IsLaid, Words}
+
+-- one direction, and where its flows go
+pub record DirectionSide : Type 0 where
+  pub rows : List (List (Option ℕ))
+  pub lane : LaneState
+
+-- a router
+pub record RouterSide : Type 0 where
+  pub requests : DirectionSide
+  pub answers : DirectionSide
+
+-- a direction is whole
+abbrev pub IsWholeDirection : DirectionSide → Type 0
+IsWholeDirection d = IsWholeLane (route_of d.rows) d.lane
+
+-- A router is whole: it has all its ends, and knows the truth about them.
+pub record IsWholeRouter (r : RouterSide) : Type 0 where
+  pub requests : IsWholeDirection r.requests
+  pub answers : IsWholeDirection r.answers
+
+-- A direction forwards words: its rings belong together, and of each flow it has handed on what came, less what it dropped.
+pub record ForwardsAll (words : Words) (d : DirectionSide) : Type 0 where
+  pub laid : IsLaid words (route_of d.rows) d.lane
+  pub forwards : Forwards words (route_of d.rows) d.lane
+
+-- What turns keep of a direction: nothing is taken back, and it goes on to forward.
+pub record IsKeptDirection (before after : DirectionSide) : Type 0 where
+  pub rows : after.rows ≡ before.rows
+  pub lane : IsKeptLane before.lane after.lane
+  pub forwards : (words : Words) → IsWholeDirection before → ForwardsAll words before → ForwardsAll words after
+  pub whole : IsWholeDirection before → IsWholeDirection after
+
+pub record IsKeptRouter (before after : RouterSide) : Type 0 where
+  pub requests : IsKeptDirection before.requests after.requests
+  pub answers : IsKeptDirection before.answers after.answers
+
+-- how much went through a router so far
+abbrev pub router_moves : RouterSide → ℕ
+router_moves r = lane_moves r.requests.lane + lane_moves r.answers.lane
+
+-- its ports and its rings
+abbrev pub router_ports : RouterSide → List PortSide
+router_ports r = map (λ y. y.port) r.requests.lane.outlets ++ map (λ y. y.port) r.answers.lane.outlets
+
+abbrev pub router_rings : RouterSide → List RingSide
+router_rings r = map (λ x. x.ring) r.requests.lane.inlets ++ map (λ x. x.ring) r.answers.lane.inlets
+
+-- all ports of a direction were told to close once nothing more comes
+abbrev pub ClosesWhenDue : DirectionSide → Type 0
+ClosesWhenDue d = All IsSilent d.lane.inlets → (o : ℕ) → o < length d.lane.outlets → (outlet_at d.lane o).port.state.closing ≡ true
+
+-- What one turn of a router does, and answers: of two causes of one kind it answers that at the ring of the lower number.
+pub record IsRouterTurn (before : RouterSide) (answer : Turn) (after : RouterSide) : Type 0 where
+  pub answered : IsAnswered (router_moves before) (router_moves after) (is_done (router_ports after) (router_rings after))
+      (lowest (map full_cause (router_ports after)) ∷ lowest (map empty_cause (router_rings after)) ∷ []) answer
+  pub idle_requests : answer ≢ Moved → IsIdleLane (route_of after.requests.rows) after.requests.lane
+  pub idle_answers : answer ≢ Moved → IsIdleLane (route_of after.answers.rows) after.answers.lane
+  pub closed_requests : ClosesWhenDue after.requests
+  pub closed_answers : ClosesWhenDue after.answers
+  -- at most one item was popped of each ring
+  pub one_request : OneItemEach before.requests.lane after.requests.lane
+  pub one_answer : OneItemEach before.answers.lane after.answers.lane
+
+-- nothing happened to a router
+pub kept_router_same : (r : RouterSide) → IsKeptRouter r r
+kept_router_same r = record { requests = same r.requests; answers = same r.answers }
+  where
+    same : (d : DirectionSide) → IsKeptDirection d d
+    same d = record { rows = refl; lane = kept_lane_same d.lane; forwards = λ words w h. h; whole = λ w. w }
+
+-- one thing after another happened to a router
+pub kept_router_then : (x y z : RouterSide) → IsKeptRouter x y → IsKeptRouter y z → IsKeptRouter x z
+kept_router_then x y z a b = record { requests = both a.requests b.requests; answers = both a.answers b.answers }
+  where
+    both : {p q r : DirectionSide} → IsKeptDirection p q → IsKeptDirection q r → IsKeptDirection p r
+    both f g = record {
+      rows = g.rows ∙ f.rows;
+      lane = kept_lane_then f.lane g.lane;
+      forwards = λ words w h. g.forwards words (f.whole w) (f.forwards words w h);
+      whole = λ w. g.whole (f.whole w);
+    }
