@@ -16,5 +16,7 @@ pub mod HandingEach
 pub mod ClosingEach
 pub mod TurningEach
 pub mod LaneTurns
+pub mod RouterTurns
+pub mod RouterTurning
 pub mod KeptSteps
 pub mod ForwardSteps

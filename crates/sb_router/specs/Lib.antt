@@ -15,3 +15,4 @@ pub mod Turning
 pub mod Ports
 pub mod Kept
 pub mod Routers
+pub mod RouterOf

@@ -64,3 +64,10 @@ pub fn are_silent<U: RxEnd>(inlets: &[Inlet<U>]) -> bool
         .iter()
         .all(|inlet| inlet.ended && inlet.held.is_none())
 }
+
+/// Whether each of these rings gave its Close.
+pub fn have_ended<U: RxEnd>(inlets: &[Inlet<U>]) -> bool
+    ensures ended { result ≡ list_all (λ x. x.ended) inlets.now }
+{
+    inlets.iter().all(|inlet| inlet.ended)
+}

@@ -1,6 +1,7 @@
 //! One direction of a router.
 
-ghost use Rattle.std.specs.Prelude.{◌≡◌, ◌<◌, All, true, false, not, vec_len, set};
+ghost use Rattle.std.specs.Prelude.{◌≡◌, ◌<◌, ◌&&◌, All, true, false, not, vec_len, set};
+ghost use Rattle.std.specs.List.{list_all};
 ghost use Rattle.sb_port.specs.Ports.{owes};
 ghost use Rattle.sb_router.specs.Lanes.{inlet_at, next_place, outlet_at};
 ghost use Rattle.sb_router.specs.LaneOf.{lane_of, lane_route};
@@ -13,8 +14,8 @@ ghost use Rattle.sb_router.specs.Turning.{HasClosed, HasHanded, HasPopped, HasTu
 ghost use Rattle.sb_router.specs.Whole.{IsWholeLane};
 
 use crate::causes::both;
-use crate::inlet::{Inlet, are_silent};
-use crate::outlet::{close_outlet, hand_to, is_ready, turn_outlet};
+use crate::inlet::{Inlet, are_silent, have_ended};
+use crate::outlet::{are_shut, close_outlet, hand_to, is_ready, turn_outlet};
 use crate::routes::Routes;
 use sb_link::{RxEnd, TxEnd};
 use sb_node::{Findings, Seat};
@@ -191,7 +192,7 @@ impl<T: TxEnd, U: RxEnd> Lane<T, U> {
 
     /// Takes one turn: pops each ring of which nothing is held, hands on what is held to the ports that are ready,
     /// tells the ports to close once nothing more comes, and turns each port once. Takes no memory.
-    pub fn turn(&mut self) -> Findings
+    pub(crate) fn turn(&mut self) -> Findings
         requires whole { IsWholeLane (lane_route self.old) (lane_of T.TxEnd U.RxEnd self.old) }
         ensures routes { self.new.routes ≡ self.old.routes }
         ensures turned { IsLaneTurn (lane_route self.old) (lane_of T.TxEnd U.RxEnd self.old) (lane_of T.TxEnd U.RxEnd self.new) result }
@@ -207,5 +208,12 @@ impl<T: TxEnd, U: RxEnd> Lane<T, U> {
             waits: None,
             empty: popped.empty,
         }
+    }
+
+    /// Whether each ring gave its Close and each port sent one.
+    pub fn is_done(&self) -> bool
+        ensures done { result ≡ (list_all (λ y. y.port.state.shut) (lane_of T.TxEnd U.RxEnd self.now).outlets && list_all (λ x. x.ended) (lane_of T.TxEnd U.RxEnd self.now).inlets) }
+    {
+        are_shut(&self.outlets) & have_ended(&self.inlets)
     }
 }

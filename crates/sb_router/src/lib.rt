@@ -5,10 +5,10 @@ mod causes;
 mod inlet;
 mod lane;
 mod outlet;
+mod router_core;
 mod routes;
 
-pub use causes::both;
 pub use inlet::Inlet;
 pub use lane::Lane;
-pub use outlet::{close_outlet, hand_to, is_ready, turn_outlet};
+pub use router_core::RouterCore;
 pub use routes::Routes;

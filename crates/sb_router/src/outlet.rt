@@ -1,6 +1,7 @@
 //! A ring by which a router sends.
 
 ghost use Rattle.std.specs.Prelude.{◌≡◌, false, not};
+ghost use Rattle.std.specs.List.{list_all};
 ghost use Rattle.sb_port.specs.Ports.{owes};
 ghost use Rattle.sb_node.specs.Steps.{IsHandedOn, IsPortTurned};
 ghost use Rattle.sb_router.specs.Causes.{nothing_found};
@@ -63,4 +64,21 @@ pub fn hand_to<T: TxEnd>(seat: &mut Seat<OutPort<T>>, packet: &Packet)
         unreachable!()
     };
     hand_on(port, packet);
+}
+
+// the port that stands there has sent its Close
+fn is_shut<T: TxEnd>(seat: &Seat<OutPort<T>>) -> bool
+    ensures shut { result ≡ (outlet_of T.TxEnd seat.now).port.state.shut }
+{
+    match &seat.end {
+        Some(port) => port.closed(),
+        None => false,
+    }
+}
+
+/// Whether each of these ports has sent its Close.
+pub fn are_shut<T: TxEnd>(seats: &[Seat<OutPort<T>>]) -> bool
+    ensures shut { result ≡ list_all (λ seat. (outlet_of T.TxEnd seat).port.state.shut) seats.now }
+{
+    seats.iter().all(|seat| is_shut(seat))
 }

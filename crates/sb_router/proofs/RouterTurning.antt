@@ -1,0 +1,39 @@
+-- What is found in the turns of both directions is what a router answers by.
+use Rattle.std.proofs.Common.{◌≡◌, ◌≢◌, ◌||◌, ◌&&◌, ℕ, Bool, true, false, List, [], ◌∷◌, ◌++◌, map, All, Option, None, refl, sym, ap, ◌∙◌, subst}
+use Rattle.std.specs.List.{list_all}
+use Rattle.sb_link.specs.declared.answers.Turn.{Turn}
+use Rattle.sb_node.specs.declared.findings.Findings.{Findings}
+use Rattle.sb_node.specs.Found.{IsTurnOf}
+use Rattle.sb_node.specs.Sides.{is_done}
+use Rattle.sb_node.specs.Turns.{first_cause}
+use Rattle.sb_router.specs.Lanes.{InletState, LaneState, OutletState}
+use Rattle.sb_router.specs.Causes.{found_in_both}
+use Rattle.sb_router.specs.RouteOf.{route_of}
+use Rattle.sb_router.specs.Turning.{IsLaneTurn}
+use Rattle.sb_router.specs.Whole.{IsWholeInlet, IsWholeLane}
+use Rattle.sb_router.proofs.RouterTurns.{done_both, has_cause}
+
+-- a direction is done
+abbrev pub lane_done : LaneState → Bool
+lane_done t = list_all (λ y. y.port.state.shut) t.outlets && list_all (λ x. x.ended) t.inlets
+
+-- both are
+abbrev pub both_done : LaneState → LaneState → Bool
+both_done a b = is_done (map (λ y. y.port) a.outlets ++ map (λ y. y.port) b.outlets) (map (λ x. x.ring) a.inlets ++ map (λ x. x.ring) b.inlets)
+
+are_done : (a b : LaneState) (x y : Bool) → All IsWholeInlet a.inlets → All IsWholeInlet b.inlets → x ≡ lane_done a → y ≡ lane_done b → (x && y) ≡ both_done a b
+are_done a b x y w v e f = ap (λ (z : Bool). z && y) e ∙ ap (λ (z : Bool). lane_done a && z) f ∙ done_both a b w v
+
+-- the answer is by what was found in both
+pub found_done : (a b : LaneState) (found one two : Findings) (x y : Bool) (answer : Turn) → All IsWholeInlet a.inlets → All IsWholeInlet b.inlets → found ≡ found_in_both one two
+    → x ≡ lane_done a → y ≡ lane_done b → IsTurnOf found (x && y) answer → IsTurnOf (found_in_both one two) (both_done a b) answer
+found_done a b found one two x y answer w v is e f turn =
+    subst (λ (z : Bool). IsTurnOf (found_in_both one two) z answer) (are_done a b x y w v e f) (subst (λ (z : Findings). IsTurnOf z (x && y) answer) is turn)
+
+-- there is a cause where nothing moved and not all is done
+pub some_cause : (down up : List (List (Option ℕ))) (found : Findings) {p q a b : LaneState} {one two : Findings} (x y : Bool) → IsLaneTurn (route_of down) p a one → IsLaneTurn (route_of up) q b two
+    → IsWholeLane (route_of down) a → IsWholeLane (route_of up) b → found ≡ found_in_both one two → x ≡ lane_done a → y ≡ lane_done b
+    → found.moved ≡ false → (x && y) ≡ false → first_cause (found.full ∷ found.waits ∷ found.empty ∷ []) ≢ None
+some_cause down up found {p} {q} {a} {b} {one} {two} x y turn_p turn_q w v is e f still undone none =
+    has_cause down up turn_p turn_q w v (sym (ap (λ (z : Findings). z.moved) is) ∙ still) (sym (are_done a b x y w.inlets v.inlets e f) ∙ undone)
+    (sym (ap (λ (z : Findings). first_cause (z.full ∷ z.waits ∷ z.empty ∷ [])) is) ∙ none)
