@@ -1,3 +1,4 @@
 pub mod Asked
 pub mod Outcomes
 pub mod Rows
+pub mod Places

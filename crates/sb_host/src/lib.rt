@@ -3,6 +3,7 @@
 
 mod line;
 mod orders;
+mod place;
 mod row;
 
 pub use line::Line;

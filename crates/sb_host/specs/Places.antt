@@ -1,0 +1,30 @@
+-- Which word of a host's script a received word answers.
+use Rattle.std.specs.Prelude.{ℕ, ◌≡◌, ◌<◌, ◌≤◌, ◌+◌, ◌*◌, ◌^◌, true, length, slice_index_or, List, All}
+use Rattle.sb_word.specs.declared.command.Op.{Op}
+use Rattle.sb_packet.specs.Scripts.{IsTransaction, reply_address, request_of}
+use Rattle.sb_host.specs.declared.line.Line.{Line}
+use Rattle.sb_host.specs.declared.orders.Orders.{Orders}
+use Rattle.sb_host.specs.Asked.{Asked}
+use Rattle.sb_host.specs.Outcomes.{is_answered_by}
+
+-- what a host asks for, by its orders
+abbrev pub asked_of : Orders → Asked
+asked_of orders = record { id = orders.id; qos = orders.qos; prot = orders.prot; lines = orders.lines.items }
+
+-- orders are of a host that there can be, and each of its transactions can be issued
+pub record AreIssuable (orders : Orders) : Type 0 where
+  pub id : orders.id ≤ 31
+  pub qos : orders.qos ≤ 15
+  pub prot : orders.prot ≤ 3
+  pub few : length orders.lines.items ≤ 65536
+  pub lines : All (λ l. IsTransaction l.txn) orders.lines.items
+
+-- A word with that opcode, size and address answers word k of transaction i, which is aimed at a device.
+pub record IsPlace (asked : Asked) (op : Op) (size address i k : ℕ) (line : Line) : Type 0 where
+  pub at : line ≡ slice_index_or asked.lines i line
+  pub transaction : i < length asked.lines
+  pub word : k < line.txn.count
+  pub aimed : line.aimed ≡ true
+  pub opcode : is_answered_by (request_of line.txn.kind) op ≡ true
+  pub same_size : line.txn.size ≡ size
+  pub place : address ≡ reply_address asked.id i + k * 2 ^ size

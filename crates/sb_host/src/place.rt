@@ -1,0 +1,64 @@
+//! Which word of a host's script a received word answers.
+
+ghost use Rattle.std.specs.Prelude.{◌≡◌, ◌≤◌, ◌%◌, ◌*◌, ◌^◌, ℕ, IfSome, IfNone, slice_index_or};
+ghost use Rattle.sb_packet.specs.Scripts.{request_of};
+ghost use Rattle.sb_host.specs.declared.line.Line.{Line};
+ghost use Rattle.sb_host.specs.Outcomes.{is_answered_by};
+ghost use Rattle.sb_host.specs.Places.{AreIssuable, IsPlace, asked_of};
+
+use crate::orders::Orders;
+use sb_packet::{Kind, Op};
+
+/// Each transaction has so many addresses for its answers.
+const REPLY_BYTES: u64 = 2048;
+
+/// A word of a transaction, each by its place.
+#[derive(Clone, Copy, Debug, PartialEq, Eq)]
+pub(crate) struct Place {
+    pub line: usize,
+    pub word: usize,
+}
+
+// an opcode answers that kind of transaction
+fn is_answer(kind: Kind, op: Op) -> bool
+    ensures answer { result ≡ is_answered_by (request_of kind) op }
+{
+    match (kind, op) {
+        (Kind::Read | Kind::Atomic(_), Op::RespRd) => true,
+        (Kind::Write, Op::RespWr) => true,
+        _ => false,
+    }
+}
+
+// the first address at which a host is answered
+fn first_address(id: u8) -> u64
+    requires id { id ≤ 31 }
+    ensures first { result ≡ id * 2 ^ 40 }
+{
+    u64::from(id) << 40
+}
+
+/// The word of a script that is answered by a word with that opcode and size, which came to that address.
+pub(crate) fn place_of(orders: &Orders, op: Op, size: u8, address: u64) -> Option<Place>
+    requires issuable { AreIssuable orders.now }
+    requires size { size ≤ 3 }
+    requires range { address ≤ 2 ^ 56 }
+    requires aligned { address % 2 ^ size ≡ 0 }
+    ensures found { IfSome result (λ p. (d : Line) → IsPlace (asked_of orders.now) op size address p.line p.word (slice_index_or orders.now.lines.items p.line d)) }
+    ensures none { IfNone result ((i k : ℕ) (l : Line) → IsPlace (asked_of orders.now) op size address i k l → ⊥) }
+{
+    let from = address.checked_sub(first_address(orders.id))?;
+    let line = (from / REPLY_BYTES) as usize;
+    if line >= orders.lines.len() {
+        return None;
+    }
+    let wanted = &orders.lines[line];
+    if !wanted.aimed || wanted.txn.size != size || !is_answer(wanted.txn.kind, op) {
+        return None;
+    }
+    let word = ((from % REPLY_BYTES) >> size) as usize;
+    if word >= usize::from(wanted.txn.count) {
+        return None;
+    }
+    Some(Place { line, word })
+}
