@@ -1,2 +1,4 @@
 pub mod RowAnswers
 pub mod Placed
+pub mod TableSteps
+pub mod WordBytes

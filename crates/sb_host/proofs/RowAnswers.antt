@@ -42,7 +42,7 @@ code_between before after a =
     rw (more, less, codes_more, codes_less, codes_behind) (omega arith)
 
 -- answers that are as wide are so many bytes
-length_of_bytes : (width : ℕ) (answers : List (Option Access)) → AllByRecursion (IsAsWide width) answers → length (flat_map (bytes_or_zeros width) answers) ≡ length answers * width
+pub length_of_bytes : (width : ℕ) (answers : List (Option Access)) → AllByRecursion (IsAsWide width) answers → length (flat_map (bytes_or_zeros width) answers) ≡ length answers * width
 length_of_bytes width [] wide = sym (zero-mul width)
 length_of_bytes width (x ∷ xs) wide =
     let rest = length_of_bytes width xs wide.1 in

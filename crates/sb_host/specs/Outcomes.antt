@@ -44,11 +44,11 @@ outcome_so_far Write answers = outcome_by Write answers
 outcome_so_far Posted answers = record { state = states.Posted; body = [] }
 outcome_so_far (Atomic type) answers = outcome_by (Atomic type) answers
 
--- the outcome of transaction i, where the host has come to transaction `next`
-abbrev pub line_outcome : Asked → List Access → ℕ → ℕ → Line → Outcome
-line_outcome asked received next i line =
-    outcome_so_far line.txn.kind (map (answer_so_far received line.aimed (nat_lt i next)) (line_accesses asked i line))
+-- the outcome of transaction i, which the host has passed over or issued, or not yet
+abbrev pub line_outcome : Asked → List Access → Bool → ℕ → Line → Outcome
+line_outcome asked received passed i line =
+    outcome_so_far line.txn.kind (map (answer_so_far received line.aimed passed) (line_accesses asked i line))
 
 -- What has become of all transactions of a host that has received these words and has come to transaction `next`.
 abbrev pub outcomes_so_far : Asked → List Access → ℕ → List Outcome
-outcomes_so_far asked received next = map (λ p. line_outcome asked received next p.0 p.1) (enumerate_from 0 asked.lines)
+outcomes_so_far asked received next = map (λ p. line_outcome asked received (nat_lt p.0 next) p.0 p.1) (enumerate_from 0 asked.lines)

@@ -3,8 +3,11 @@
 
 mod line;
 mod orders;
+mod outcome;
 mod place;
 mod row;
+mod table;
 
 pub use line::Line;
 pub use orders::Orders;
+pub use table::Table;

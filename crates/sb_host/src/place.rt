@@ -1,6 +1,6 @@
 //! Which word of a host's script a received word answers.
 
-ghost use Rattle.std.specs.Prelude.{◌≡◌, ◌≤◌, ◌%◌, ◌*◌, ◌^◌, ℕ, IfSome, IfNone, slice_index_or};
+ghost use Rattle.std.specs.Prelude.{◌≡◌, ◌≤◌, ◌%◌, ◌*◌, ◌^◌, ℕ, IfSome, IfNone};
 ghost use Rattle.sb_packet.specs.Scripts.{request_of};
 ghost use Rattle.sb_host.specs.declared.line.Line.{Line};
 ghost use Rattle.sb_host.specs.Outcomes.{is_answered_by};
@@ -44,7 +44,7 @@ pub(crate) fn place_of(orders: &Orders, op: Op, size: u8, address: u64) -> Optio
     requires size { size ≤ 3 }
     requires range { address ≤ 2 ^ 56 }
     requires aligned { address % 2 ^ size ≡ 0 }
-    ensures found { IfSome result (λ p. (d : Line) → IsPlace (asked_of orders.now) op size address p.line p.word (slice_index_or orders.now.lines.items p.line d)) }
+    ensures found { IfSome result (λ p. (l : Line) × IsPlace (asked_of orders.now) op size address p.line p.word l) }
     ensures none { IfNone result ((i k : ℕ) (l : Line) → IsPlace (asked_of orders.now) op size address i k l → ⊥) }
 {
     let from = address.checked_sub(first_address(orders.id))?;

@@ -47,13 +47,12 @@ returns-then-word-from-clause-none c i k l is =
     omega (arith, word, count, past, below)
 
 pub returns-clause-found : goal.returns-clause-found
-returns-clause-found c d =
+returns-clause-found c =
     let lines = c.args.orders.now.lines.items in
     let i = c.in_ok-from.from / 2048 in
     let all = c.len.ensures in
     let some = c.if-line-len.false in
     let inside : i < length lines = omega (arith, all, some) in
-    let here : c.index-wanted.result.now ≡ slice_index_or lines i d = c.index-wanted.ensures ∙ get_or_default lines i c.index-wanted.result.now d inside in
     let from : c.in_ok-from.from ≡ c.args.address - c.args.orders.now.id * 2 ^ 40 = c.in_ok-from.ensures.1 ∙ ap (λ (n : ℕ). c.args.address - n) c.first_address.ensures.first in
     let low : c.args.orders.now.id * 2 ^ 40 ≤ c.args.address = let above = c.in_ok-from.ensures.0 in let first = c.first_address.ensures.first in omega (arith, above, first) in
     let place = place_found c.args.size c.args.orders.now.id c.args.address c.requires.size low c.requires.aligned in
@@ -66,4 +65,4 @@ returns-clause-found c d =
       same_size = c.if-wanted-size.false;
       place = place ∙ ap (λ (n : ℕ). c.args.orders.now.id * 2 ^ 40 + n / 2048 * 2 ^ 11 + n % 2048 / 2 ^ c.args.size * 2 ^ c.args.size) (sym from);
     } in
-    subst (IsPlace (asked_of c.args.orders.now) c.args.op c.args.size c.args.address i (c.in_ok-from.from % 2048 / 2 ^ c.args.size)) here is
+    (c.index-wanted.result.now, is)
