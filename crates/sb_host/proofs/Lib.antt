@@ -2,3 +2,5 @@ pub mod RowAnswers
 pub mod Placed
 pub mod TableSteps
 pub mod WordBytes
+pub mod KeptOutcomes
+pub mod NewTable

@@ -24,7 +24,7 @@ use Rattle.sb_host.proofs.RowAnswers.{with_first, with_second}
 use Rattle.sb_host.proofs.Placed.{place_told}
 
 -- one number is another or not
-one_or_other : (j k : ℕ) → (P : Type 0) → (j ≡ k → P) → (j ≢ k → P) → P
+pub one_or_other : (j k : ℕ) → (P : Type 0) → (j ≡ k → P) → (j ≢ k → P) → P
 one_or_other j k P same other =
     elim (j == k) as (λ b. (j == k) ≡ b → P) [
       | true ↦ λ e. same (grind (arith, nat_tests))

@@ -2,3 +2,4 @@ pub mod Asked
 pub mod Outcomes
 pub mod Rows
 pub mod Places
+pub mod Issuing

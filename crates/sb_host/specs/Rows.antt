@@ -1,11 +1,13 @@
 -- What a host keeps of the answers to a transaction.
-use Rattle.std.specs.Prelude.{ℕ, ◌≡◌, ◌<◌, Bool, List, map, filter_map, flat_map, length, replicate, set, slice_index_or, Option, Some, None, is_some, not, count_by, ◌^◌, if◌then◌else◌}
+use Rattle.std.specs.Prelude.{ℕ, ◌≡◌, ◌<◌, Bool, List, [], map, filter_map, flat_map, length, replicate, set, slice_index_or, Option, Some, None, is_some, ◌==◌, not, count_by, ◌^◌, if◌then◌else◌}
 use Rattle.std.specs.Option.{option_map_or}
 use Rattle.std.specs.List.{AllByRecursion}
 use Rattle.sb_packet.specs.Accesses.{Access}
 use Rattle.sb_packet.specs.Answers.{answer_code}
+use Rattle.sb_packet.specs.Outcomes.{Outcome, code_numbered}
 use Rattle.sb_packet.specs.declared.transaction.Kind.{Kind}
 use Rattle.sb_packet.specs.declared.transaction.Kind.TheVariants.{Read, Write, Posted, Atomic}
+use Rattle.sb_packet.specs.declared.transaction.TxnState.TheVariants as states
 use Rattle.sb_host.specs.declared.line.Line.{Line}
 use Rattle.sb_host.specs.declared.row.Row.{Row}
 use Rattle.sb_host.specs.Asked.{Asked, line_accesses}
@@ -55,3 +57,23 @@ pub record IsTable (asked : Asked) (received : List Access) (rows : List Row) : 
   pub rows_of_lines : length rows ≡ length asked.lines
   pub each : (i : ℕ) (l : Line) (r : Row) → i < length asked.lines
       → IsRow (answer_width (slice_index_or asked.lines i l)) (device_answers asked received i (slice_index_or asked.lines i l)) (slice_index_or rows i r)
+
+-- a transaction is answered, by its row: all its words are, or the host has passed over it
+abbrev pub is_settled : Bool → Bool → Row → Bool
+is_settled aimed passed row = if aimed then row.missing == 0 else passed
+
+-- the number of its code, which is 3 where it is aimed at no device
+abbrev pub settled_code : Bool → Row → ℕ
+settled_code aimed row = if aimed then row.code else 3
+
+-- the outcome of a transaction that can be answered, by its row
+abbrev pub settled_outcome : Bool → Bool → Row → Outcome
+settled_outcome aimed passed row =
+    if is_settled aimed passed row then record { state = states.Answered (code_numbered (settled_code aimed row)); body = row.body.items } else record { state = states.Waiting; body = [] }
+
+-- the outcome of any transaction, by its row
+abbrev pub kept_outcome : Kind → Bool → Bool → Row → Outcome
+kept_outcome Read aimed passed row = settled_outcome aimed passed row
+kept_outcome Write aimed passed row = settled_outcome aimed passed row
+kept_outcome Posted aimed passed row = record { state = states.Posted; body = [] }
+kept_outcome (Atomic type) aimed passed row = settled_outcome aimed passed row

@@ -1,6 +1,7 @@
 //! Hosts: they issue the transactions of their scripts, and keep what was answered.
 #![tactic(auto)]
 
+mod cursor;
 mod line;
 mod orders;
 mod outcome;
@@ -8,6 +9,7 @@ mod place;
 mod row;
 mod table;
 
+pub use cursor::Cursor;
 pub use line::Line;
 pub use orders::Orders;
 pub use table::Table;

@@ -1,11 +1,9 @@
-//! What has become of a transaction.
+//! What has become of a transaction, by what is kept of its answers.
 
-ghost use Rattle.std.specs.Prelude.{◌≡◌, ◌<◌, ℕ, List};
-ghost use Rattle.sb_packet.specs.Accesses.{Access};
+ghost use Rattle.std.specs.Prelude.{◌≡◌};
 ghost use Rattle.sb_packet.specs.Outcomes.{code_numbered};
-ghost use Rattle.sb_host.specs.Asked.{Asked};
-ghost use Rattle.sb_host.specs.Outcomes.{line_outcome};
-ghost use Rattle.sb_host.specs.Rows.{IsRow, answer_width, device_answers};
+ghost use Rattle.sb_packet.specs.declared.transaction.TxnState.TheVariants as states;
+ghost use Rattle.sb_host.specs.Rows.{is_settled, kept_outcome, settled_code};
 
 use crate::line::Line;
 use crate::row::Row;
@@ -23,42 +21,54 @@ fn code_of(number: u8) -> Code
     }
 }
 
-// the state of a transaction that is answered once its words are: by devices, or where none has its address once it
-// was passed over
-fn answered_state(aimed: bool, row: &Row, passed: bool) -> TxnState {
+// a transaction is answered: all its words are, or no device has its address, and the host has passed over it
+fn settled(aimed: bool, row: &Row, passed: bool) -> bool
+    ensures { result ≡ is_settled aimed passed row.now }
+{
+    if aimed { row.missing == 0 } else { passed }
+}
+
+// the code of a transaction that is answered
+fn code(aimed: bool, row: &Row) -> Code
+    ensures { result ≡ code_numbered (settled_code aimed row.now) }
+{
     if aimed {
-        if row.missing > 0 {
-            return TxnState::Waiting;
-        }
-        return TxnState::Answered {
-            code: code_of(row.code),
-        };
-    }
-    if passed {
-        TxnState::Answered { code: Code::NetErr }
+        code_of(row.code)
     } else {
-        TxnState::Waiting
+        Code::NetErr
     }
 }
 
-/// How far a transaction has come, by what is kept of it; `passed` says that the host has come beyond it.
-pub fn state_of(line: &Line, row: &Row, passed: bool) -> TxnState
-    requires some { 0 < line.now.txn.count }
-    ensures state { (asked : Asked) (received : List Access) (i : ℕ) → IsRow (answer_width line.now) (device_answers asked received i line.now) row.now → result ≡ (line_outcome asked received passed i line.now).state }
+/// How far a transaction has come; `passed` says that the host has come beyond it.
+pub(crate) fn state_of(line: &Line, row: &Row, passed: bool) -> TxnState
+    ensures { result ≡ (kept_outcome line.now.txn.kind line.now.aimed passed row.now).state }
 {
     match line.txn.kind {
         Kind::Posted => TxnState::Posted,
-        Kind::Read | Kind::Write | Kind::Atomic(_) => answered_state(line.aimed, row, passed),
+        Kind::Read | Kind::Write | Kind::Atomic(_) => {
+            if settled(line.aimed, row, passed) {
+                TxnState::Answered {
+                    code: code(line.aimed, row),
+                }
+            } else {
+                TxnState::Waiting
+            }
+        }
     }
 }
 
-/// The bytes that were answered to it; none where it isn't answered.
-pub fn body_of<'a>(line: &Line, row: &'a Row, passed: bool) -> &'a [u8]
-    requires some { 0 < line.now.txn.count }
-    ensures body { (asked : Asked) (received : List Access) (i : ℕ) → IsRow (answer_width line.now) (device_answers asked received i line.now) row.now → result.now ≡ (line_outcome asked received passed i line.now).body }
+/// The bytes that were answered to it, none where it isn't answered.
+pub(crate) fn body_of<'a>(line: &Line, row: &'a Row, passed: bool) -> &'a [u8]
+    ensures { result.now ≡ (kept_outcome line.now.txn.kind line.now.aimed passed row.now).body }
 {
-    match state_of(line, row, passed) {
-        TxnState::Answered { .. } => row.body.as_slice(),
-        TxnState::Waiting | TxnState::Posted => &row.body[..0],
+    match line.txn.kind {
+        Kind::Posted => &row.body[..0],
+        Kind::Read | Kind::Write | Kind::Atomic(_) => {
+            if settled(line.aimed, row, passed) {
+                row.body.as_slice()
+            } else {
+                &row.body[..0]
+            }
+        }
     }
 }

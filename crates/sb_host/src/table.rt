@@ -1,16 +1,22 @@
 //! The answers to all transactions of a host.
 
-ghost use Rattle.std.specs.Prelude.{◌≡◌, ◌≤◌, ◌<◌, ◌+◌, ◌*◌, ◌^◌, ◌++◌, [], ◌∷◌, List, IfOk, length};
+ghost use Rattle.std.specs.Prelude.{◌≡◌, ◌≤◌, ◌<◌, ◌+◌, ◌*◌, ◌^◌, ◌++◌, [], ◌∷◌, List, IfOk, None, length, replicate, slice_index_or};
 ghost use Rattle.sb_packet.specs.Accesses.{Access, access_at, accesses_of};
 ghost use Rattle.sb_packet.specs.Messages.{message_of};
 ghost use Rattle.sb_packet.specs.Spans.{word_count_of};
 ghost use Rattle.sb_host.specs.Places.{AreIssuable, asked_of};
-ghost use Rattle.sb_host.specs.Rows.{IsTable};
+ghost use Rattle.sb_packet.specs.Outcomes.{Outcome};
+ghost use Rattle.sb_packet.specs.Scripts.{IsTransaction};
+ghost use Rattle.sb_host.specs.Outcomes.{outcomes_so_far};
+ghost use Rattle.sb_host.specs.Rows.{IsRow, IsTable, answer_width};
 
+use crate::line::Line;
 use crate::orders::Orders;
+use crate::outcome::{body_of, state_of};
 use crate::place::place_of;
 use crate::row::Row;
-use sb_packet::{Op, Packet, carried, words_span};
+use sb_packet::{Kind, Op, Packet, TxnState, carried, words_span};
+use std::alloc::{AllocError, Global};
 
 /// The answers to the transactions of a host, one row for each.
 #[derive(Drop)]
@@ -40,7 +46,63 @@ fn share(packet: &Packet, word: u32) -> &[u8]
     &bytes[start.min(bytes.len())..end.min(bytes.len())]
 }
 
+// how many bytes the answer to a word carries
+fn answer_width(line: &Line) -> usize
+    requires size { line.now.txn.size ≤ 3 }
+    ensures width { result ≡ answer_width line.now }
+    ensures few { result ≤ 8 }
+{
+    match line.txn.kind {
+        Kind::Read | Kind::Atomic(_) => words_span(line.txn.size, 1) as usize,
+        Kind::Write | Kind::Posted => 0,
+    }
+}
+
+// no answer to the words of a transaction
+fn empty_row(alloc: Global, line: &Line) -> Result<Row, AllocError>
+    requires transaction { IsTransaction line.now.txn }
+    ensures row { IfOk result (λ row. IsRow (answer_width line.now) (replicate line.now.txn.count None) row) }
+{
+    Row::new(alloc, usize::from(line.txn.count), answer_width(line))
+}
+
 impl Table {
+    /// No answer to any transaction. All memory that the table will ever need is taken here.
+    ///
+    /// # Errors
+    ///
+    /// `AllocError` where there isn't enough memory.
+    pub fn new(alloc: Global, orders: &Orders) -> Result<Table, AllocError>
+        requires issuable { AreIssuable orders.now }
+        ensures empty { IfOk result (λ table. IsTable (asked_of orders.now) [] table.rows.items) }
+    {
+        let mut rows = Vec::with_capacity(alloc, orders.lines.len())?;
+        for line in &orders.lines {
+            rows.push(empty_row(alloc, line)?)?;
+        }
+        Ok(Table { rows })
+    }
+
+    /// How far a transaction has come, where the host has come to transaction `next`.
+    pub fn state(&self, orders: &Orders, next: usize, index: usize) -> TxnState
+        requires issuable { AreIssuable orders.now }
+        requires index { index < length orders.now.lines.items }
+        requires table { (received : List Access) × IsTable (asked_of orders.now) received self.now.rows.items }
+        ensures state { (received : List Access) (none : Outcome) → IsTable (asked_of orders.now) received self.now.rows.items → (slice_index_or (outcomes_so_far (asked_of orders.now) received next) index none).state ≡ result }
+    {
+        state_of(&orders.lines[index], &self.rows[index], index < next)
+    }
+
+    /// The bytes that were answered to it; none where it isn't answered.
+    pub fn body(&self, orders: &Orders, next: usize, index: usize) -> &[u8]
+        requires issuable { AreIssuable orders.now }
+        requires index { index < length orders.now.lines.items }
+        requires table { (received : List Access) × IsTable (asked_of orders.now) received self.now.rows.items }
+        ensures body { (received : List Access) (none : Outcome) → IsTable (asked_of orders.now) received self.now.rows.items → (slice_index_or (outcomes_so_far (asked_of orders.now) received next) index none).body ≡ result.now }
+    {
+        body_of(&orders.lines[index], &self.rows[index], index < next)
+    }
+
     // one word of an answer is taken where it answers a word that misses its answer, and dropped elsewhere
     fn take_word(&mut self, orders: &Orders, packet: &Packet, word: u32)
         requires issuable { AreIssuable orders.now }
