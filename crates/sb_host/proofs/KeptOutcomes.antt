@@ -1,25 +1,25 @@
 -- What a row tells of a transaction is what has become of it.
-use Rattle.std.proofs.Common.{◌≡◌, ◌≤◌, ◌<◌, ◌+◌, ◌*◌, ◌^◌, ℕ, zero, suc, List, [], ◌∷◌, ◌++◌, refl, sym, ap, subst, ◌∙◌, arith, length, Bool, true, false, cond, Option, Some, None, replicate}
-use Rattle.std.specs.Prelude.{map, max, is_some, filter_map, flat_map, not, count_by, ◌==◌, if◌then◌else◌}
-use Rattle.std.specs.List.{range_with_len, list_all, AllByRecursion}
+use Rattle.std.proofs.Common.{◌≡◌, ◌≤◌, ◌<◌, ◌+◌, ◌^◌, ℕ, zero, suc, List, [], ◌∷◌, ◌++◌, refl, sym, ap, subst, ◌∙◌, arith, Bool, true, false, Option, Some, None, replicate}
+use Rattle.std.specs.Prelude.{map, max, is_some, flat_map, not, count_by, ◌==◌, if◌then◌else◌}
+use Rattle.std.specs.List.{range_with_len, list_all}
 use Rattle.std.proofs.lemmas.Simd.{map-map}
 use Rattle.std.proofs.lemmas.List.Folds.{sum_by-zero, list_all-map}
 use Rattle.sb_word.specs.declared.command.Op.TheVariants.{RespRd, RespWr}
 use Rattle.sb_packet.specs.Accesses.{Access, access_at}
 use Rattle.sb_packet.specs.Answers.{answer_body, answer_code, unreached_by}
 use Rattle.sb_packet.specs.Memories.{reply}
-use Rattle.sb_packet.specs.Outcomes.{Outcome, code_numbered, outcome_of}
+use Rattle.sb_packet.specs.Outcomes.{code_numbered, outcome_of}
 use Rattle.sb_packet.specs.Scripts.{request_of}
 use Rattle.sb_packet.specs.declared.transaction.Kind.{Kind}
 use Rattle.sb_packet.specs.declared.transaction.Kind.TheVariants.{Read, Write, Posted, Atomic}
 use Rattle.sb_packet.specs.declared.transaction.TxnState.TheVariants as states
-use Rattle.sb_packet.proofs.JoinedAnswers.{answer_code-append, answer_body-append}
+use Rattle.sb_packet.proofs.JoinedAnswers.{answer_code-append}
 use Rattle.sb_packet.proofs.Ranges.{range_agrees}
 use Rattle.sb_host.specs.declared.line.Line.{Line}
 use Rattle.sb_host.specs.declared.row.Row.{Row}
 use Rattle.sb_host.specs.Asked.{Asked, line_accesses, line_message}
 use Rattle.sb_host.specs.Outcomes.{answer_so_far, line_outcome, outcome_by, outcome_so_far}
-use Rattle.sb_host.specs.Rows.{IsAsWide, IsRow, answer_bytes, answer_width, bytes_or_zeros, device_answer, device_answers, kept_outcome, settled_outcome}
+use Rattle.sb_host.specs.Rows.{IsRow, answer_bytes, answer_width, bytes_or_zeros, device_answer, device_answers, kept_outcome, settled_outcome}
 use Rattle.sb_host.proofs.RowAnswers.{found}
 
 list_all_agree : {X : Type 0} (p q : X → Bool) (xs : List X) → ((x : X) → p x ≡ q x) → list_all p xs ≡ list_all q xs

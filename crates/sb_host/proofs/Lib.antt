@@ -4,3 +4,4 @@ pub mod TableSteps
 pub mod WordBytes
 pub mod KeptOutcomes
 pub mod NewTable
+pub mod PacketsLeft

@@ -1,6 +1,6 @@
 -- What a table keeps where one more word is received.
-use Rattle.std.proofs.Common.{◌≡◌, ◌≢◌, ◌≤◌, ◌<◌, ◌+◌, ◌-◌, ◌*◌, ◌/◌, ◌%◌, ◌^◌, ℕ, zero, suc, List, [], ◌∷◌, ◌++◌, refl, sym, ap, subst, ◌∙◌, arith, length, Bool, true, false, cond, Option, Some, None}
-use Rattle.std.specs.Prelude.{map, set, is_some, ◌==◌, ◌&&◌, if◌then◌else◌}
+use Rattle.std.proofs.Common.{◌≡◌, ◌≢◌, ◌<◌, ◌+◌, ◌*◌, ◌^◌, ℕ, List, [], ◌∷◌, ◌++◌, refl, sym, ap, subst, ◌∙◌, arith, length, Bool, true, false, cond, Option, Some, None}
+use Rattle.std.specs.Prelude.{map, set, is_some, ◌==◌, ◌&&◌}
 use Rattle.std.specs.List.{range_with_len, find}
 use Rattle.std.specs.Option.{option_or}
 use Rattle.std.proofs.Math.ListN.{get_or}
@@ -9,9 +9,7 @@ use Rattle.std.proofs.lemmas.List.{length-set, get_or-set_same, get_or-set_other
 use Rattle.std.proofs.lemmas.Simd.{map-map}
 use Rattle.std.proofs.lemmas.List.Folds.{find-append}
 use Rattle.std.proofs.lemmas.List.FromFn.{get_or-map-range_with_len, length-map-range_with_len}
-use Rattle.sb_word.specs.declared.command.Op.{Op}
 use Rattle.sb_packet.specs.Accesses.{Access, access_at}
-use Rattle.sb_packet.specs.Scripts.{request_of}
 use Rattle.sb_packet.proofs.Ranges.{range_agrees}
 use Rattle.sb_host.specs.declared.line.Line.{Line}
 use Rattle.sb_host.specs.declared.orders.Orders.{Orders}

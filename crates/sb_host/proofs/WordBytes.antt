@@ -1,14 +1,14 @@
 -- How long the rows of a table are, and how many bytes a word of an answer brings.
-use Rattle.std.proofs.Common.{◌≡◌, ◌≤◌, ◌<◌, ◌+◌, ◌-◌, ◌*◌, ◌^◌, ℕ, zero, suc, List, [], refl, sym, ap, subst, ◌∙◌, arith, length, take, drop, Bool, true, false, Option}
-use Rattle.std.specs.Prelude.{map, is_some, flat_map}
+use Rattle.std.proofs.Common.{◌≡◌, ◌<◌, ◌*◌, ◌^◌, ℕ, List, refl, sym, ap, subst, ◌∙◌, arith, length, true}
+use Rattle.std.specs.Prelude.{map, is_some}
 use Rattle.std.specs.List.{range_with_len}
 use Rattle.std.proofs.Math.ListN.{get_or}
 use Rattle.std.proofs.lemmas.List.{length-map, length-take, length-drop}
-use Rattle.std.proofs.lemmas.List.FromFn.{length-map-range_with_len, length-range_with_len}
+use Rattle.std.proofs.lemmas.List.FromFn.{length-map-range_with_len}
 use Rattle.sb_word.specs.declared.command.Op.{Op}
 use Rattle.sb_word.specs.declared.command.Op.TheVariants.{ReqRd, ReqWr, ReqWrPosted, ReqAtomic, RespRd, RespWr}
 use Rattle.sb_packet.specs.Accesses.{Access, access_at, share}
-use Rattle.sb_packet.specs.Messages.{Message, message_of, message_span}
+use Rattle.sb_packet.specs.Messages.{Message, message_of}
 use Rattle.sb_packet.specs.Scripts.{request_of}
 use Rattle.sb_packet.specs.Soundness.{IsWhole}
 use Rattle.sb_packet.specs.Spans.{word_count_of}
@@ -21,7 +21,7 @@ use Rattle.sb_host.specs.declared.line.Line.{Line}
 use Rattle.sb_host.specs.declared.row.Row.{Row}
 use Rattle.sb_host.specs.Asked.{Asked, line_message}
 use Rattle.sb_host.specs.Outcomes.{is_answered_by}
-use Rattle.sb_host.specs.Rows.{IsRow, IsTable, answer_bytes, answer_width, bytes_or_zeros, device_answer, device_answers}
+use Rattle.sb_host.specs.Rows.{IsRow, IsTable, answer_bytes, answer_width, device_answer, device_answers}
 use Rattle.sb_host.proofs.RowAnswers.{length_of_bytes}
 
 length_of_answers : (asked : Asked) (received : List Access) (i : ℕ) (l : Line) → length (device_answers asked received i l) ≡ l.txn.count

@@ -1,5 +1,5 @@
 -- How far a host has come with its packets.
-use Rattle.std.specs.Prelude.{ℕ, ◌≡◌, ◌≤◌, ◌<◌, ◌+◌, ◌++◌, List, [], ◌∷◌, drop, length, flat_map, All, false, slice_index_or}
+use Rattle.std.specs.Prelude.{ℕ, ◌≡◌, ◌≤◌, ◌<◌, ◌++◌, List, drop, length, flat_map, All, false, slice_index_or}
 use Rattle.sb_packet.specs.Accesses.{Access, message_accesses}
 use Rattle.sb_packet.specs.Messages.{Message}
 use Rattle.sb_packet.specs.Plans.{RingPlan}

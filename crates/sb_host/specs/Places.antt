@@ -1,5 +1,5 @@
 -- Which word of a host's script a received word answers.
-use Rattle.std.specs.Prelude.{ℕ, ◌≡◌, ◌<◌, ◌≤◌, ◌+◌, ◌*◌, ◌^◌, true, length, slice_index_or, List, All}
+use Rattle.std.specs.Prelude.{ℕ, ◌≡◌, ◌<◌, ◌≤◌, ◌+◌, ◌*◌, ◌^◌, true, length, slice_index_or, All}
 use Rattle.sb_word.specs.declared.command.Op.{Op}
 use Rattle.sb_packet.specs.Scripts.{IsTransaction, reply_address, request_of}
 use Rattle.sb_host.specs.declared.line.Line.{Line}

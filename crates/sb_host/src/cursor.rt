@@ -46,6 +46,7 @@ impl Cursor {
     {
         let txn = &orders.lines[self.next].txn;
         let limit = BODY_BYTES as u8;
+        let count = packets(txn, limit);
         let packet = packet_of(
             orders.id,
             orders.qos,
@@ -56,7 +57,7 @@ impl Cursor {
             self.part,
         );
         self.part += 1;
-        if self.part == packets(txn, limit) {
+        if self.part == count {
             self.next += 1;
             self.part = 0;
         }

@@ -1,10 +1,9 @@
 -- Each test that fails leaves no place, and where all hold the place is the one.
-use Rattle.std.proofs.Common.{◌≡◌, ◌≤◌, ◌%◌, ◌*◌, ◌^◌, ℕ, slice_index_or, ◌+◌, ◌-◌, ◌<◌, length, ◌/◌, arith, refl, sym, ap, ◌∙◌, subst, true, false}
-use Rattle.std.proofs.lemmas.List.{get_or_default}
+use Rattle.std.proofs.Common.{◌≡◌, ◌≤◌, ◌%◌, ◌*◌, ◌^◌, ℕ, ◌+◌, ◌-◌, ◌<◌, length, ◌/◌, arith, sym, ap, ◌∙◌, true}
 use Rattle.sb_packet.specs.Scripts.{request_of}
 use Rattle.sb_host.specs.declared.line.Line.{Line}
 use Rattle.sb_host.specs.Outcomes.{is_answered_by}
-use Rattle.sb_host.specs.Places.{AreIssuable, IsPlace, asked_of}
+use Rattle.sb_host.specs.Places.{IsPlace, asked_of}
 use Rattle.sb_host.proofs.Placed.{place_told, place_found, same_at}
 use Rattle.sb_host.proofs.place.place_of.Goals.{then-not-wanted-via-then-not-wanted, then-not-wanted-via-else-not-wanted+then-wanted-size, then-not-wanted-via-else-not-wanted+else-wanted-size+then-not-is_answer}
 use Rattle.sb_host.proofs.place.place_of.Goals as goal

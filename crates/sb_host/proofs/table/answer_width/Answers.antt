@@ -1,5 +1,5 @@
 -- A word has at most 8 bytes.
-use Rattle.std.proofs.Common.{◌≡◌, ◌≤◌, ◌*◌, ◌^◌, ℕ, zero, suc, arith, ◌∙◌}
+use Rattle.std.proofs.Common.{◌≤◌, ◌*◌, ◌^◌, ℕ, zero, suc, arith}
 use Rattle.sb_host.proofs.table.answer_width.Goals as goal
 
 few_bytes : (size : ℕ) → size ≤ 3 → 1 * 2 ^ size ≤ 8

@@ -1,9 +1,8 @@
 -- One row more, and in the end a row for each transaction, none of whose words is answered.
-use Rattle.std.proofs.Common.{◌≡◌, ◌≤◌, ◌<◌, ◌+◌, ℕ, arith, refl, sym, ap, ◌∙◌, subst, length, List, [], ◌∷◌, ◌++◌}
+use Rattle.std.proofs.Common.{◌≡◌, ◌<◌, arith, ap, ◌∙◌, length, List, [], ◌∷◌, ◌++◌}
 use Rattle.std.proofs.lemmas.List.{length-append}
 use Rattle.std.proofs.Math.ListN.{get_or}
 use Rattle.sb_host.specs.declared.line.Line.{Line}
-use Rattle.sb_host.specs.declared.row.Row.{Row}
 use Rattle.sb_host.specs.Places.{asked_of}
 use Rattle.sb_host.proofs.NewTable.{rows_more, empty_table}
 use Rattle.sb_host.proofs.table.Table.new.Goals as goal

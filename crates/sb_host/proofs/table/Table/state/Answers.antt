@@ -1,5 +1,5 @@
 -- What the row tells is what has become of the transaction.
-use Rattle.std.proofs.Common.{◌≡◌, ◌∙◌, ap, sym}
+use Rattle.std.proofs.Common.{◌∙◌, ap, sym}
 use Rattle.sb_packet.specs.Outcomes.{Outcome}
 use Rattle.sb_host.proofs.NewTable.{outcome_kept}
 use Rattle.sb_host.proofs.table.Table.state.Goals as goal

@@ -1,5 +1,5 @@
 -- The words so far and the next one are one word more, and in the end they are all words of the packet.
-use Rattle.std.proofs.Common.{◌≡◌, ◌≤◌, ◌<◌, ◌+◌, ℕ, suc, arith, refl, sym, ap, ◌∙◌, subst, length, List, [], ◌∷◌, ◌++◌, take, append_assoc}
+use Rattle.std.proofs.Common.{◌≡◌, ◌≤◌, ◌<◌, ◌+◌, ℕ, suc, arith, sym, ap, ◌∙◌, subst, length, List, [], ◌∷◌, ◌++◌, take, append_assoc}
 use Rattle.std.proofs.Math.Seq.{take-suc}
 use Rattle.std.proofs.lemmas.List.{take_all}
 use Rattle.std.proofs.lemmas.List.FromFn.{get_or-map-range_with_len, length-map-range_with_len}

@@ -1,12 +1,10 @@
 -- A word that answers none is dropped, and one that answers a word goes to that one's row.
-use Rattle.std.proofs.Common.{◌≡◌, ◌≤◌, ◌<◌, ◌+◌, ◌*◌, ◌^◌, ◌%◌, ℕ, arith, refl, sym, ap, ◌∙◌, subst, length, List, Option}
+use Rattle.std.proofs.Common.{◌≡◌, ◌*◌, ◌^◌, ℕ, arith, refl, sym, ap, ◌∙◌, subst, length, List, Option}
 use Rattle.sb_packet.specs.Accesses.{Access, access_at}
 use Rattle.sb_packet.specs.Messages.{message_of}
 use Rattle.sb_packet.proofs.Places.{words_aligned}
-use Rattle.sb_host.specs.declared.line.Line.{Line}
-use Rattle.sb_host.specs.declared.row.Row.{Row}
-use Rattle.sb_host.specs.Places.{AreIssuable, IsPlace, asked_of}
-use Rattle.sb_host.specs.Rows.{IsRow, IsTable, answer_bytes, answer_width, device_answers, with_answer}
+use Rattle.sb_host.specs.Places.{IsPlace, asked_of}
+use Rattle.sb_host.specs.Rows.{IsRow, answer_bytes, answer_width, with_answer}
 use Rattle.sb_host.proofs.TableSteps.{table_same, table_more}
 use Rattle.sb_host.proofs.WordBytes.{bytes_of_word, bytes_of_row, marks_of_row, row_here}
 use Rattle.sb_host.proofs.table.Table.take_word.Goals as goal
