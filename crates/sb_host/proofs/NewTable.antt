@@ -79,7 +79,7 @@ outcome_at asked received next i none l inside at =
     ∙ ap (λ (x : Line). f (i, x)) (sym at)
 
 -- What a table's row tells is what has become of its transaction.
-pub outcome_kept : (orders : Orders) (received : List Access) (rows : List Row) (next i : ℕ) (none : Outcome) (l : Line) (row : Row) → AreIssuable orders → i < length orders.lines.items
+pub outcome_kept : (orders : Orders) (received : List Access) (rows : List Row) (next i : ℕ) (none : Outcome) (l : Line) (row : Row) → AreIssuable (asked_of orders) → i < length orders.lines.items
     → l ≡ get_or orders.lines.items i l → row ≡ get_or rows i row → IsTable (asked_of orders) received rows
     → get_or (outcomes_so_far (asked_of orders) received next) i none ≡ kept_outcome l.txn.kind l.aimed (nat_lt i next) row
 outcome_kept orders received rows next i none l row issuable inside at row_at is =

@@ -64,7 +64,7 @@ pub record IsTold (orders : Orders) (size address i k : ℕ) (l : Line) : Type 0
   pub line : i ≡ (address - orders.id * 2 ^ 40) / 2048
   pub word : k ≡ (address - orders.id * 2 ^ 40) % 2048 / 2 ^ size
 
-pub place_told : (orders : Orders) (op : Op) (size address i k : ℕ) (l : Line) → AreIssuable orders → IsPlace (asked_of orders) op size address i k l → IsTold orders size address i k l
+pub place_told : (orders : Orders) (op : Op) (size address i k : ℕ) (l : Line) → AreIssuable (asked_of orders) → IsPlace (asked_of orders) op size address i k l → IsTold orders size address i k l
 place_told orders op size address i k l issuable is =
     let t : IsTransaction l.txn = rw (sym is.at) at (All-get_or (λ (x : Line). IsTransaction x.txn) orders.lines.items i l is.transaction issuable.lines) in
     let within : k * 2 ^ l.txn.size < 2048 = begins_within l.txn k t is.word in

@@ -161,7 +161,7 @@ table_same asked received rows a nowhere is = record {
 }
 
 -- a word that answers word k of transaction i changes that one's row
-pub table_more : (orders : Orders) (received : List Access) (rows : List Row) (a : Access) (i k : ℕ) (wanted : Line) (old new : Row) → AreIssuable orders
+pub table_more : (orders : Orders) (received : List Access) (rows : List Row) (a : Access) (i k : ℕ) (wanted : Line) (old new : Row) → AreIssuable (asked_of orders)
     → IsPlace (asked_of orders) a.op a.size a.dst i k wanted
     → old ≡ get_or rows i old
     → ((answers : List (Option Access)) → IsRow (answer_width wanted) answers old → IsRow (answer_width wanted) (with_answer answers k a) new)

@@ -11,13 +11,13 @@ use Rattle.sb_host.specs.Outcomes.{is_answered_by}
 abbrev pub asked_of : Orders → Asked
 asked_of orders = record { id = orders.id; qos = orders.qos; prot = orders.prot; lines = orders.lines.items }
 
--- orders are of a host that there can be, and each of its transactions can be issued
-pub record AreIssuable (orders : Orders) : Type 0 where
-  pub id : orders.id ≤ 31
-  pub qos : orders.qos ≤ 15
-  pub prot : orders.prot ≤ 3
-  pub few : length orders.lines.items ≤ 65536
-  pub lines : All (λ l. IsTransaction l.txn) orders.lines.items
+-- What a host asks for can be issued: it is a host that there can be, and each of its transactions can be issued.
+pub record AreIssuable (asked : Asked) : Type 0 where
+  pub id : asked.id ≤ 31
+  pub qos : asked.qos ≤ 15
+  pub prot : asked.prot ≤ 3
+  pub few : length asked.lines ≤ 65536
+  pub lines : All (λ l. IsTransaction l.txn) asked.lines
 
 -- A word with that opcode, size and address answers word k of transaction i, which is aimed at a device.
 pub record IsPlace (asked : Asked) (op : Op) (size address i k : ℕ) (line : Line) : Type 0 where

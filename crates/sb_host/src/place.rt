@@ -40,7 +40,7 @@ fn first_address(id: u8) -> u64
 
 /// The word of a script that is answered by a word with that opcode and size, which came to that address.
 pub(crate) fn place_of(orders: &Orders, op: Op, size: u8, address: u64) -> Option<Place>
-    requires issuable { AreIssuable orders.now }
+    requires issuable { AreIssuable (asked_of orders.now) }
     requires size { size ≤ 3 }
     requires range { address ≤ 2 ^ 56 }
     requires aligned { address % 2 ^ size ≡ 0 }

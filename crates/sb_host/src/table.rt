@@ -73,7 +73,7 @@ impl Table {
     ///
     /// `AllocError` where there isn't enough memory.
     pub fn new(alloc: Global, orders: &Orders) -> Result<Table, AllocError>
-        requires issuable { AreIssuable orders.now }
+        requires issuable { AreIssuable (asked_of orders.now) }
         ensures empty { IfOk result (λ table. IsTable (asked_of orders.now) [] table.rows.items) }
     {
         let mut rows = Vec::with_capacity(alloc, orders.lines.len())?;
@@ -85,7 +85,7 @@ impl Table {
 
     /// How far a transaction has come, where the host has come to transaction `next`.
     pub fn state(&self, orders: &Orders, next: usize, index: usize) -> TxnState
-        requires issuable { AreIssuable orders.now }
+        requires issuable { AreIssuable (asked_of orders.now) }
         requires index { index < length orders.now.lines.items }
         requires table { (received : List Access) × IsTable (asked_of orders.now) received self.now.rows.items }
         ensures state { (received : List Access) (none : Outcome) → IsTable (asked_of orders.now) received self.now.rows.items → (slice_index_or (outcomes_so_far (asked_of orders.now) received next) index none).state ≡ result }
@@ -95,7 +95,7 @@ impl Table {
 
     /// The bytes that were answered to it; none where it isn't answered.
     pub fn body(&self, orders: &Orders, next: usize, index: usize) -> &[u8]
-        requires issuable { AreIssuable orders.now }
+        requires issuable { AreIssuable (asked_of orders.now) }
         requires index { index < length orders.now.lines.items }
         requires table { (received : List Access) × IsTable (asked_of orders.now) received self.now.rows.items }
         ensures body { (received : List Access) (none : Outcome) → IsTable (asked_of orders.now) received self.now.rows.items → (slice_index_or (outcomes_so_far (asked_of orders.now) received next) index none).body ≡ result.now }
@@ -105,7 +105,7 @@ impl Table {
 
     // one word of an answer is taken where it answers a word that misses its answer, and dropped elsewhere
     fn take_word(&mut self, orders: &Orders, packet: &Packet, word: u32)
-        requires issuable { AreIssuable orders.now }
+        requires issuable { AreIssuable (asked_of orders.now) }
         requires word { word < word_count_of packet.now.cmd }
         requires table { (received : List Access) × IsTable (asked_of orders.now) received self.old.rows.items }
         ensures taken { (received : List Access) → IsTable (asked_of orders.now) received self.old.rows.items → IsTable (asked_of orders.now) (received ++ access_at (message_of packet.now) word ∷ []) self.new.rows.items }
@@ -121,7 +121,7 @@ impl Table {
 
     /// Takes each word of an answer that answers a word of a script which misses its answer, and drops the others.
     pub fn take(&mut self, orders: &Orders, packet: &Packet)
-        requires issuable { AreIssuable orders.now }
+        requires issuable { AreIssuable (asked_of orders.now) }
         requires table { (received : List Access) × IsTable (asked_of orders.now) received self.old.rows.items }
         ensures taken { (received : List Access) → IsTable (asked_of orders.now) received self.old.rows.items → IsTable (asked_of orders.now) (received ++ accesses_of packet.now) self.new.rows.items }
     {
