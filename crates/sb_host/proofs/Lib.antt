@@ -5,3 +5,4 @@ pub mod WordBytes
 pub mod KeptOutcomes
 pub mod NewTable
 pub mod PacketsLeft
+pub mod Received

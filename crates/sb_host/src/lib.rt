@@ -2,14 +2,19 @@
 #![tactic(auto)]
 
 mod cursor;
+mod desk;
+mod host_core;
 mod line;
 mod orders;
 mod outcome;
 mod place;
 mod row;
+mod serving;
 mod table;
 
 pub use cursor::Cursor;
+pub use desk::Desk;
+pub use host_core::HostCore;
 pub use line::Line;
 pub use orders::Orders;
 pub use table::Table;

@@ -1,0 +1,57 @@
+-- A host stays in order where an item comes in.
+use Rattle.std.proofs.Common.{◌≡◌, List, [], ◌∷◌, ◌++◌, Bool, true, false, ℕ, refl, sym, ap, subst, ◌∙◌, append-nil}
+use Rattle.std.specs.Prelude.{◌||◌}
+use Rattle.std.proofs.lemmas.Grind.{flat_map-append}
+use Rattle.sb_packet.specs.Accesses.{Access, accesses_of, accesses_of_item}
+use Rattle.sb_packet.specs.Traffic.{has_close, item_accesses}
+use Rattle.sb_packet.specs.declared.item.Item.{Item}
+use Rattle.sb_packet.specs.declared.item.Item.TheVariants as items
+use Rattle.sb_packet.specs.declared.packet.Packet.{Packet}
+use Rattle.sb_node.specs.Sides.{PortSide, RingSide, received_words, has_ended}
+use Rattle.sb_host.specs.declared.row.Row.{Row}
+use Rattle.sb_host.specs.Asked.{Asked}
+use Rattle.sb_host.specs.Hosts.{IsInOrder}
+use Rattle.sb_host.specs.Rows.{IsTable}
+
+-- the words of items and of one more
+pub item_more : (list : List Item) (item : Item) → item_accesses (list ++ item ∷ []) ≡ item_accesses list ++ accesses_of_item item
+item_more list item = flat_map-append accesses_of_item list (item ∷ []) ∙ ap (λ (rest : List Access). item_accesses list ++ rest) (append-nil (accesses_of_item item))
+
+-- a packet ends no ring
+packet_behind : (list : List Item) (p : Packet) → has_close (list ++ items.Packet p ∷ []) ≡ has_close list
+packet_behind [] p = refl
+packet_behind (items.Packet q ∷ rest) p = packet_behind rest p
+packet_behind (items.Close ∷ rest) p = refl
+
+-- a Close does
+close_behind : (list : List Item) → has_close (list ++ items.Close ∷ []) ≡ true
+close_behind [] = refl
+close_behind (items.Packet q ∷ rest) = close_behind rest
+close_behind (items.Close ∷ rest) = refl
+
+module _ (asked : Asked) (next part : ℕ) (ended : Bool) (port : PortSide) (ring ring_then : RingSide) where
+  -- a packet came, and the table took it
+  pub after_packet : (rows rows_then : List Row) (p : Packet) → ring_then.received ≡ ring.received ++ items.Packet p ∷ []
+      → ((received : List Access) → IsTable asked received rows → IsTable asked (received ++ accesses_of p) rows_then)
+      → IsInOrder asked rows next part ended port ring → IsInOrder asked rows_then next part ended port ring_then
+  after_packet rows rows_then p came taken is = record {
+    issuable = is.issuable;
+    made = is.made;
+    come = is.come;
+    offered = is.offered;
+    closes = is.closes;
+    table = subst (λ (words : List Access). IsTable asked words rows_then) (sym (ap item_accesses came ∙ item_more ring.received (items.Packet p))) (taken (received_words ring) is.table);
+    ends = is.ends ∙ sym (ap has_close came ∙ packet_behind ring.received p);
+  }
+
+  -- the Close came
+  pub after_close : (rows : List Row) → ring_then.received ≡ ring.received ++ items.Close ∷ [] → IsInOrder asked rows next part ended port ring → IsInOrder asked rows next part true port ring_then
+  after_close rows came is = record {
+    issuable = is.issuable;
+    made = is.made;
+    come = is.come;
+    offered = is.offered;
+    closes = is.closes;
+    table = subst (λ (words : List Access). IsTable asked words rows) (sym (ap item_accesses came ∙ item_more ring.received items.Close ∙ append-nil (received_words ring))) is.table;
+    ends = sym (ap has_close came ∙ close_behind ring.received);
+  }
