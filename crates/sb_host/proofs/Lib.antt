@@ -6,3 +6,5 @@ pub mod KeptOutcomes
 pub mod NewTable
 pub mod PacketsLeft
 pub mod Received
+pub mod Passing
+pub mod Turning

@@ -1,6 +1,6 @@
 //! What a host does at its two ends.
 
-ghost use Rattle.std.specs.Prelude.{◌≡◌, ◌≤◌, ◌<◌, ℕ, true, false, length, slice_index_or};
+ghost use Rattle.std.specs.Prelude.{◌&&◌, ◌≡◌, ◌≤◌, ◌<◌, ℕ, true, false, length, slice_index_or};
 ghost use Rattle.sb_port.specs.Ports.{IsFit, owes};
 ghost use Rattle.sb_port.specs.StateOf.{state_of};
 ghost use Rattle.sb_node.specs.Kept.{IsKeptPort, IsKeptRing};
@@ -84,4 +84,38 @@ pub(crate) fn issue_next<T: TxEnd>(desk: &mut Desk, requests: &mut OutPort<T>, f
         requests.close();
     }
     offers
+}
+
+// the ring of answers gave Close, and the port sent its own
+fn is_done<T: TxEnd>(desk: &Desk, requests: &OutPort<T>) -> bool
+    ensures { result ≡ (requests.now.shut && desk.now.ended) }
+{
+    requests.closed() && desk.ended
+}
+
+/// One turn of a host at its two ends: it takes what came, offers its next packet, and then turns its port. Takes no
+/// memory.
+pub(crate) fn turn_ends<T: TxEnd, U: RxEnd>(
+    desk: &mut Desk,
+    requests: &mut OutPort<T>,
+    answers: &mut U,
+) -> Turn
+    requires in_order { IsInOrder (asked_of desk.old.orders) desk.old.table.rows.items desk.old.cursor.next desk.old.cursor.part desk.old.ended (port_side T.TxEnd requests.old) (ring_side U.RxEnd answers.old) }
+    requires fit { IsFit (T.planned requests.old.tx) (state_of T.sent requests.old) }
+    ensures turned { IsEndsTurn (ring_side U.RxEnd answers.old) (port_side T.TxEnd requests.old) result (ring_side U.RxEnd answers.new) (port_side T.TxEnd requests.new) }
+    ensures port { IsKeptPort (port_side T.TxEnd requests.old) (port_side T.TxEnd requests.new) }
+    ensures ring { IsKeptRing (ring_side U.RxEnd answers.old) (ring_side U.RxEnd answers.new) }
+    ensures orders { desk.new.orders ≡ desk.old.orders }
+    ensures onward { desk.old.cursor.next ≤ desk.new.cursor.next }
+    ensures in_order { IsInOrder (asked_of desk.new.orders) desk.new.table.rows.items desk.new.cursor.next desk.new.cursor.part desk.new.ended (port_side T.TxEnd requests.new) (ring_side U.RxEnd answers.new) }
+    ensures aimed { (d : Line) → desk.new.cursor.next < length desk.new.orders.lines.items → (slice_index_or desk.new.orders.lines.items desk.new.cursor.next d).aimed ≡ true }
+    ensures closes_when_due { desk.new.cursor.next ≡ length desk.new.orders.lines.items → requests.new.closing ≡ true }
+    ensures fit { IsFit (T.planned requests.new.tx) (state_of T.sent requests.new) }
+{
+    let mut found = Findings::new();
+    let _popped = receive(desk, answers, &mut found);
+    let _offered = issue_next(desk, requests, &mut found);
+    let more = found.moved;
+    turn_port(requests, more, &mut found);
+    found.turn(is_done(desk, requests))
 }

@@ -1,0 +1,218 @@
+-- What a turn answers, by what the ring and the port did in it.
+use Rattle.std.proofs.Common.{◌≡◌, ◌⊎◌, inl, inr, ⊎_elim, ℕ, ◌+◌, ◌≤◌, Bool, true, false, true≢false, List, [], ◌∷◌, length, refl, sym, ap, ◌∙◌, subst, arith}
+use Rattle.std.specs.Prelude.{◌&&◌, Option, Some, None, All, if◌then◌else◌}
+use Rattle.std.proofs.lemmas.List.Elements.{All-nil, All-cons}
+use Rattle.sb_link.specs.declared.answers.Turn.{Turn}
+use Rattle.sb_link.specs.declared.answers.Cause.{Cause}
+use Rattle.sb_link.specs.declared.answers.Cause.TheVariants as causes
+use Rattle.sb_packet.specs.declared.item.Item.{Item}
+use Rattle.sb_port.specs.Waiting.{some_owed}
+use Rattle.sb_port.specs.Ports.{PortState, owes}
+use Rattle.sb_node.specs.Sides.{PortSide, RingSide, has_rest, is_full, is_drained, has_ended, is_done, port_moves, node_moves}
+use Rattle.sb_node.specs.Kept.{IsKeptPort}
+use Rattle.sb_node.specs.Turns.{first_cause, empty_cause, idle_causes}
+use Rattle.sb_node.specs.Found.{or_else, IsTurnOf}
+use Rattle.sb_node.specs.Steps.{IsPortTurned, HasPortMoved, IsPortFull, IsPortClear, IsRingEmpty}
+use Rattle.sb_node.specs.declared.findings.Findings.{Findings}
+use Rattle.sb_node.proofs.Answering.{HasGone, HasStood, answered_by, moves_kept, untold}
+use Rattle.sb_host.specs.Steps.{HasOfferedNone, HasOfferedOne, IsEndsTurn, IsIdleHost, IsIssued, IsReceived, waits_for}
+
+-- nothing was found yet
+abbrev pub no_findings : Findings
+no_findings = record { moved = false; full = None; waits = None; empty = None }
+
+-- how much went through one port and one ring
+moves_of_two : (port : PortSide) (ring : RingSide) → node_moves (port ∷ []) (ring ∷ []) ≡ port_moves port + length ring.received
+moves_of_two port ring = omega arith
+
+-- a port did as much as another one in the same state
+same_moves : (port port_then : PortSide) → port_then.state ≡ port.state → port_moves port_then ≡ port_moves port
+same_moves port port_then same = ap (λ (s : PortState). port_moves (record port { state = s })) same
+
+-- a list of one
+one_of : {A : Type 0} (P : A → Type 0) (x : A) → P x → All P (x ∷ [])
+one_of P x p = All-cons P x [] p (All-nil P)
+
+-- a host is done where its port sent its Close, and its ring gave one
+pub done_by_both : (port : PortSide) (ring : RingSide) → is_done (port ∷ []) (ring ∷ []) ≡ (port.state.shut && has_ended ring)
+done_by_both port ring = by_both port.state.shut (has_ended ring) where
+  by_both : (shut ended : Bool) → ((shut && true) && (ended && true)) ≡ (shut && ended)
+  by_both true true = refl
+  by_both true false = refl
+  by_both false ended = refl
+
+-- both tests fail where one of them does and the other holds
+other_fails : (a b : Bool) → (a && b) ≡ false → a ≡ true → b ≡ false
+other_fails true b fails holds = fails
+other_fails false b fails holds = absurd (true≢false (sym holds))
+
+-- what moved before has moved
+still_moved : (more : Bool) (port port_then : PortSide) (found found_then : Findings) → IsPortTurned more port port_then found found_then → found.moved ≡ true → found_then.moved ≡ true
+still_moved more port port_then found found_then turned moved = ⊎_elim
+    (λ (m : HasPortMoved port port_then found found_then). ap (λ (f : Findings). f.moved) m.found_move)
+    (λ (rest : IsPortFull port port_then found found_then ⊎ IsPortClear more port port_then found found_then). ⊎_elim
+    (λ (f : IsPortFull port port_then found found_then). ap (λ (f : Findings). f.moved) f.found_full ∙ moved)
+    (λ (c : IsPortClear more port port_then found found_then). ap (λ (f : Findings). f.moved) c.found_nothing ∙ moved)
+    rest)
+    turned
+
+module _ (ring ring_then : RingSide) (port middle port_then : PortSide) where
+  -- how much went through the host before the turn, and after it
+  abbrev pub before : ℕ
+  before = node_moves (port ∷ []) (ring ∷ [])
+
+  abbrev pub after : ℕ
+  after = node_moves (port_then ∷ []) (ring_then ∷ [])
+
+  -- the causes that hold after the turn, and the host at rest
+  abbrev pub causes_then : List (Option Cause)
+  causes_then = idle_causes (port_then ∷ []) (waits_for ∷ []) (ring_then ∷ [])
+
+  abbrev pub done_then : Bool
+  done_then = is_done (port_then ∷ []) (ring_then ∷ [])
+
+  abbrev pub AtRest : Type 0
+  AtRest = IsIdleHost port_then ring_then
+
+  -- an item was popped
+  gone_by_pop : (found_then : Findings) → length ring_then.received ≡ length ring.received + 1 → found_then.moved ≡ true → IsKeptPort port middle → IsKeptPort middle port_then → HasGone found_then before after
+  gone_by_pop found_then one moved kept kept_then = record {
+    moved = moved;
+    more =
+        let first = moves_kept kept in
+        let second = moves_kept kept_then in
+        let a = moves_of_two port ring in
+        let b = moves_of_two port_then ring_then in omega (arith, first, second, one, a, b);
+  }
+
+  -- a packet was offered
+  gone_by_offer : (found found_then : Findings) → ring_then.received ≡ ring.received → HasOfferedOne port middle found found_then → (found_last : Findings) → found_last.moved ≡ true → IsKeptPort middle port_then
+      → HasGone found_last before after
+  gone_by_offer found found_then received offered found_last moved kept = record {
+    moved = moved;
+    more =
+        let more = offered.more in
+        let second = moves_kept kept in
+        let items = ap (λ (list : List Item). length list) received in
+        let a = moves_of_two port ring in
+        let b = moves_of_two port_then ring_then in omega (arith, more, second, items, a, b);
+  }
+
+  -- neither: the port is as it was, but that it may be told to close
+  as_before : (found found_then : Findings) → HasOfferedNone port middle found found_then → port_moves middle ≡ port_moves port
+  as_before found found_then none = ap port_moves none.same
+
+  -- the port moved
+  gone_by_port : (found found_then : Findings) → port_moves middle ≡ port_moves port → HasPortMoved middle port_then found found_then → ring_then.received ≡ ring.received → HasGone found_then before after
+  gone_by_port found found_then same moved received = record {
+    moved = ap (λ (f : Findings). f.moved) moved.found_move;
+    more =
+        let more = moved.more in
+        let items = ap (λ (list : List Item). length list) received in
+        let a = moves_of_two port ring in
+        let b = moves_of_two port_then ring_then in omega (arith, more, same, items, a, b);
+  }
+
+  -- nothing went through
+  nothing_went : port_moves middle ≡ port_moves port → port_then.state ≡ middle.state → ring_then.received ≡ ring.received → after ≡ before
+  nothing_went same state received =
+      let ports = same_moves middle port_then state in
+      let items = ap (λ (list : List Item). length list) received in
+      let a = moves_of_two port ring in
+      let b = moves_of_two port_then ring_then in omega (arith, same, ports, items, a, b)
+
+  -- the port's ring was full
+  stood_by_full : (found found_then : Findings) → HasOfferedNone port middle found found → IsRingEmpty ring ring_then no_findings found → IsPortFull middle port_then found found_then
+      → HasStood found_then before after done_then causes_then AtRest
+  stood_by_full found found_then none empty full =
+      let cause = causes.Full port_then.plan.ring (length port_then.state.sent) port_then.taken in record {
+        unmoved = ap (λ (f : Findings). f.moved) full.found_full ∙ ap (λ (f : Findings). f.moved) empty.found_empty;
+        same = nothing_went (as_before found found none) full.same empty.same;
+        cause = λ undone. (
+          cause,
+          ap (λ (o : Option Cause). first_cause (o ∷ found_then.waits ∷ found_then.empty ∷ []))
+            (ap (λ (f : Findings). f.full) full.found_full ∙ ap (λ (o : Option Cause). or_else o cause) (ap (λ (f : Findings). f.full) empty.found_empty)),
+          ap (λ b. first_cause ((if b then Some cause else None) ∷ waits_for ∷ empty_cause ring_then ∷ [])) full.rest,
+        );
+        at_rest = record {
+          at_rest = record {
+            owing_ports_are_full = one_of (λ port. has_rest port ≡ true → is_full port ≡ true) port_then (λ rest. full.full);
+            open_rings_are_drained = one_of (λ ring. has_ended ring ≡ false → (is_drained ring ≡ true) ⊎ ⊥) ring_then (λ unended. inl empty.drained);
+          };
+          open_host_is_blocked = λ unclosed. record {
+            owing = ap owes full.same ∙ none.waits (sym (ap (λ (s : PortState). s.closing) full.same) ∙ unclosed);
+            full = full.full;
+          };
+        };
+      }
+
+  -- the port had nothing to send, and the ring was empty
+  stood_by_empty : (found found_then : Findings) → HasOfferedNone port middle found found → IsRingEmpty ring ring_then no_findings found → IsPortClear false middle port_then found found_then
+      → HasStood found_then before after done_then causes_then AtRest
+  stood_by_empty found found_then none empty clear =
+      let cause = causes.Empty ring_then.plan.ring (length ring_then.received) ring_then.known in
+      let found_is : found_then ≡ record no_findings { empty = Some cause } = clear.found_nothing ∙ empty.found_empty in
+      let never : port_then.state.closing ≡ false → ⊥ = λ unclosed.
+          true≢false (sym (none.waits (sym (ap (λ (s : PortState). s.closing) clear.same) ∙ unclosed)) ∙ sym (ap owes clear.same) ∙ clear.ready) in record {
+        unmoved = ap (λ (f : Findings). f.moved) found_is;
+        same = nothing_went (as_before found found none) clear.same empty.same;
+        cause = λ undone.
+            let shut : port_then.state.shut ≡ true = by_shut never clear.ready in
+            let unended : has_ended ring_then ≡ false = other_fails port_then.state.shut (has_ended ring_then) (sym (done_by_both port_then ring_then) ∙ undone) shut in (
+              cause,
+              ap (λ (f : Findings). first_cause (f.full ∷ f.waits ∷ f.empty ∷ [])) found_is,
+              ap (λ b. first_cause ((if b then Some (causes.Full port_then.plan.ring (length port_then.state.sent) port_then.taken) else None) ∷ waits_for ∷ empty_cause ring_then ∷ [])) (clear.rest refl)
+                  ∙ ap (λ b. first_cause ((if b then None else Some cause) ∷ [])) unended,
+            );
+        at_rest = record {
+          at_rest = record {
+            owing_ports_are_full = one_of (λ port. has_rest port ≡ true → is_full port ≡ true) port_then (λ rest. absurd (true≢false (sym rest ∙ clear.rest refl)));
+            open_rings_are_drained = one_of (λ ring. has_ended ring ≡ false → (is_drained ring ≡ true) ⊎ ⊥) ring_then (λ unended. inl empty.drained);
+          };
+          open_host_is_blocked = λ unclosed. absurd (never unclosed);
+        };
+      }
+    where
+      by_shut : (port_then.state.closing ≡ false → ⊥) → owes port_then.state ≡ false → port_then.state.shut ≡ true
+      by_shut never ready = elim port_then.state.shut as (λ b. port_then.state.shut ≡ b → port_then.state.shut ≡ true) [
+        | true ↦ λ shut. shut
+        | false ↦ λ unshut. absurd (never (untold (some_owed port_then.state.waiting) port_then.state.closing port_then.state.shut ready unshut))
+      ] refl
+
+  -- what came of the ring and the port
+  pub came_of : (popped offered : Bool) (found_1 found_2 found_then : Findings) → IsReceived ring ring_then no_findings found_1 popped → IsIssued port middle found_1 found_2 offered
+      → IsPortTurned found_2.moved middle port_then found_2 found_then → IsKeptPort port middle → IsKeptPort middle port_then
+      → HasGone found_then before after ⊎ HasStood found_then before after done_then causes_then AtRest
+  came_of true true found_1 found_2 found_then received issued turned kept kept_then =
+      inl (gone_by_pop found_then received.one (still_moved found_2.moved middle port_then found_2 found_then turned (ap (λ (f : Findings). f.moved) issued.found_move)) kept kept_then)
+  came_of true false found_1 found_2 found_then received issued turned kept kept_then =
+      inl (gone_by_pop found_then received.one (still_moved found_2.moved middle port_then found_2 found_then turned (ap (λ (f : Findings). f.moved) issued.found_nothing ∙ ap (λ (f : Findings). f.moved) received.found_move)) kept kept_then)
+  came_of false true found_1 found_2 found_then received issued turned kept kept_then =
+      inl (gone_by_offer found_1 found_2 received.same issued found_then (still_moved found_2.moved middle port_then found_2 found_then turned (ap (λ (f : Findings). f.moved) issued.found_move)) kept_then)
+  came_of false false found_1 found_2 found_then received issued turned kept kept_then =
+      let none : HasOfferedNone port middle found_1 found_1 = record { same = issued.same; found_nothing = refl; waits = issued.waits } in
+      let unmoved : found_1.moved ≡ false = ap (λ (f : Findings). f.moved) received.found_empty in
+      let here : IsPortTurned false middle port_then found_1 found_then =
+          subst (λ (b : Bool). IsPortTurned b middle port_then found_1 found_then) unmoved
+            (subst (λ (f : Findings). IsPortTurned f.moved middle port_then f found_then) issued.found_nothing turned) in
+      ⊎_elim
+      (λ (m : HasPortMoved middle port_then found_1 found_then). inl (gone_by_port found_1 found_then (as_before found_1 found_1 none) m received.same))
+      (λ (rest : IsPortFull middle port_then found_1 found_then ⊎ IsPortClear false middle port_then found_1 found_then). ⊎_elim
+      (λ (f : IsPortFull middle port_then found_1 found_then). inr (stood_by_full found_1 found_then none received f))
+      (λ (c : IsPortClear false middle port_then found_1 found_then). inr (stood_by_empty found_1 found_then none received c))
+      rest)
+      here
+
+  -- at most one item was popped
+  one_popped : (popped : Bool) (found : Findings) → IsReceived ring ring_then no_findings found popped → length ring_then.received ≤ length ring.received + 1
+  one_popped true found received = let one = received.one in omega (arith, one)
+  one_popped false found received = let same = ap (λ (list : List Item). length list) received.same in omega (arith, same)
+
+  -- the turn, as it is answered
+  pub ends_turned : (popped offered : Bool) (found_1 found_2 found_then : Findings) (answer : Turn) → IsReceived ring ring_then no_findings found_1 popped → IsIssued port middle found_1 found_2 offered
+      → IsPortTurned found_2.moved middle port_then found_2 found_then → IsKeptPort port middle → IsKeptPort middle port_then
+      → IsTurnOf found_then (port_then.state.shut && has_ended ring_then) answer → IsEndsTurn ring port answer ring_then port_then
+  ends_turned popped offered found_1 found_2 found_then answer received issued turned kept kept_then told =
+      let said = answered_by found_then before after done_then causes_then AtRest answer (came_of popped offered found_1 found_2 found_then received issued turned kept kept_then)
+          (subst (λ d. IsTurnOf found_then d answer) (sym (done_by_both port_then ring_then)) told) in
+      record { answered = said.0; idle = said.1; one_item = one_popped popped found_1 received }
