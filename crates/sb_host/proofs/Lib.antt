@@ -8,3 +8,4 @@ pub mod PacketsLeft
 pub mod Received
 pub mod Passing
 pub mod Turning
+pub mod Beginning

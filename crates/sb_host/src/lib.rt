@@ -3,17 +3,20 @@
 
 mod cursor;
 mod desk;
+mod host;
 mod host_core;
 mod line;
 mod orders;
 mod outcome;
 mod place;
 mod row;
+mod script;
 mod serving;
 mod table;
 
 pub use cursor::Cursor;
 pub use desk::Desk;
+pub use host::Host;
 pub use host_core::HostCore;
 pub use line::Line;
 pub use orders::Orders;

@@ -1,0 +1,112 @@
+-- A host that begins is in order.
+use Rattle.std.proofs.Common.{◌≡◌, ◌≤◌, ◌<◌, ◌+◌, ℕ, zero, suc, arith, refl, sym, ap, subst, ◌∙◌, length, List, [], ◌∷◌, ◌++◌, Bool, true, false, true≢false, Some}
+use Rattle.std.specs.Prelude.{◌&&◌, nat_le, flat_map, map, All, slice_get, if◌then◌else◌}
+use Rattle.std.specs.List.{list_all}
+use Rattle.std.proofs.Math.ListN.{get_or}
+use Rattle.std.proofs.lemmas.Bool.Decides.{nat_tests}
+use Rattle.std.proofs.lemmas.Grind.{flat_map-append}
+use Rattle.std.proofs.lemmas.List.{get_or-map, length-map}
+use Rattle.std.proofs.lemmas.List.Elements.{All-nil, All-cons, All-head, All-tail}
+use Rattle.sb_packet.specs.Accesses.{Access, message_accesses}
+use Rattle.sb_packet.specs.Cuts.{cut_parts}
+use Rattle.sb_packet.specs.Messages.{Message}
+use Rattle.sb_packet.specs.Networks.{NetHost, Network}
+use Rattle.sb_packet.specs.Scripts.{IsTransaction}
+use Rattle.sb_packet.specs.Traffic.{item_accesses}
+use Rattle.sb_packet.specs.declared.item.Item.{Item}
+use Rattle.sb_packet.specs.declared.transaction.Txn.{Txn}
+use Rattle.sb_packet.proofs.CutWords.{words_of_cut}
+use Rattle.sb_port.specs.Ports.{IsFit, PortState, port_accesses}
+use Rattle.sb_port.specs.Waiting.{nothing_waits}
+use Rattle.sb_node.specs.Sides.{PortSide, RingSide, has_ended, offered_words, received_words}
+use Rattle.sb_flow.specs.Limits.{is_limited, is_limited_host}
+use Rattle.sb_flow.specs.NetworkOf.{network_of}
+use Rattle.sb_flow.specs.Rows.{host_of}
+use Rattle.sb_flow.specs.declared.bundle.Bundle.{Bundle}
+use Rattle.sb_flow.specs.declared.host_plan.HostPlan.{HostPlan}
+use Rattle.sb_host.specs.declared.line.Line.{Line}
+use Rattle.sb_host.specs.declared.row.Row.{Row}
+use Rattle.sb_host.specs.Asked.{Asked, accesses_from, asked_accesses, line_accesses, line_in, line_message, packets_from, sent_accesses, sent_packets}
+use Rattle.sb_host.specs.Hosts.{IsInOrder}
+use Rattle.sb_host.specs.Issuing.{HasComeTo, HasOffered, IsMadeFor, packets_left}
+use Rattle.sb_host.specs.Places.{AreIssuable}
+use Rattle.sb_host.specs.Rows.{IsTable}
+use Rattle.sb_host.proofs.TableSteps.{both_true}
+
+-- the words of a transaction's packets are its words
+words_of_line : (asked : Asked) (i : ℕ) (l : Line) → flat_map message_accesses (sent_packets asked i l) ≡ sent_accesses asked i l
+words_of_line asked i l =
+    elim (l.aimed) as (λ b. flat_map message_accesses (if b then cut_parts 32 (line_message asked i l) else []) ≡ (if b then line_accesses asked i l else [])) [
+      | true ↦ words_of_cut 32 (line_message asked i l)
+      | false ↦ refl
+    ]
+
+-- the words of all packets are all words
+pub words_of_packets : (asked : Asked) (i : ℕ) (lines : List Line) → flat_map message_accesses (packets_from asked i lines) ≡ accesses_from asked i lines
+words_of_packets asked i [] = refl
+words_of_packets asked i (l ∷ lines) =
+    flat_map-append message_accesses (sent_packets asked i l) (packets_from asked (i + 1) lines)
+    ∙ ap (λ (words : List Access). words ++ flat_map message_accesses (packets_from asked (i + 1) lines)) (words_of_line asked i l)
+    ∙ ap (λ (words : List Access). sent_accesses asked i l ++ words) (words_of_packets asked (i + 1) lines)
+
+-- a host that has offered nothing and received nothing
+pub begins_in_order : (asked : Asked) (rows : List Row) (port : PortSide) (ring : RingSide) → AreIssuable asked → IsMadeFor port.plan asked
+    → port.state ≡ record { sent = []; waiting = nothing_waits port.plan.width; closing = false; shut = false; claimed = 0 } → ring.received ≡ [] → IsTable asked [] rows
+    → IsInOrder asked rows 0 0 false port ring
+begins_in_order asked rows port ring issuable made state received table = record {
+  issuable = issuable;
+  made = made;
+  come = record { within = omega arith; begun = λ some d. absurd (omega arith) };
+  offered = ap (λ (s : PortState). port_accesses s ++ flat_map message_accesses (packets_left asked 0 0)) state ∙ words_of_packets asked 0 asked.lines;
+  closes = λ told. absurd (true≢false (sym told ∙ ap (λ (s : PortState). s.closing) state));
+  table = subst (λ (list : List Item). IsTable asked (item_accesses list) rows) (sym received) table;
+  ends = sym (ap (λ (list : List Item). has_ended (record ring { received = list })) received);
+}
+
+-- what all pass one passes
+passes_at : {X : Type 0} (test : X → Bool) (xs : List X) (i : ℕ) (d : X) → list_all test xs ≡ true → i < length xs → test (get_or xs i d) ≡ true
+passes_at test [] i d all below = absurd (omega arith)
+passes_at test (x ∷ xs) zero d all below = (both_true (test x) (list_all test xs) all).0
+passes_at test (x ∷ xs) (suc i) d all below = passes_at test xs i d (both_true (test x) (list_all test xs) all).1 (omega arith)
+
+host_limits : (network : Network) → is_limited network ≡ true → list_all is_limited_host network.hosts ≡ true
+host_limits network h = grind (arith, h)
+
+-- the limits of a host of a bundle
+record HasLimits (h : NetHost) : Type 0 where
+  id : h.id ≤ 31
+  qos : h.qos ≤ 15
+  prot : h.prot ≤ 3
+  few : length h.script ≤ 65536
+
+limits_of : (h : NetHost) → is_limited_host h ≡ true → HasLimits h
+limits_of h e =
+    let three = both_true (nat_le h.id 31 && nat_le h.qos 15 && nat_le h.prot 3) (nat_le (length h.script) 65536) e in
+    let two = both_true (nat_le h.id 31 && nat_le h.qos 15) (nat_le h.prot 3) three.0 in
+    let one = both_true (nat_le h.id 31) (nat_le h.qos 15) two.0 in
+    let a = one.0 in
+    let b = one.1 in
+    let c = two.1 in
+    let d = three.1 in
+    record { id = grind (arith, nat_tests); qos = grind (arith, nat_tests); prot = grind (arith, nat_tests); few = grind (arith, nat_tests) }
+
+lines_issuable : (network : Network) (script : List Txn) → All IsTransaction script → All (λ l. IsTransaction l.txn) (map (line_in network) script)
+lines_issuable network [] all = All-nil (λ l. IsTransaction l.txn)
+lines_issuable network (t ∷ script) all =
+    All-cons (λ l. IsTransaction l.txn) (line_in network t) (map (line_in network) script) (All-head IsTransaction t script all) (lines_issuable network script (All-tail IsTransaction t script all))
+
+-- what a host of a bundle asks for can be issued
+pub bundle_issuable : (b : Bundle) (h : ℕ) (plan : HostPlan) (lines : List Line) → h < length b.hosts.items → plan ≡ get_or b.hosts.items h plan → lines ≡ map (line_in (network_of b)) plan.script
+    → AreIssuable (record { id = plan.id; qos = plan.qos; prot = plan.prot; lines = lines })
+bundle_issuable b h plan lines inside at is =
+    let network = network_of b in
+    let passes = passes_at is_limited_host network.hosts h (host_of plan) (host_limits network b.limits) (omega (arith, inside, length-map b.hosts.items host_of)) in
+    let there : get_or network.hosts h (host_of plan) ≡ host_of plan = get_or-map host_of b.hosts.items h plan (host_of plan) inside ∙ ap host_of (sym at) in
+    let limits = limits_of (host_of plan) (subst (λ (x : NetHost). is_limited_host x ≡ true) there passes) in
+    record {
+      id = limits.id;
+      qos = limits.qos;
+      prot = limits.prot;
+      few = let few = limits.few in let long = ap length is ∙ length-map plan.script (line_in network) in omega (arith, few, long);
+      lines = subst (All (λ l. IsTransaction l.txn)) (sym is) (lines_issuable network plan.script plan.lines);
+    }
