@@ -44,3 +44,4 @@ pub mod AcceptedNetworks
 pub mod PortSides
 pub mod SidePromises
 pub mod DeviceSides
+pub mod RouterSides

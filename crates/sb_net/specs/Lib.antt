@@ -15,3 +15,4 @@ pub mod NetworkWays
 pub mod Routed
 pub mod NetworkStages
 pub mod RoundSides
+pub mod RouterSides

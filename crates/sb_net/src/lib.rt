@@ -4,4 +4,5 @@
 pub mod device_laws;
 pub mod laws;
 pub mod network_laws;
+pub mod router_laws;
 pub mod side_laws;

@@ -1,0 +1,40 @@
+//! Laws of routers as they stand in a network: they keep the promises on which whole runs rest.
+
+ghost use Rattle.std.specs.Prelude.{ℕ, List, All};
+ghost use Rattle.sb_packet.specs.Networks.{Network};
+ghost use Rattle.sb_packet.specs.Plans.{NetFlow};
+ghost use Rattle.sb_router.specs.Forwarding.{HasForwarded, Passes};
+ghost use Rattle.sb_router.specs.Lanes.{inlet_at, outlet_at};
+ghost use Rattle.sb_router.specs.RouteOf.{route_of};
+ghost use Rattle.sb_router.specs.Routers.{ClosesWhenDue, DirectionSide, ForwardsAll, IsWholeDirection};
+ghost use Rattle.sb_router.specs.Turning.{IsIdleLane};
+ghost use Rattle.sb_net.specs.Courses.{Course};
+ghost use Rattle.sb_net.specs.Moments.{Moment};
+ghost use Rattle.sb_net.specs.Promises.{Forwards};
+ghost use Rattle.sb_net.specs.RouterSides.{HasLane, IsAtStage, IsRouterOf, ShowsLane, course_words};
+ghost use Rattle.sb_net.specs.Stages.{Stages};
+ghost use Rattle.sb_net.specs.Standstills.{IsIdleReceiver, IsIdleSender, RoundEnd};
+
+/// A direction of a router that has handed on what came of a flow, less what it dropped, keeps a router's promise for it.
+pub fn routers_keep_their_promise()
+    ensures flow { (network : Network) (c : Course) (m : Moment) (outs : List ℕ) (d : DirectionSide) (f : NetFlow) (i o : ℕ)
+        → HasLane m d.lane → IsRouterOf c outs d.lane → IsWholeDirection d → Passes (route_of d.rows) d.lane f i o
+        → HasForwarded (course_words network c outs) d.lane f i o
+        → Forwards network c m f (inlet_at d.lane i).number (outlet_at d.lane o).number }
+    ensures all_flows { (network : Network) (c : Course) (m : Moment) (outs : List ℕ) (d : DirectionSide) (f : NetFlow) (i o : ℕ)
+        → HasLane m d.lane → IsRouterOf c outs d.lane → IsWholeDirection d → Passes (route_of d.rows) d.lane f i o
+        → ForwardsAll (course_words network c outs) d
+        → Forwards network c m f (inlet_at d.lane i).number (outlet_at d.lane o).number }
+{}
+
+/// A direction that did nothing in a turn is idle at each of its rings.
+pub fn idle_routers_are_idle()
+    ensures receivers { (stages : Stages) (e : RoundEnd) (stage : ℕ) (d : DirectionSide)
+        → ShowsLane e (route_of d.rows) d.lane → IsAtStage stages stage d.lane
+        → IsWholeDirection d → IsIdleLane (route_of d.rows) d.lane
+        → All (λ x. IsIdleReceiver stages e x.number) d.lane.inlets }
+    ensures senders { (stages : Stages) (e : RoundEnd) (stage : ℕ) (d : DirectionSide)
+        → ShowsLane e (route_of d.rows) d.lane → IsAtStage stages stage d.lane
+        → IsWholeDirection d → IsIdleLane (route_of d.rows) d.lane → ClosesWhenDue d
+        → All (λ y. IsIdleSender stages e y.number) d.lane.outlets }
+{}
