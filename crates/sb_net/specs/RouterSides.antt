@@ -9,7 +9,7 @@ use Rattle.sb_net.specs.Flows.{is_of}
 use Rattle.sb_net.specs.Moments.{Moment}
 use Rattle.sb_net.specs.RoundSides.{HasPort, HasRing, ShowsPort, ShowsRing}
 use Rattle.sb_net.specs.Stages.{Stages}
-use Rattle.sb_net.specs.Standstills.{RoundEnd}
+use Rattle.sb_net.specs.Standstills.{IsIdleReceiver, IsIdleSender, RoundEnd}
 
 -- the numbers of the rings that come in, and of those that go out
 abbrev pub ring_ins : LaneState → List ℕ
@@ -68,3 +68,8 @@ pub record Leaves (stages : Stages) (stage ring : ℕ) : Type 0 where
 pub record IsAtStage (stages : Stages) (stage : ℕ) (s : LaneState) : Type 0 where
   pub ins : All (λ x. ComesInto stages stage x.number) s.inlets
   pub outs : All (λ y. Leaves stages stage y.number) s.outlets
+
+-- A direction is idle at each of its rings.
+pub record IsIdleAtRings (stages : Stages) (e : RoundEnd) (s : LaneState) : Type 0 where
+  pub receivers : All (λ x. IsIdleReceiver stages e x.number) s.inlets
+  pub senders : All (λ y. IsIdleSender stages e y.number) s.outlets

@@ -1,17 +1,19 @@
 //! Laws of routers as they stand in a network: they keep the promises on which whole runs rest.
 
-ghost use Rattle.std.specs.Prelude.{ℕ, List, All};
+ghost use Rattle.std.specs.Prelude.{◌≢◌, ℕ, List, All};
+ghost use Rattle.sb_link.specs.declared.answers.Turn.{Turn};
+ghost use Rattle.sb_link.specs.declared.answers.Turn.TheVariants.{Moved};
 ghost use Rattle.sb_packet.specs.Networks.{Network};
 ghost use Rattle.sb_packet.specs.Plans.{NetFlow};
 ghost use Rattle.sb_router.specs.Forwarding.{HasForwarded, Passes};
 ghost use Rattle.sb_router.specs.Lanes.{inlet_at, outlet_at};
 ghost use Rattle.sb_router.specs.RouteOf.{route_of};
-ghost use Rattle.sb_router.specs.Routers.{ClosesWhenDue, DirectionSide, ForwardsAll, IsWholeDirection};
+ghost use Rattle.sb_router.specs.Routers.{ClosesWhenDue, DirectionSide, ForwardsAll, IsRouterTurn, IsWholeDirection, IsWholeRouter, RouterSide};
 ghost use Rattle.sb_router.specs.Turning.{IsIdleLane};
 ghost use Rattle.sb_net.specs.Courses.{Course};
 ghost use Rattle.sb_net.specs.Moments.{Moment};
 ghost use Rattle.sb_net.specs.Promises.{Forwards};
-ghost use Rattle.sb_net.specs.RouterSides.{HasLane, IsAtStage, IsRouterOf, ShowsLane, course_words};
+ghost use Rattle.sb_net.specs.RouterSides.{HasLane, IsAtStage, IsIdleAtRings, IsRouterOf, ShowsLane, course_words};
 ghost use Rattle.sb_net.specs.Stages.{Stages};
 ghost use Rattle.sb_net.specs.Standstills.{IsIdleReceiver, IsIdleSender, RoundEnd};
 
@@ -37,4 +39,16 @@ pub fn idle_routers_are_idle()
         → ShowsLane e (route_of d.rows) d.lane → IsAtStage stages stage d.lane
         → IsWholeDirection d → IsIdleLane (route_of d.rows) d.lane → ClosesWhenDue d
         → All (λ y. IsIdleSender stages e y.number) d.lane.outlets }
+{}
+
+/// So is a router in both directions, after a turn in which it didn't move.
+pub fn unmoved_routers_are_idle()
+    ensures requests { (stages : Stages) (e : RoundEnd) (stage : ℕ) (before after : RouterSide) (answer : Turn)
+        → IsWholeRouter after → IsRouterTurn before answer after → answer ≢ Moved
+        → ShowsLane e (route_of after.requests.rows) after.requests.lane → IsAtStage stages stage after.requests.lane
+        → IsIdleAtRings stages e after.requests.lane }
+    ensures answers { (stages : Stages) (e : RoundEnd) (stage : ℕ) (before after : RouterSide) (answer : Turn)
+        → IsWholeRouter after → IsRouterTurn before answer after → answer ≢ Moved
+        → ShowsLane e (route_of after.answers.rows) after.answers.lane → IsAtStage stages stage after.answers.lane
+        → IsIdleAtRings stages e after.answers.lane }
 {}
