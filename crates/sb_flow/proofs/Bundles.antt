@@ -115,6 +115,3 @@ host_of_network b h d = get_or-map-both host_of b.hosts.items h d
 -- the limits of a bundle's lists
 pub few_devices : (b : Bundle) → length (network_of b).devices ≤ 32
 few_devices b = grind (arith, b.limits)
-
-pub few_links : (b : Bundle) → length (network_of b).links ≤ 128
-few_links b = grind (arith, b.limits)

@@ -27,10 +27,6 @@ legs_with-None legs n network d = rw (links_from-None n network d) (append-nil l
 pub legs_with-Some : (legs : List Leg) (n i : ℕ) (network : Network) (d k : ℕ) → i < n → legs_with legs (n - i) network d (Some k) ≡ legs_with (legs ++ leg_of network k ∷ []) (n - (i + 1)) network d (next_link network d k)
 legs_with-Some legs n i network d k h = rw (links_from-Some n i network d k h) (sym (append_assoc legs (leg_of network k ∷ []) (map (leg_of network) (links_from (n - (i + 1)) network d (next_link network d k)))))
 
--- and no more are taken than may be
-pub legs_with-end : (legs : List Leg) (n i : ℕ) (network : Network) (d : ℕ) (next : Option ℕ) → n ≡ i → legs_with legs (n - i) network d next ≡ legs
-legs_with-end legs n i network d next e = let z : n - i ≡ 0 = omega arith in rw z (append-nil legs)
-
 -- the invariant of the walk, behind one more link
 pub legs_with-more : (network : Network) (d n i k : ℕ) (all legs more : List Leg) (leg : Leg) (next after : Option ℕ) → i < n → next ≡ Some k → leg ≡ leg_of network k → more ≡ legs ++ leg ∷ [] → after ≡ next_link network d leg.link → legs_with legs (n - i) network d next ≡ all → legs_with more (n - (i + 1)) network d after ≡ all
 legs_with-more network d n i k all legs more leg next after h is known pushed goes so_far =

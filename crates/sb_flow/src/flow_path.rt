@@ -41,7 +41,9 @@ impl Model for FlowPath {
 fn aimed_legs(alloc: Global, bundle: &Bundle, host: u8, device: u8) -> Result<Vec<Leg>, AllocError>
     requires host { host < length bundle.now.hosts.items }
     requires device { device < length bundle.now.devices.items }
-    ensures { (d : AnyHost) → IfOk result (λ legs. legs.items ≡ map (leg_of (network_of bundle.now)) (aimed_links (network_of bundle.now) host (host_of (slice_index_or bundle.now.hosts.items host d)) device)) }
+    ensures { (d : AnyHost) → let network = network_of bundle.now in
+        let plan = host_of (slice_index_or bundle.now.hosts.items host d) in
+        IfOk result (λ legs. legs.items ≡ map (leg_of network) (aimed_links network host plan device)) }
 {
     let plan = &bundle.hosts[usize::from(host)];
     let row = &bundle.devices[usize::from(device)];
@@ -61,7 +63,8 @@ pub fn flow_path(
 ) -> Result<FlowPath, AllocError>
     requires host { host < length bundle.now.hosts.items }
     requires device { device < length bundle.now.devices.items }
-    ensures { (d : AnyHost) → IfOk result (λ path. path ≡ flow_table_of (network_of bundle.now) host (host_of (slice_index_or bundle.now.hosts.items host d)) device) }
+    ensures { (d : AnyHost) → let plan = host_of (slice_index_or bundle.now.hosts.items host d) in
+        IfOk result (λ path. path ≡ flow_table_of (network_of bundle.now) host plan device) }
 {
     let plan = &bundle.hosts[usize::from(host)];
     let row = &bundle.devices[usize::from(device)];

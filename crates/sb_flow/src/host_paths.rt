@@ -60,7 +60,8 @@ pub fn legs_of(hosts: &[HostPaths], id: u8, device: u8) -> &[Leg]
 /// The ways from a host of a bundle.
 fn host_paths(alloc: Global, bundle: &Bundle, host: u8) -> Result<HostPaths, AllocError>
     requires { host < length bundle.now.hosts.items }
-    ensures { (d : AnyHost) → IfOk result (λ paths. paths ≡ host_table_of (network_of bundle.now) host (host_of (slice_index_or bundle.now.hosts.items host d))) }
+    ensures { (d : AnyHost) → let plan = host_of (slice_index_or bundle.now.hosts.items host d) in
+        IfOk result (λ paths. paths ≡ host_table_of (network_of bundle.now) host plan) }
 {
     let mut flows = Vec::new(alloc);
     for device in 0..bundle.devices.len() {
@@ -73,7 +74,8 @@ fn host_paths(alloc: Global, bundle: &Bundle, host: u8) -> Result<HostPaths, All
 
 /// The ways from all hosts of a bundle.
 pub fn all_paths(alloc: Global, bundle: &Bundle) -> Result<Vec<HostPaths>, AllocError>
-    ensures { IfOk result (λ hosts. hosts.items ≡ map (λ p. host_table_of (network_of bundle.now) p.0 p.1) (enumerate_from 0 (network_of bundle.now).hosts)) }
+    ensures { let network = network_of bundle.now in
+        IfOk result (λ hosts. hosts.items ≡ map (λ p. host_table_of network p.0 p.1) (enumerate_from 0 network.hosts)) }
 {
     let mut hosts = Vec::new(alloc);
     for host in 0..bundle.hosts.len() {

@@ -24,9 +24,11 @@ pub fn ways_lead_to_their_devices()
 
 /// Each link of an accepted network rises in one order of all places, where requests go and where answers go.
 pub fn links_rise()
-    ensures requests { (network : Network) (k : ℕ) (link : NetLink) → IsAccepted network → slice_get network.links k ≡ Some link
+    ensures requests { (network : Network) (k : ℕ) (link : NetLink)
+        → IsAccepted network → slice_get network.links k ≡ Some link
         → down_stage network link.from < down_stage network link.to }
-    ensures answers { (network : Network) (k : ℕ) (link : NetLink) → IsAccepted network → slice_get network.links k ≡ Some link
+    ensures answers { (network : Network) (k : ℕ) (link : NetLink)
+        → IsAccepted network → slice_get network.links k ≡ Some link
         → up_stage network link.to < up_stage network link.from }
 {}
 
@@ -38,12 +40,15 @@ pub fn rings_count_the_words_of_their_flows()
     ensures bounded { (network : Network) (ring : ℕ) → IsAccepted network → ring_budget network ring ≤ 262144 }
     ensures same { (network : Network) (ring other : ℕ) (way : NetWay)
         → is_upward ring ≡ is_upward other → counted_accesses network ring way ≡ counted_accesses network other way }
-    ensures transactions { (network : Network) (host : NetHost) (d : ℕ) → IsAccepted network → All IsTransaction host.script
-        → length (flow_part network host d (script_accesses host)) ≡ sum_by (λ t. if is_aimed_at network d t then t.count else 0) host.script }
+    ensures transactions { (network : Network) (host : NetHost) (d : ℕ)
+        → IsAccepted network → All IsTransaction host.script
+        → length (flow_part network host d (script_accesses host))
+        ≡ sum_by (λ t. if is_aimed_at network d t then t.count else 0) host.script }
 {}
 
 /// Each way of an accepted network is that of its flow, so its links are the ones by which the flow goes.
 pub fn flows_have_one_way()
     ensures links { (network : Network) → IsAccepted network
-        → All (λ way. flow_links network (record { host = way.host.id; device = way.device }) ≡ way.links) (network_ways network) }
+        → All (λ way. flow_links network (record { host = way.host.id; device = way.device }) ≡ way.links)
+        (network_ways network) }
 {}

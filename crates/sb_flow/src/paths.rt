@@ -108,14 +108,16 @@ impl Paths {
     /// The link by which the flow of a host, named by its id, to a device leaves a router towards the device. None
     /// exactly where the flow doesn't pass this router. It takes no memory.
     pub fn down(&self, router: u8, host: u8, device: u8) -> Option<u8>
-        ensures { (bundle : AnyBundle) → self.now ≡ paths_of (network_of bundle) → result ≡ link_down (network_of bundle) router (record { host = host; device = device }) }
+        ensures { (bundle : AnyBundle) → self.now ≡ paths_of (network_of bundle)
+            → result ≡ link_down (network_of bundle) router (record { host = host; device = device }) }
     {
         link_from(legs_of(&self.hosts, host, device), router)
     }
 
     /// The link by which this flow leaves the router towards the host.
     pub fn up(&self, router: u8, host: u8, device: u8) -> Option<u8>
-        ensures { (bundle : AnyBundle) → self.now ≡ paths_of (network_of bundle) → result ≡ link_up (network_of bundle) router (record { host = host; device = device }) }
+        ensures { (bundle : AnyBundle) → self.now ≡ paths_of (network_of bundle)
+            → result ≡ link_up (network_of bundle) router (record { host = host; device = device }) }
     {
         link_to(legs_of(&self.hosts, host, device), router)
     }

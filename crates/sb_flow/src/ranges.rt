@@ -48,7 +48,8 @@ fn bases(devices: &[DevicePlan]) -> [u64; 32]
 
 /// The numbers of bytes of 32 devices.
 fn sizes(devices: &[DevicePlan]) -> [u64; 32]
-    ensures { result ≡ map (λ k. option_map_or (λ d. device_size (device_of d)) (slice_get devices.now k) 0) (range_with_len 0 32) }
+    ensures { result
+        ≡ map (λ k. option_map_or (λ d. device_size (device_of d)) (slice_get devices.now k) 0) (range_with_len 0 32) }
 {
     let mut sizes = [0; 32];
     for place in 0..32 {
@@ -60,7 +61,8 @@ fn sizes(devices: &[DevicePlan]) -> [u64; 32]
 /// The ranges of all devices, with such flows.
 pub fn flows(bundle: &Bundle, through: [u32; 32]) -> Flows
     requires { length through ≡ 32 }
-    ensures { flows_of result ≡ record { devices = length (network_of bundle.now).devices; ranges = network_ranges (network_of bundle.now); through = map bits_of through } }
+    ensures { let network = network_of bundle.now in flows_of result
+        ≡ record { devices = length network.devices; ranges = network_ranges network; through = map bits_of through } }
 {
     Flows {
         count: bundle.devices.len() as u8,

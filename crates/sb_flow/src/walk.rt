@@ -103,7 +103,8 @@ fn first_link(bundle: &Bundle, host: u8) -> Option<u8>
 /// The links of the way from a host to a device, the host's own first.
 pub fn legs(alloc: Global, bundle: &Bundle, host: u8, device: u8) -> Result<Vec<Leg>, AllocError>
     requires { device < length bundle.now.devices.items }
-    ensures { IfOk result (λ legs. legs.items ≡ map (leg_of (network_of bundle.now)) (way_links (network_of bundle.now) host device)) }
+    ensures { let network = network_of bundle.now in
+        IfOk result (λ legs. legs.items ≡ map (leg_of network) (way_links network host device)) }
 {
     let mut legs = Vec::new(alloc);
     let mut next = first_link(bundle, host);
