@@ -134,7 +134,9 @@ fn links(alloc: Global) -> Result<Vec<LinkRow>, Fail>
 }
 
 /// The twins.
-fn twins(alloc: Global) -> Result<Bundle, Fail> {
+fn twins(alloc: Global) -> Result<Bundle, Fail>
+    ensures { IfOk result (λ bundle. network_of bundle ≡ twin_network) }
+{
     let hosts = hosts(alloc)?;
     let routers = routers(alloc)?;
     let devices = devices(alloc)?;
@@ -161,5 +163,24 @@ fn each_flow_has_its_link(rt: HostRuntime) -> Result<(), Fail> {
     assert_eq!(rt; paths.down(1, 3, 1), Some(5));
     assert_eq!(rt; paths.down(0, 9, 0), None);
     assert_eq!(rt; paths.up(0, 9, 1), None);
+    Ok(())
+}
+
+/// The links between the routers have a flow each, and the idle host's link has none.
+#[test]
+fn each_ring_has_its_flows(rt: HostRuntime) -> Result<(), Fail> {
+    let bundle = twins(rt.alloc())?;
+    let paths = Paths::new(rt.alloc(), &bundle)?;
+    let left = paths.plan(&bundle, 4);
+    let right = paths.plan(&bundle, 7);
+    let idle = paths.plan(&bundle, 2);
+    assert_eq!(rt; (left.budget, left.flows.count), (2, 2));
+    assert_eq!(rt; (right.budget, right.up), (1, true));
+    assert_eq!(rt;
+        (idle.budget, idle.flows.through[3], idle.flows.through[9]),
+        (0, 0, 0)
+    );
+    assert_eq!(rt; (left.flows.through[3], left.flows.through[9]), (1, 0));
+    assert_eq!(rt; (right.flows.through[3], right.flows.through[9]), (2, 0));
     Ok(())
 }
