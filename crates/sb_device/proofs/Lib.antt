@@ -5,3 +5,4 @@ pub mod Requests
 pub mod Orders
 pub mod Turning
 pub mod Restored
+pub mod ServedExamples

@@ -17,6 +17,7 @@ use Rattle.sb_packet.specs.declared.packet.Packet.{Packet}
 use Rattle.sb_packet.specs.declared.item.Item.{Item}
 use Rattle.sb_packet.specs.declared.item.Item.TheVariants as items
 use Rattle.sb_packet.proofs.Opcodes.{some_words}
+use Rattle.sb_port.specs.Ports.{PortState, port_accesses}
 use Rattle.sb_node.specs.Sides.{PortSide, RingSide, offered_words, received_words}
 use Rattle.sb_node.specs.Steps.{IsOffered, IsDropped}
 use Rattle.sb_device.specs.Plans.{IsPlannedFor, IsInOrder}
@@ -93,8 +94,8 @@ module _ (number number_then : ℕ) (m m_then : MemoryState) (journal journal_th
       }
 
   -- a Close came in, and the port was told
-  pub in_order_close : journal_then ≡ journal → ring_then.received ≡ ring.received ++ items.Close ∷ [] → port_then.state.closing ≡ true → IsInOrder number_then m_then journal_then ring_then port_then
-  in_order_close same came told =
+  pub in_order_close : journal_then ≡ journal → ring_then.received ≡ ring.received ++ items.Close ∷ [] → port_then.state ≡ record port.state { closing = true } → IsInOrder number_then m_then journal_then ring_then port_then
+  in_order_close same came state =
       let words : received_words ring_then ≡ received_words ring = ap item_accesses came ∙ item_more ring.received items.Close ∙ append-nil (received_words ring) in
       let longer = ap length words in
       let room = o.room in
@@ -105,7 +106,7 @@ module _ (number number_then : ℕ) (m m_then : MemoryState) (journal journal_th
         journalled = ap (λ (j : Ledger). entry_packets j.entries) same ∙ o.journalled ∙ sym (append-nil (item_packets ring.received)) ∙ sym (packets_joined ring.received (items.Close ∷ [])) ∙ sym (ap item_packets came);
         own_entries = subst (λ n. All (λ e. e.device ≡ n) journal_then.entries) (sym same_number) (subst (λ (j : Ledger). All (λ e. e.device ≡ number) j.entries) (sym same) o.own_entries);
         room = omega (arith, longer, room, spare, budget);
-        closes = told ∙ sym (close_behind ring.received) ∙ sym (ap has_close came);
+        closes = ap (λ (s : PortState). s.closing) state ∙ sym (close_behind ring.received) ∙ sym (ap has_close came);
       }
 
 -- where a journal has the packets that came in, it has their words
@@ -135,8 +136,8 @@ room_for_entry number m journal ring port p o lawful = let some = some_accesses 
 
 -- a Close came in: nothing was served
 pub served_close : (opening m : MemoryState) (journal : List Entry) (ring ring_then : RingSide) (port port_then : PortSide) → HasServed opening m journal ring port
-    → ring_then.received ≡ ring.received ++ items.Close ∷ [] → port_then.plan ≡ port.plan → offered_words port_then ≡ offered_words port → HasServed opening m journal ring_then port_then
-served_close opening m journal ring ring_then port port_then h came plan words = record {
+    → ring_then.received ≡ ring.received ++ items.Close ∷ [] → port_then.plan ≡ port.plan → port_then.state ≡ record port.state { closing = true } → HasServed opening m journal ring_then port_then
+served_close opening m journal ring ring_then port port_then h came plan state = let words : offered_words port_then ≡ offered_words port = ap port_accesses state in record {
   stepped = h.stepped;
   answered_some = subst (λ xs. IsSubsequence xs (answers_to opening (entry_accesses journal))) (sym words) h.answered_some;
   answered_all = λ sound few. words ∙ h.answered_all (front_sound ring.received (items.Close ∷ []) (subst AreSound came sound))
@@ -144,20 +145,20 @@ served_close opening m journal ring ring_then port port_then h came plan words =
 }
 
 -- a request came in, and was served
-pub served_request : (opening m m_then : MemoryState) (number : ℕ) (journal : Ledger) (journal_then : List Entry) (ring ring_then : RingSide) (port port_then : PortSide) (p : Packet) (e : Entry)
-    → IsInOrder number m journal ring port → HasServed opening m journal.entries ring port → e.packet ≡ p → journal_then ≡ journal.entries ++ e ∷ []
+pub served_request : (opening m m_then : MemoryState) (number : ℕ) (journal journal_then : Ledger) (spare : ℕ) (ring ring_then : RingSide) (port port_then : PortSide) (p : Packet) (e : Entry)
+    → IsInOrder number m journal ring port → HasServed opening m journal.entries ring port → e.packet ≡ p → journal_then ≡ record { entries = journal.entries ++ e ∷ []; spare = spare }
     → MayFollow ring.plan ring.received (items.Packet p) → is_request p.cmd.op ≡ true
     → ring_then.received ≡ ring.received ++ items.Packet p ∷ [] → port_then.plan ≡ port.plan → m_then ≡ memory_after m (accesses_of p) → IsServedBy m port port_then p
-    → HasServed opening m_then journal_then ring_then port_then
-served_request opening m m_then number journal journal_then ring ring_then port port_then p e o h of_packet added lawful asked came plan stepped served =
-    let entered : entry_accesses journal_then ≡ entry_accesses journal.entries ++ accesses_of p =
-    ap entry_accesses added ∙ entry_more journal.entries e ∙ ap (λ q. entry_accesses journal.entries ++ accesses_of q) of_packet in
+    → HasServed opening m_then journal_then.entries ring_then port_then
+served_request opening m m_then number journal journal_then spare ring ring_then port port_then p e o h of_packet added lawful asked came plan stepped served =
+    let entered : entry_accesses journal_then.entries ≡ entry_accesses journal.entries ++ accesses_of p =
+    ap (λ (j : Ledger). entry_accesses j.entries) added ∙ entry_more journal.entries e ∙ ap (λ q. entry_accesses journal.entries ++ accesses_of q) of_packet in
     ⊎_elim
-    (λ (u : IsUnanswered m port port_then p). served_and_offered opening m m_then journal.entries journal_then ring ring_then port port_then p [] h entered came plan stepped u.none
+    (λ (u : IsUnanswered m port port_then p). served_and_offered opening m m_then journal.entries journal_then.entries ring ring_then port port_then p [] h entered came plan stepped u.none
     (u.words ∙ sym (append-nil (offered_words port))))
     (λ (r : IsReplied m port port_then p). ⊎_elim
-    (λ (i : IsOffered port port_then r.answer). served_and_offered opening m m_then journal.entries journal_then ring ring_then port port_then p (accesses_of r.answer) h entered came plan stepped r.answers i.words)
-    (λ (d : IsDropped port port_then r.answer). served_and_dropped opening m m_then journal.entries journal_then ring ring_then port port_then p (accesses_of r.answer) h entered came plan stepped r.answers
+    (λ (i : IsOffered port port_then r.answer). served_and_offered opening m m_then journal.entries journal_then.entries ring ring_then port port_then p (accesses_of r.answer) h entered came plan stepped r.answers i.words)
+    (λ (d : IsDropped port port_then r.answer). served_and_dropped opening m m_then journal.entries journal_then.entries ring ring_then port port_then p (accesses_of r.answer) h entered came plan stepped r.answers
     (ap offered_words d.same)
     (λ sound room. d.fails (record {
       sound = sound_answer p r.answer asked r.fields sound;
