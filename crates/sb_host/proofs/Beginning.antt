@@ -1,6 +1,6 @@
 -- A host that begins is in order.
-use Rattle.std.proofs.Common.{◌≡◌, ◌≤◌, ◌<◌, ◌+◌, ℕ, zero, suc, arith, refl, sym, ap, subst, ◌∙◌, length, List, [], ◌∷◌, ◌++◌, Bool, true, false, true≢false, Some}
-use Rattle.std.specs.Prelude.{◌&&◌, nat_le, flat_map, map, All, slice_get, if◌then◌else◌}
+use Rattle.std.proofs.Common.{◌≡◌, ◌≤◌, ◌<◌, ◌+◌, ℕ, zero, suc, arith, refl, sym, ap, subst, ◌∙◌, length, List, [], ◌∷◌, ◌++◌, Bool, true, false, true≢false}
+use Rattle.std.specs.Prelude.{◌&&◌, nat_le, flat_map, map, All, if◌then◌else◌}
 use Rattle.std.specs.List.{list_all}
 use Rattle.std.proofs.Math.ListN.{get_or}
 use Rattle.std.proofs.lemmas.Bool.Decides.{nat_tests}
@@ -9,16 +9,15 @@ use Rattle.std.proofs.lemmas.List.{get_or-map, length-map}
 use Rattle.std.proofs.lemmas.List.Elements.{All-nil, All-cons, All-head, All-tail}
 use Rattle.sb_packet.specs.Accesses.{Access, message_accesses}
 use Rattle.sb_packet.specs.Cuts.{cut_parts}
-use Rattle.sb_packet.specs.Messages.{Message}
 use Rattle.sb_packet.specs.Networks.{NetHost, Network}
 use Rattle.sb_packet.specs.Scripts.{IsTransaction}
 use Rattle.sb_packet.specs.Traffic.{item_accesses}
 use Rattle.sb_packet.specs.declared.item.Item.{Item}
 use Rattle.sb_packet.specs.declared.transaction.Txn.{Txn}
 use Rattle.sb_packet.proofs.CutWords.{words_of_cut}
-use Rattle.sb_port.specs.Ports.{IsFit, PortState, port_accesses}
+use Rattle.sb_port.specs.Ports.{PortState, port_accesses}
 use Rattle.sb_port.specs.Waiting.{nothing_waits}
-use Rattle.sb_node.specs.Sides.{PortSide, RingSide, has_ended, offered_words, received_words}
+use Rattle.sb_node.specs.Sides.{PortSide, RingSide, has_ended}
 use Rattle.sb_flow.specs.Limits.{is_limited, is_limited_host}
 use Rattle.sb_flow.specs.NetworkOf.{network_of}
 use Rattle.sb_flow.specs.Rows.{host_of}
@@ -26,9 +25,9 @@ use Rattle.sb_flow.specs.declared.bundle.Bundle.{Bundle}
 use Rattle.sb_flow.specs.declared.host_plan.HostPlan.{HostPlan}
 use Rattle.sb_host.specs.declared.line.Line.{Line}
 use Rattle.sb_host.specs.declared.row.Row.{Row}
-use Rattle.sb_host.specs.Asked.{Asked, accesses_from, asked_accesses, line_accesses, line_in, line_message, packets_from, sent_accesses, sent_packets}
+use Rattle.sb_host.specs.Asked.{Asked, accesses_from, line_accesses, line_in, line_message, packets_from, sent_accesses, sent_packets}
 use Rattle.sb_host.specs.Hosts.{IsInOrder}
-use Rattle.sb_host.specs.Issuing.{HasComeTo, HasOffered, IsMadeFor, packets_left}
+use Rattle.sb_host.specs.Issuing.{IsMadeFor, packets_left}
 use Rattle.sb_host.specs.Places.{AreIssuable}
 use Rattle.sb_host.specs.Rows.{IsTable}
 use Rattle.sb_host.proofs.TableSteps.{both_true}

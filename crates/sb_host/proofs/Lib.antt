@@ -9,3 +9,5 @@ pub mod Received
 pub mod Passing
 pub mod Turning
 pub mod Beginning
+pub mod Restored
+pub mod Offering

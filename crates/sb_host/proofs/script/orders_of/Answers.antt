@@ -4,7 +4,6 @@ use Rattle.std.specs.Prelude.{map}
 use Rattle.std.proofs.Math.ListN.{get_or}
 use Rattle.sb_packet.specs.declared.transaction.Txn.{Txn}
 use Rattle.sb_flow.specs.NetworkOf.{network_of}
-use Rattle.sb_flow.specs.declared.host_plan.HostPlan.{HostPlan}
 use Rattle.sb_host.specs.Asked.{line_in}
 use Rattle.sb_host.proofs.Beginning.{bundle_issuable}
 use Rattle.sb_host.proofs.script.orders_of.Goals as goal

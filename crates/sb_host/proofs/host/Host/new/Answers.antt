@@ -1,18 +1,18 @@
 -- A new host has both ends, has offered nothing, and has a table without an answer.
-use Rattle.std.proofs.Common.{◌≡◌, ◌<◌, ◌∙◌, refl, sym, ap, subst, arith, length, Some, [], false}
+use Rattle.std.proofs.Common.{◌≡◌, ◌∙◌, refl, sym, ap, subst, arith, Some, [], false}
 use Rattle.std.specs.Prelude.{slice_get}
 use Rattle.std.proofs.Math.ListN.{get_or}
 use Rattle.std.proofs.lemmas.List.{length-map}
 use Rattle.std.proofs.lemmas.Option.{slice_get-get_or}
 use Rattle.sb_packet.specs.Networks.{NetHost}
 use Rattle.sb_packet.specs.Plans.{RingPlan}
-use Rattle.sb_port.specs.Ports.{IsFit, PortState}
+use Rattle.sb_port.specs.Ports.{IsFit}
 use Rattle.sb_port.specs.Waiting.{nothing_waits}
 use Rattle.sb_node.specs.Sides.{port_side, ring_side}
 use Rattle.sb_flow.specs.NetworkOf.{network_of}
 use Rattle.sb_flow.specs.Rows.{host_of}
 use Rattle.sb_flow.proofs.Bundles.{idle_plan}
-use Rattle.sb_host.specs.Asked.{Asked, asked_by}
+use Rattle.sb_host.specs.Asked.{Asked}
 use Rattle.sb_host.specs.Issuing.{IsMadeFor}
 use Rattle.sb_host.specs.Places.{asked_of}
 use Rattle.sb_host.proofs.Beginning.{begins_in_order}
