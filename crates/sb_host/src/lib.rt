@@ -15,6 +15,9 @@ mod script;
 mod serving;
 mod table;
 
+#[cfg(test)]
+mod tests;
+
 pub use cursor::Cursor;
 pub use desk::Desk;
 pub use host::Host;

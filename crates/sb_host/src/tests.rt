@@ -1,0 +1,183 @@
+//! What a host makes of answers, whatever their order.
+
+ghost use Rattle.std.specs.Prelude.{◌≡◌, ◌≤◌, ◌<◌, ◌+◌, ◌*◌, ◌%◌, ◌^◌, List, IfOk, false, length, replicate};
+ghost use Rattle.sb_packet.specs.Journals.{is_request};
+ghost use Rattle.sb_packet.specs.Accesses.{Access};
+ghost use Rattle.sb_packet.specs.Scripts.{IsTransaction};
+ghost use Rattle.sb_host.specs.Places.{AreIssuable, asked_of};
+ghost use Rattle.sb_host.specs.Rows.{IsTable};
+
+use crate::cursor::Cursor;
+use crate::line::Line;
+use crate::orders::Orders;
+use crate::table::Table;
+use sb_packet::{Bytes, Cmd, Code, Kind, Op, Packet, Txn, TxnState};
+use std::alloc::{AllocError, Global};
+use std::test::Fail;
+
+/// The first address at which host 1 is answered.
+const REPLIES: u64 = 1 << 40;
+
+/// A read of so many words of 8 bytes.
+fn read(alloc: Global, count: u16, aimed: bool) -> Line
+    requires some { 0 < count }
+    requires most { count ≤ 256 }
+    ensures transaction { IsTransaction result.txn }
+{
+    Line {
+        txn: Txn {
+            kind: Kind::Read,
+            size: 3,
+            addr: 0x1000,
+            count,
+            body: Bytes::new(Vec::new(alloc)),
+        },
+        aimed,
+    }
+}
+
+/// A write of four words of 8 bytes, posted or not.
+fn write(alloc: Global, kind: Kind, aimed: bool) -> Result<Line, AllocError>
+    requires kind { IsTransaction (record { kind = kind; size = 3; addr = 0; count = 4; body = replicate 32 7 }) }
+    ensures transaction { IfOk result (λ l. IsTransaction l.txn) }
+{
+    let body = vec![in alloc; 7; 32]?;
+    Ok(Line {
+        txn: Txn {
+            kind,
+            size: 3,
+            addr: 0,
+            count: 4,
+            body: Bytes::new(body),
+        },
+        aimed,
+    })
+}
+
+/// A packet of 32 bytes that answers host 1, at that place of its addresses.
+fn answer(op: Op, size: u8, len: u8, tail: u8, place: u64, byte: u8) -> Packet
+    requires answers { is_request op ≡ false }
+    requires size { size ≤ 3 }
+    requires tail { tail ≤ 3 }
+    requires span { (len + 1) * 2 ^ size ≡ 32 }
+    requires aligned { place % 8 ≡ 0 }
+    requires range { place ≤ 2 ^ 32 }
+{
+    let body = match op {
+        Op::RespRd => [byte; 32],
+        _ => [0; 32],
+    };
+    Packet {
+        cmd: Cmd {
+            op,
+            size,
+            len,
+            qos: 0,
+            prot: 0,
+            eom: true,
+            eof: false,
+            ex: false,
+            tail,
+            host: 1,
+        },
+        dst: REPLIES + place,
+        src: 0x1000,
+        body,
+    }
+}
+
+/// What host 1 asks for here: a read of 8 words, a write of 4, a posted write, and a read that is aimed at no device.
+fn orders(alloc: Global) -> Result<Orders, AllocError>
+    ensures issuable { IfOk result (λ o. AreIssuable (asked_of o)) }
+    ensures lines { IfOk result (λ o. length o.lines.items ≡ 4) }
+{
+    let mut lines = Vec::new(alloc);
+    lines.push(read(alloc, 8, true))?;
+    lines.push(write(alloc, Kind::Write, true)?)?;
+    lines.push(write(alloc, Kind::Posted, true)?)?;
+    lines.push(read(alloc, 2, false))?;
+    Ok(Orders {
+        id: 1,
+        qos: 0,
+        prot: 0,
+        lines,
+    })
+}
+
+/// How far each of the four transactions has come, where the host has come to transaction `next`.
+fn states(table: &Table, orders: &Orders, next: usize) -> [TxnState; 4]
+    requires issuable { AreIssuable (asked_of orders.now) }
+    requires lines { length orders.now.lines.items ≡ 4 }
+    requires table { (received : List Access) × IsTable (asked_of orders.now) received table.now.rows.items }
+{
+    [
+        table.state(orders, next, 0),
+        table.state(orders, next, 1),
+        table.state(orders, next, 2),
+        table.state(orders, next, 3),
+    ]
+}
+
+/// Takes these answers one after another.
+fn take_all(table: &mut Table, orders: &Orders, answers: &[Packet])
+    requires issuable { AreIssuable (asked_of orders.now) }
+    requires table { (received : List Access) × IsTable (asked_of orders.now) received table.old.rows.items }
+    ensures table { (received : List Access) × IsTable (asked_of orders.now) received table.new.rows.items }
+{
+    for answer in answers {
+        table.take(orders, answer);
+    }
+}
+
+const WAITING: TxnState = TxnState::Waiting;
+const LOST: TxnState = TxnState::Answered { code: Code::NetErr };
+
+#[test]
+fn answers_come_in_any_order(rt: HostRuntime) -> Result<(), Fail> {
+    let alloc = rt.alloc();
+    let orders = orders(alloc)?;
+    let mut table = Table::new(alloc, &orders)?;
+    assert_eq!(rt; states(&table, &orders, 0), [WAITING, WAITING, TxnState::Posted, WAITING]);
+    // the second half of the read before the first, and each of them twice: the first counts
+    let late = [
+        answer(Op::RespRd, 3, 3, 2, 32, 5),
+        answer(Op::RespRd, 3, 3, 3, 32, 6),
+        answer(Op::RespRd, 3, 3, 0, 0, 4),
+        answer(Op::RespRd, 3, 3, 3, 0, 9),
+    ];
+    take_all(&mut table, &orders, &late);
+    let refused = TxnState::Answered { code: Code::DevErr };
+    assert_eq!(rt; states(&table, &orders, 0), [refused, WAITING, TxnState::Posted, WAITING]);
+    let mut body = [4; 64];
+    body[32..].copy_from_slice(&[5; 32]);
+    assert_eq!(rt; table.body(&orders, 0, 0), body.as_slice());
+    assert_eq!(rt; table.body(&orders, 0, 1).len(), 0);
+    Ok(())
+}
+
+#[test]
+fn other_words_are_dropped(rt: HostRuntime) -> Result<(), Fail> {
+    let alloc = rt.alloc();
+    let orders = orders(alloc)?;
+    let mut table = Table::new(alloc, &orders)?;
+    let strays = [
+        // another opcode, and another size
+        answer(Op::RespWr, 3, 3, 1, 0, 0),
+        answer(Op::RespRd, 2, 7, 1, 0, 1),
+        answer(Op::RespRd, 3, 3, 1, 2048, 1),
+        // the posted write, the read that is aimed at no device, and what nobody asked for
+        answer(Op::RespWr, 3, 3, 1, 4096, 0),
+        answer(Op::RespRd, 3, 3, 1, 6144, 1),
+        answer(Op::RespRd, 3, 3, 1, 8192, 1),
+        answer(Op::RespRd, 3, 3, 1, 64, 1),
+    ];
+    take_all(&mut table, &orders, &strays);
+    assert_eq!(rt; states(&table, &orders, 0), [WAITING, WAITING, TxnState::Posted, WAITING]);
+    let write = [answer(Op::RespWr, 3, 3, 1, 2048, 0)];
+    take_all(&mut table, &orders, &write);
+    let answered = TxnState::Answered { code: Code::ExOk };
+    assert_eq!(rt; states(&table, &orders, 3), [WAITING, answered, TxnState::Posted, WAITING]);
+    assert_eq!(rt; states(&table, &orders, 4), [WAITING, answered, TxnState::Posted, LOST]);
+    assert_eq!(rt; table.body(&orders, 4, 3), [0; 16].as_slice());
+    Ok(())
+}
