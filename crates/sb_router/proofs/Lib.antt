@@ -18,5 +18,7 @@ pub mod TurningEach
 pub mod LaneTurns
 pub mod RouterTurns
 pub mod RouterTurning
+pub mod Tables
+pub mod Legs
 pub mod KeptSteps
 pub mod ForwardSteps

@@ -8,6 +8,8 @@ pub mod Sending
 pub mod InletOf
 pub mod OutletOf
 pub mod RouteOf
+pub mod Fresh
+pub mod Ways
 pub mod LaneOf
 pub mod Moves
 pub mod Handing

@@ -1,8 +1,7 @@
 -- Where each flow goes, by a table.
-use Rattle.std.specs.Prelude.{ℕ, List, Option, None, slice_get, slice_index_or}
-use Rattle.std.specs.Option.{option_and_then}
+use Rattle.std.specs.Prelude.{ℕ, List, [], Option, None, slice_index_or}
 use Rattle.sb_router.specs.Lanes.{Route}
 
--- the place that stands in the row of the flow's host, at its device
+-- what stands in the row of the flow's host, at its device
 abbrev pub route_of : List (List (Option ℕ)) → Route
-route_of rows f = option_and_then (λ row. slice_index_or row f.device None) (slice_get rows f.host)
+route_of rows f = slice_index_or (slice_index_or rows f.host []) f.device None

@@ -42,7 +42,7 @@ impl<T: TxEnd, U: RxEnd> Lane<T, U> {
     }
 
     // the place of the port to which a packet goes that came by the ring at a place
-    fn next(&self, place: usize, packet: &Packet) -> Option<u8>
+    fn next(&self, place: usize, packet: &Packet) -> Option<usize>
         requires whole { IsWholeLane (lane_route self.now) (lane_of T.TxEnd U.RxEnd self.now) }
         requires within { place < vec_len self.now.inlets }
         ensures next { result ≡ next_place (lane_route self.now) (inlet_at (lane_of T.TxEnd U.RxEnd self.now) place).ring.plan packet.now }
@@ -97,11 +97,10 @@ impl<T: TxEnd, U: RxEnd> Lane<T, U> {
             self.empty_at(place);
             return true;
         };
-        let outlet = usize::from(next);
-        if !self.is_ready_at(outlet) {
+        if !self.is_ready_at(next) {
             return false;
         }
-        self.hand_to_at(outlet, &packet);
+        self.hand_to_at(next, &packet);
         self.empty_at(place);
         true
     }

@@ -2,11 +2,13 @@
 #![tactic(auto)]
 
 mod causes;
+mod ends;
 mod inlet;
 mod lane;
 mod outlet;
 mod router_core;
 mod routes;
+mod table;
 
 pub use inlet::Inlet;
 pub use lane::Lane;

@@ -31,13 +31,13 @@ pub is_ready_at-requires-clause-within : goal.is_ready_at-requires-clause-within
 is_ready_at-requires-clause-within g c =
     let self = c.args.self.now in let s : LaneState = lane_of g.T.TxEnd g.U.RxEnd self in
     let lt = next_within (lane_route self) (inlet_at s c.args.place).ring.plan c.in-Some.packet c.in-Some-next.next (length s.outlets) c.requires.whole.routed (sym c.next.ensures.next ∙ c.in-Some-next.is) in
-    omega (arith, lt, c.from-outlet.ensures, self.outlets.ok.0, length-map self.outlets.items (outlet_of g.T.TxEnd))
+    omega (arith, lt, self.outlets.ok.0, length-map self.outlets.items (outlet_of g.T.TxEnd))
 
 pub hand_to_at-requires-clause-within : goal.hand_to_at-requires-clause-within
 hand_to_at-requires-clause-within g c =
     let self = c.args.self.now in let s : LaneState = lane_of g.T.TxEnd g.U.RxEnd self in
     let lt = next_within (lane_route self) (inlet_at s c.args.place).ring.plan c.in-Some.packet c.in-Some-next.next (length s.outlets) c.requires.whole.routed (sym c.next.ensures.next ∙ c.in-Some-next.is) in
-    omega (arith, lt, c.from-outlet.ensures, self.outlets.ok.0, length-map self.outlets.items (outlet_of g.T.TxEnd))
+    omega (arith, lt, self.outlets.ok.0, length-map self.outlets.items (outlet_of g.T.TxEnd))
 
 pub returns-clause-handed : goal.returns-clause-handed
 returns-clause-handed g c =
@@ -51,5 +51,5 @@ returns-clause-handed g c =
         ap (λ (x : InletState). x.held) (at_place f self.inlets.items i c.index.result.now no_inlet (omega (arith, c.requires.within, self.inlets.ok.0)) c.index.ensures) ∙ c.in-Some.is in
     let inlets = c.empty_at-2.ensures.emptied ∙ ap (λ v. set (map f v.items) i (emptied (get_or (map f v.items) i no_inlet))) c.hand_to_at.ensures.inlets in
     let outlets = ap (λ v. map (outlet_of g.T.TxEnd) v.items) c.empty_at-2.ensures.outlets in
-    handed_on (lane_route self) s then (lane_of g.T.TxEnd g.U.RxEnd c.empty_at-2.new.self) i c.from-outlet.result p held
-        (sym c.next.ensures.next ∙ c.in-Some-next.is ∙ ap (λ (o : ℕ). Some o) (sym c.from-outlet.ensures)) c.hand_to_at.ensures.handed (same_lane inlets outlets)
+    handed_on (lane_route self) s then (lane_of g.T.TxEnd g.U.RxEnd c.empty_at-2.new.self) i c.in-Some-next.next p held
+        (sym c.next.ensures.next ∙ c.in-Some-next.is) c.hand_to_at.ensures.handed (same_lane inlets outlets)
