@@ -25,7 +25,7 @@ use Rattle.sb_net.proofs.ScriptFacts.{own_script}
 use Rattle.sb_net.proofs.LinksOfWays.{is_in}
 use Rattle.sb_net.proofs.NetworkLaidOut.{FlowWay, way_flows, goes_there, goes_back, has_request, has_answer}
 
-All-unmap : {X Y : Type 0} (P : Y → Type 0) (f : X → Y) (xs : List X) → All P (map f xs) → All (λ x. P (f x)) xs
+pub All-unmap : {X Y : Type 0} (P : Y → Type 0) (f : X → Y) (xs : List X) → All P (map f xs) → All (λ x. P (f x)) xs
 All-unmap P f xs h k d below = subst P (get_or-map f xs k d (f d) below) (h k (f d) (omega (arith, length-map xs f)))
 
 filter-map : {X Y : Type 0} (p : Y → Bool) (q : X → Bool) (f : X → Y) (xs : List X) → All (λ x. p (f x) ≡ q x) xs → filter p (map f xs) ≡ map f (filter q xs)
@@ -77,10 +77,10 @@ module _ (network : Network) (ways : HasWays network) where
       let there : nat_lt k (length network.links) ≡ true = grind (arith, nat_tests) in
       rw (half, there) refl
 
-  not_up : (k : ℕ) → is_upward (request_ring k) ≡ false
+  pub not_up : (k : ℕ) → is_upward (request_ring k) ≡ false
   not_up k = let even : 2 * k % 2 ≡ 0 = omega arith in rw even refl
 
-  up : (k : ℕ) → is_upward (answer_ring k) ≡ true
+  pub up : (k : ℕ) → is_upward (answer_ring k) ≡ true
   up k = let odd : (2 * k + 1) % 2 ≡ 1 = omega arith in rw odd refl
 
   link_asked : (k : ℕ) → All (λ way. way_accesses network way ≡ asked_of network (flow_of way)) (link_ways network k)

@@ -45,3 +45,6 @@ pub mod PortSides
 pub mod SidePromises
 pub mod DeviceSides
 pub mod RouterSides
+pub mod MessageFlows
+pub mod BuiltRouters
+pub mod NetworkRouters

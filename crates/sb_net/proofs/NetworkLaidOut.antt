@@ -76,7 +76,7 @@ module _ (network : Network) where
       let below : nat_lt (2 * k + 1) (2 * length network.links) ≡ true = grind (arith, nat_tests) in
       rw (odd, below) refl
 
-  counted : All (λ k. k < length network.links) (range_with_len 0 (length network.links))
+  pub counted : All (λ k. k < length network.links) (range_with_len 0 (length network.links))
   counted i d below =
       let inside : i < length network.links = rw length-range_with_len at below in
       rw (get_or-range_with_len 0 (length network.links) i d inside) (omega arith)

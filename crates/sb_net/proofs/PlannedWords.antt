@@ -35,7 +35,7 @@ table_at : {X : Type 0} (f : ℕ → X) (n i : ℕ) (none : X) → i < n → sli
 table_at f n i none inside = get_or-map-range_with_len f 0 n i i none inside (omega arith)
 
 -- a test that some pass and that is weaker is passed by some
-any_weaker : {X : Type 0} (p q : X → Bool) → ((x : X) → p x ≡ true → q x ≡ true) → (xs : List X) → list_any p xs ≡ true → list_any q xs ≡ true
+pub any_weaker : {X : Type 0} (p q : X → Bool) → ((x : X) → p x ≡ true → q x ≡ true) → (xs : List X) → list_any p xs ≡ true → list_any q xs ≡ true
 any_weaker p q weaker [] e = e
 any_weaker p q weaker (x ∷ xs) e = by_test (p x) refl e (any_weaker p q weaker xs)
   where
@@ -44,7 +44,7 @@ any_weaker p q weaker (x ∷ xs) e = by_test (p x) refl e (any_weaker p q weaker
     by_test false t e later = or_right (q x) (list_any q xs) (later e)
 
 -- a flow in the table is that of a way
-in_table : (ws : List NetWay) (f : NetFlow) → slice_index_or (slice_index_or (flow_table ws) f.host []) f.device false ≡ true → list_any (λ way. (way.host.id == f.host) && (way.device == f.device)) ws ≡ true
+pub in_table : (ws : List NetWay) (f : NetFlow) → slice_index_or (slice_index_or (flow_table ws) f.host []) f.device false ≡ true → list_any (λ way. (way.host.id == f.host) && (way.device == f.device)) ws ≡ true
 in_table ws f e = by_host (cases_lt f.host 32)
   where
     row : List Bool
@@ -100,7 +100,7 @@ range_at network d = option_map_or range_of (slice_get network.devices d) (recor
 
 module _ (network : Network) (routed : IsRouted network) where
   -- the device of a span has each of its addresses
-  span_device : (d address span x : ℕ) → position_from (holds_span address span) 0 (take (length network.devices) (network_ranges network)) ≡ Some d → x < span → option_map_or (has_address (address + x)) (slice_get network.devices d) false ≡ true
+  pub span_device : (d address span x : ℕ) → position_from (holds_span address span) 0 (take (length network.devices) (network_ranges network)) ≡ Some d → x < span → option_map_or (has_address (address + x)) (slice_get network.devices d) false ≡ true
   span_device d address span x found below = by_device (slice_get network.devices d) refl
     where
       ranges : List AddressRange
@@ -135,7 +135,7 @@ module _ (network : Network) (routed : IsRouted network) where
           in_span device.base (device_size device) address span x (ap (holds_span address span) (sym range) ∙ holds) below
 
   -- an address that a device has is at no other
-  at_one_device : (d address : ℕ) → option_map_or (has_address address) (slice_get network.devices d) false ≡ true → device_at network address ≡ Some d
+  pub at_one_device : (d address : ℕ) → option_map_or (has_address address) (slice_get network.devices d) false ≡ true → device_at network address ≡ Some d
   at_one_device d address has = by_place (device_at network address) refl
     where
       by_place : (o : Option ℕ) → device_at network address ≡ o → o ≡ Some d

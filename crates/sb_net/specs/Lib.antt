@@ -16,3 +16,4 @@ pub mod Routed
 pub mod NetworkStages
 pub mod RoundSides
 pub mod RouterSides
+pub mod RouterLayouts

@@ -5,14 +5,17 @@ ghost use Rattle.sb_link.specs.declared.answers.Turn.{Turn};
 ghost use Rattle.sb_link.specs.declared.answers.Turn.TheVariants.{Moved};
 ghost use Rattle.sb_packet.specs.Networks.{Network};
 ghost use Rattle.sb_packet.specs.Plans.{NetFlow};
-ghost use Rattle.sb_router.specs.Forwarding.{HasForwarded, Passes};
+ghost use Rattle.sb_router.specs.Forwarding.{HasForwarded, IsLaid, Passes};
 ghost use Rattle.sb_router.specs.Lanes.{inlet_at, outlet_at};
 ghost use Rattle.sb_router.specs.RouteOf.{route_of};
 ghost use Rattle.sb_router.specs.Routers.{ClosesWhenDue, DirectionSide, ForwardsAll, IsRouterTurn, IsWholeDirection, IsWholeRouter, RouterSide};
 ghost use Rattle.sb_router.specs.Turning.{IsIdleLane};
 ghost use Rattle.sb_net.specs.Courses.{Course};
 ghost use Rattle.sb_net.specs.Moments.{Moment};
+ghost use Rattle.sb_net.specs.NetworkLayouts.{network_answers, network_requests};
 ghost use Rattle.sb_net.specs.Promises.{Forwards};
+ghost use Rattle.sb_net.specs.Routed.{IsRouted};
+ghost use Rattle.sb_net.specs.RouterLayouts.{IsBuiltFor, answer_ins, answer_outs, request_ins, request_outs};
 ghost use Rattle.sb_net.specs.RouterSides.{HasLane, IsAtStage, IsIdleAtRings, IsRouterOf, ShowsLane, course_words};
 ghost use Rattle.sb_net.specs.Stages.{Stages};
 ghost use Rattle.sb_net.specs.Standstills.{IsIdleReceiver, IsIdleSender, RoundEnd};
@@ -51,4 +54,20 @@ pub fn unmoved_routers_are_idle()
         → IsWholeRouter after → IsRouterTurn before answer after → answer ≢ Moved
         → ShowsLane e (route_of after.answers.rows) after.answers.lane → IsAtStage stages stage after.answers.lane
         → IsIdleAtRings stages e after.answers.lane }
+{}
+
+/// The rings of a direction that is built for a router of a network belong together, as what it promises asks for.
+pub fn built_routers_belong_together()
+    ensures requests { (network : Network) (r : ℕ) (d : DirectionSide)
+        → IsRouted network → IsBuiltFor network (request_ins network r) (request_outs network r) d
+        → IsLaid (course_words network (network_requests network) (request_outs network r)) (route_of d.rows) d.lane }
+    ensures answers { (network : Network) (r : ℕ) (d : DirectionSide)
+        → IsRouted network → IsBuiltFor network (answer_ins network r) (answer_outs network r) d
+        → IsLaid (course_words network (network_answers network) (answer_outs network r)) (route_of d.rows) d.lane }
+    ensures request_router { (network : Network) (r : ℕ) (d : DirectionSide)
+        → IsRouted network → IsBuiltFor network (request_ins network r) (request_outs network r) d
+        → IsRouterOf (network_requests network) (request_outs network r) d.lane }
+    ensures answer_router { (network : Network) (r : ℕ) (d : DirectionSide)
+        → IsRouted network → IsBuiltFor network (answer_ins network r) (answer_outs network r) d
+        → IsRouterOf (network_answers network) (answer_outs network r) d.lane }
 {}
