@@ -48,3 +48,5 @@ pub mod RouterSides
 pub mod MessageFlows
 pub mod BuiltRouters
 pub mod NetworkRouters
+pub mod RouterSteps
+pub mod RoutersAlongWays

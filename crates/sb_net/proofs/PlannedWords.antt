@@ -31,7 +31,7 @@ use Rattle.sb_net.proofs.ListPlaces.{or_left, or_right}
 use Rattle.sb_net.proofs.LinksToDevices.{Passes, found_place, none_found}
 
 -- an item of a table that is made for the first n numbers, and none behind them
-table_at : {X : Type 0} (f : ℕ → X) (n i : ℕ) (none : X) → i < n → slice_index_or (map f (range_with_len 0 n)) i none ≡ f i
+pub table_at : {X : Type 0} (f : ℕ → X) (n i : ℕ) (none : X) → i < n → slice_index_or (map f (range_with_len 0 n)) i none ≡ f i
 table_at f n i none inside = get_or-map-range_with_len f 0 n i i none inside (omega arith)
 
 -- a test that some pass and that is weaker is passed by some

@@ -5,9 +5,12 @@ use Rattle.sb_packet.specs.Plans.{NetFlow, goes_through}
 use Rattle.sb_packet.specs.Rings.{ring_plan}
 use Rattle.sb_router.specs.Lanes.{outlet_at}
 use Rattle.sb_router.specs.RouteOf.{route_of}
-use Rattle.sb_router.specs.Routers.{DirectionSide}
+use Rattle.sb_router.specs.Routers.{DirectionSide, ForwardsAll, IsWholeDirection}
+use Rattle.sb_net.specs.Courses.{AlongWay, Course}
+use Rattle.sb_net.specs.Moments.{Moment}
 use Rattle.sb_net.specs.NetworkLayouts.{answer_ring, links_into, links_out_of, request_ring}
-use Rattle.sb_net.specs.RouterSides.{ring_ins, ring_outs}
+use Rattle.sb_net.specs.Promises.{Forwards}
+use Rattle.sb_net.specs.RouterSides.{HasLane, course_words, ring_ins, ring_outs}
 
 -- Requests come to a router by the links that lead to it, and go on by those that leave it. Answers go the other way.
 abbrev pub request_ins : Network → ℕ → List ℕ
@@ -28,6 +31,18 @@ pub record IsBuiltFor (network : Network) (ins outs : List ℕ) (d : DirectionSi
   pub sends_by : ring_outs d.lane ≡ outs
   pub in_plans : All (λ x. x.ring.plan ≡ ring_plan network x.number) d.lane.inlets
   pub out_plans : All (λ y. y.port.plan ≡ ring_plan network y.number) d.lane.outlets
-  -- where its table leads a flow there is a ring, and it carries the flow
+  -- its table leads a flow to a ring just where that ring carries it
   pub within : (f : NetFlow) (o : ℕ) → route_of d.rows f ≡ Some o → o < length d.lane.outlets
   pub leads : (f : NetFlow) (o : ℕ) → route_of d.rows f ≡ Some o → goes_through (outlet_at d.lane o).port.plan.flows f ≡ true
+  pub led : (f : NetFlow) (o : ℕ) → o < length d.lane.outlets → goes_through (outlet_at d.lane o).port.plan.flows f ≡ true → route_of d.rows f ≡ Some o
+
+-- A direction stands in a network at a moment of a run: it is built for it, is whole, and has forwarded what came.
+pub record IsRouterAt (network : Network) (c : Course) (m : Moment) (ins outs : List ℕ) (d : DirectionSide) : Type 0 where
+  pub built : IsBuiltFor network ins outs d
+  pub has : HasLane m d.lane
+  pub whole : IsWholeDirection d
+  pub forwards : ForwardsAll (course_words network c outs) d
+
+-- each flow's promise is kept by each router on its way
+abbrev pub KeepsAlongWays : Network → Course → Moment → Type 0
+KeepsAlongWays network c m = All (λ f. AlongWay (Forwards network c m f) (c.first f) (c.rest f)) c.flows

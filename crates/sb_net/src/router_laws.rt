@@ -1,6 +1,6 @@
 //! Laws of routers as they stand in a network: they keep the promises on which whole runs rest.
 
-ghost use Rattle.std.specs.Prelude.{◌≢◌, ℕ, List, All};
+ghost use Rattle.std.specs.Prelude.{◌≢◌, ◌<◌, ℕ, List, length, All};
 ghost use Rattle.sb_link.specs.declared.answers.Turn.{Turn};
 ghost use Rattle.sb_link.specs.declared.answers.Turn.TheVariants.{Moved};
 ghost use Rattle.sb_packet.specs.Networks.{Network};
@@ -15,7 +15,7 @@ ghost use Rattle.sb_net.specs.Moments.{Moment};
 ghost use Rattle.sb_net.specs.NetworkLayouts.{network_answers, network_requests};
 ghost use Rattle.sb_net.specs.Promises.{Forwards};
 ghost use Rattle.sb_net.specs.Routed.{IsRouted};
-ghost use Rattle.sb_net.specs.RouterLayouts.{IsBuiltFor, answer_ins, answer_outs, request_ins, request_outs};
+ghost use Rattle.sb_net.specs.RouterLayouts.{IsBuiltFor, IsRouterAt, KeepsAlongWays, answer_ins, answer_outs, request_ins, request_outs};
 ghost use Rattle.sb_net.specs.RouterSides.{HasLane, IsAtStage, IsIdleAtRings, IsRouterOf, ShowsLane, course_words};
 ghost use Rattle.sb_net.specs.Stages.{Stages};
 ghost use Rattle.sb_net.specs.Standstills.{IsIdleReceiver, IsIdleSender, RoundEnd};
@@ -70,4 +70,19 @@ pub fn built_routers_belong_together()
     ensures answer_router { (network : Network) (r : ℕ) (d : DirectionSide)
         → IsRouted network → IsBuiltFor network (answer_ins network r) (answer_outs network r) d
         → IsRouterOf (network_answers network) (answer_outs network r) d.lane }
+{}
+
+/// Where each router of a network is built for it and has forwarded what came, each keeps its promise for each flow
+/// that passes it: all that whole runs ask of routers.
+pub fn routers_keep_promises_along_ways()
+    ensures requests { (network : Network) (m : Moment) (router : ℕ → DirectionSide)
+        → IsRouted network → All (λ host. host.id < 32) network.hosts
+        → ((r : ℕ) → r < length network.routers
+        → IsRouterAt network (network_requests network) m (request_ins network r) (request_outs network r) (router r))
+        → KeepsAlongWays network (network_requests network) m }
+    ensures answers { (network : Network) (m : Moment) (router : ℕ → DirectionSide)
+        → IsRouted network → All (λ host. host.id < 32) network.hosts
+        → ((r : ℕ) → r < length network.routers
+        → IsRouterAt network (network_answers network) m (answer_ins network r) (answer_outs network r) (router r))
+        → KeepsAlongWays network (network_answers network) m }
 {}
