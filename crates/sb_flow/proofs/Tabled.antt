@@ -3,6 +3,8 @@ use Rattle.std.proofs.Common.{◌≡◌, ◌≤◌, ◌<◌, ℕ, ◌+◌, List,
 use Rattle.std.specs.List.{enumerate_from, range_with_len}
 use Rattle.std.proofs.lemmas.List.{map-append, take_all, take_more}
 use Rattle.std.proofs.lemmas.List.FromFn.{get_or-enumerate_from, length-enumerate_from, map-range_with_len_more}
+use Rattle.sb_packet.specs.Networks.{NetHost, Network}
+use Rattle.sb_flow.specs.Tables.{FlowTable, HostTable, flow_table_of, host_table_of}
 
 -- one entry more
 pub table_push : {A : Type 0} (f : ℕ → A) (items more : List A) (i : ℕ) (x : A) → more ≡ items ++ x ∷ [] → x ≡ f i → items ≡ map f (range_with_len 0 i) → more ≡ map f (range_with_len 0 (i + 1))
@@ -29,3 +31,8 @@ enumerated_push f xs items more i x d h pushed is so_far =
 -- and all of them
 pub enumerated_end : {A B : Type 0} (f : ℕ × A → B) (xs : List A) (items : List B) (i : ℕ) → length xs ≤ i → items ≡ map f (take i (enumerate_from 0 xs)) → items ≡ map f (enumerate_from 0 xs)
 enumerated_end f xs items i h so_far = so_far ∙ ap (map f) (take_all i (enumerate_from 0 xs) (omega (arith, length-enumerate_from 0 xs)))
+
+-- the table of a host, from its id and its ways
+pub host_table_from : (network : Network) (h n : ℕ) (host : NetHost) (flows : List FlowTable) → n ≡ host.id → flows ≡ map (flow_table_of network h host) (range_with_len 0 (length network.devices)) → record { id = n; flows = flows } ≡ host_table_of network h host
+host_table_from network h n host flows id are =
+    ap (λ (m : ℕ). let t : HostTable = record { id = m; flows = flows } in t) id ∙ ap (λ (ys : List FlowTable). let t : HostTable = record { id = host.id; flows = ys } in t) are
