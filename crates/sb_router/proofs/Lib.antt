@@ -20,5 +20,6 @@ pub mod RouterTurns
 pub mod RouterTurning
 pub mod Tables
 pub mod Legs
+pub mod FreshLanes
 pub mod KeptSteps
 pub mod ForwardSteps

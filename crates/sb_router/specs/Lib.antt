@@ -18,3 +18,4 @@ pub mod Ports
 pub mod Kept
 pub mod Routers
 pub mod RouterOf
+pub mod SideOf

@@ -6,11 +6,13 @@ mod ends;
 mod inlet;
 mod lane;
 mod outlet;
+mod router;
 mod router_core;
 mod routes;
 mod table;
 
 pub use inlet::Inlet;
 pub use lane::Lane;
+pub use router::Router;
 pub use router_core::RouterCore;
 pub use routes::Routes;
