@@ -48,5 +48,6 @@ pub mod RouterSides
 pub mod MessageFlows
 pub mod BuiltRouters
 pub mod NetworkRouters
+pub mod RouterEnds
 pub mod RouterSteps
 pub mod RoutersAlongWays

@@ -17,3 +17,4 @@ pub mod NetworkStages
 pub mod RoundSides
 pub mod RouterSides
 pub mod RouterLayouts
+pub mod RouterEnds

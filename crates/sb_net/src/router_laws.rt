@@ -5,7 +5,7 @@ ghost use Rattle.sb_link.specs.declared.answers.Turn.{Turn};
 ghost use Rattle.sb_link.specs.declared.answers.Turn.TheVariants.{Moved};
 ghost use Rattle.sb_packet.specs.Networks.{Network};
 ghost use Rattle.sb_packet.specs.Plans.{NetFlow};
-ghost use Rattle.sb_router.specs.Forwarding.{HasForwarded, IsLaid, Passes};
+ghost use Rattle.sb_router.specs.Forwarding.{HasForwarded, IsLaid, Passes, Words};
 ghost use Rattle.sb_router.specs.Lanes.{inlet_at, outlet_at};
 ghost use Rattle.sb_router.specs.RouteOf.{route_of};
 ghost use Rattle.sb_router.specs.Routers.{ClosesWhenDue, DirectionSide, ForwardsAll, IsRouterTurn, IsWholeDirection, IsWholeRouter, RouterSide};
@@ -15,6 +15,7 @@ ghost use Rattle.sb_net.specs.Moments.{Moment};
 ghost use Rattle.sb_net.specs.NetworkLayouts.{network_answers, network_requests};
 ghost use Rattle.sb_net.specs.Promises.{Forwards};
 ghost use Rattle.sb_net.specs.Routed.{IsRouted};
+ghost use Rattle.sb_net.specs.RouterEnds.{IsFreshDirection, IsRestoredDirection};
 ghost use Rattle.sb_net.specs.RouterLayouts.{IsBuiltFor, IsRouterAt, KeepsAlongWays, answer_ins, answer_outs, request_ins, request_outs};
 ghost use Rattle.sb_net.specs.RouterSides.{HasLane, IsAtStage, IsIdleAtRings, IsRouterOf, ShowsLane, course_words};
 ghost use Rattle.sb_net.specs.Stages.{Stages};
@@ -85,4 +86,18 @@ pub fn routers_keep_promises_along_ways()
         → ((r : ℕ) → r < length network.routers
         → IsRouterAt network (network_answers network) m (answer_ins network r) (answer_outs network r) (router r))
         → KeepsAlongWays network (network_answers network) m }
+{}
+
+/// A direction at whose ends nothing happened yet has forwarded what came.
+pub fn fresh_routers_forward()
+    ensures forwards { (words : Words) (d : DirectionSide)
+        → IsFreshDirection d → IsLaid words (route_of d.rows) d.lane → ForwardsAll words d }
+{}
+
+/// Where the ends of a direction were taken out and put back, as for a meeting, it is whole and has forwarded as before.
+pub fn restored_routers_go_on()
+    ensures whole { (before after : DirectionSide)
+        → IsRestoredDirection before after → IsWholeDirection before → IsWholeDirection after }
+    ensures forwards { (words : Words) (before after : DirectionSide)
+        → IsRestoredDirection before after → ForwardsAll words before → ForwardsAll words after }
 {}

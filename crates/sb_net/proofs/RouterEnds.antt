@@ -1,0 +1,157 @@
+-- What a router promises holds at first, and is not touched by a meeting of its ends.
+use Rattle.std.proofs.Common.{◌≡◌, ◌≤◌, ◌<◌, ℕ, suc, List, [], ◌∷◌, ◌++◌, length, All, refl, sym, ap, ◌∙◌, arith, subst, inl, inr}
+use Rattle.std.specs.Prelude.{◌⊎◌, filter, sum_by, Option, get_or}
+use Rattle.std.proofs.lemmas.Bool.{cases_lt}
+use Rattle.std.proofs.lemmas.List.{get_or_past}
+use Rattle.std.proofs.lemmas.List.Elements.{All-from_get_or}
+use Rattle.std.proofs.lemmas.List.Sums.{sum_by-cons}
+use Rattle.sb_packet.specs.Accesses.{Access}
+use Rattle.sb_packet.specs.Messages.{message_of}
+use Rattle.sb_packet.specs.Plans.{RingPlan}
+use Rattle.sb_packet.specs.Prefixes.{IsSubsequence, none}
+use Rattle.sb_packet.specs.Soundness.{IsSound}
+use Rattle.sb_packet.specs.Traffic.{IsCarriable, has_close, item_accesses, item_messages}
+use Rattle.sb_packet.specs.declared.item.Item.{Item}
+use Rattle.sb_packet.specs.declared.packet.Packet.{Packet}
+use Rattle.sb_port.specs.Ports.{IsFit, PortState, port_accesses}
+use Rattle.sb_node.specs.Sides.{offered_words}
+use Rattle.sb_router.specs.Forwarding.{AreSound, Forwards, IsLaid, Words, came_for, held_for, part, popped_for}
+use Rattle.sb_router.specs.Lanes.{InletState, LaneState, OutletState, Route, came_at, held_at, held_words, inlet_at, no_inlet, no_outlet, offered_at, outlet_at}
+use Rattle.sb_router.specs.RouteOf.{route_of}
+use Rattle.sb_router.specs.Routers.{DirectionSide, ForwardsAll, IsWholeDirection}
+use Rattle.sb_router.specs.Steps.{IsSilent}
+use Rattle.sb_router.specs.Whole.{IsLast, IsWholeInlet, IsWholeLane, IsWholeOutlet}
+use Rattle.sb_router.proofs.ForwardSteps.{laid_then}
+use Rattle.sb_router.proofs.Shapes.{SameShape, passed_before}
+use Rattle.sb_net.specs.RouterEnds.{IsFreshDirection, IsRestoredDirection}
+use Rattle.sb_net.proofs.Sums.{sum_by_nothing, sum_by_same}
+
+-- sums over lists that are alike at each place
+sum_by_alike : (f : InletState → ℕ) (xs ys : List InletState) (d : InletState) → length xs ≡ length ys → ((i : ℕ) → i < length xs → f (get_or xs i d) ≡ f (get_or ys i d)) → sum_by f xs ≡ sum_by f ys
+sum_by_alike f [] [] d long same = refl
+sum_by_alike f [] (y ∷ ys) d long same = absurd (omega arith)
+sum_by_alike f (x ∷ xs) [] d long same = absurd (omega arith)
+sum_by_alike f (x ∷ xs) (y ∷ ys) d long same =
+    let rest = sum_by_alike f xs ys d (omega arith) (λ i lt. same (suc i) (omega arith)) in
+    let here : f x ≡ f y = same 0 (omega arith) in
+    omega (arith, sum_by-cons f x xs, sum_by-cons f y ys)
+
+module _ (words : Words) (d : DirectionSide) (fresh : IsFreshDirection d) (laid : IsLaid words (route_of d.rows) d.lane) where
+  none_offered : (o : ℕ) → offered_at d.lane o ≡ []
+  none_offered o = by_place (cases_lt o (length d.lane.outlets))
+    where
+      by_place : (o < length d.lane.outlets) ⊎ (length d.lane.outlets ≤ o) → offered_at d.lane o ≡ []
+      by_place (inl lt) = fresh.outlets o no_outlet lt
+      by_place (inr beyond) = ap (λ (y : OutletState). offered_words y.port) (get_or_past d.lane.outlets o no_outlet beyond)
+
+  none_held : (i : ℕ) → i < length d.lane.inlets → held_at d.lane i ≡ []
+  none_held i lt = ap held_words (fresh.inlets i no_inlet lt).held
+
+  none_came : (i : ℕ) → i < length d.lane.inlets → came_at d.lane i ≡ []
+  none_came i lt = ap item_accesses (fresh.inlets i no_inlet lt).received
+
+  none_held_for : (o : ℕ) → sum_by (held_for words o) d.lane.inlets ≡ 0
+  none_held_for o = sum_by_same (held_for words o) (λ x. 0) d.lane.inlets
+      (λ i e lt. ap (λ (p : Option Packet). length (filter (words.goes_to o) (held_words p))) (fresh.inlets i e lt).held) ∙ sum_by_nothing d.lane.inlets
+
+  fresh_forwards : Forwards words (route_of d.rows) d.lane
+  fresh_forwards = record {
+    few = λ o. omega (arith, ap length (none_offered o), none_held_for o);
+    picks = λ f i o passes. subst (λ (l : List Access). IsSubsequence (part words f l ++ part words f (held_at d.lane i)) (part words f (came_at d.lane i))) (sym (none_offered o))
+        (subst (λ (l : List Access). IsSubsequence (part words f l) (part words f (came_at d.lane i))) (sym (none_held i passes.inlet))
+        (subst (λ (l : List Access). IsSubsequence [] (part words f l)) (sym (none_came i passes.inlet)) none));
+    whole = λ f i o passes sound room. ap (part words f) (none_came i passes.inlet)
+        ∙ ap (λ (l : List Access). part words f l) (sym (none_held i passes.inlet))
+        ∙ ap (λ (l : List Access). part words f l ++ part words f (held_at d.lane i)) (sym (none_offered o));
+  }
+
+  pub fresh_direction : ForwardsAll words d
+  fresh_direction = record { laid = laid; forwards = fresh_forwards }
+
+module _ (before after : DirectionSide) (restored : IsRestoredDirection before after) where
+  abbrev s : LaneState
+  s = before.lane
+
+  abbrev t : LaneState
+  t = after.lane
+
+  shape : SameShape s t
+  shape = record { inlets = restored.inlet_count; outlets = restored.outlet_count; in_plans = λ i. (restored.inlets i).ring.plan; out_plans = λ o. (restored.outlets o).port.plan }
+
+  -- a direction with the table of before
+  same_table : (P : Route → Type 0) → P (route_of before.rows) → P (route_of after.rows)
+  same_table P h = subst (λ (rows : _). P (route_of rows)) (sym restored.rows) h
+
+  whole_inlet : (i : ℕ) → i < length s.inlets → All IsWholeInlet s.inlets → IsWholeInlet (inlet_at t i)
+  whole_inlet i lt all =
+      let r = restored.inlets i in
+      let w : IsWholeInlet (inlet_at s i) = all i no_inlet lt in
+      record {
+        there = r.there ∙ w.there;
+        number = r.number ∙ w.number ∙ ap (λ (plan : RingPlan). plan.ring) (sym r.ring.plan);
+        ended = r.ended ∙ w.ended ∙ ap has_close (sym r.ring.received);
+        last = λ p e. subst (IsLast p) (sym r.ring.received) (w.last p (sym r.held ∙ e));
+        carriable = λ p e. subst (λ (plan : RingPlan). IsCarriable plan (message_of p)) (sym r.ring.plan) (w.carriable p (sym r.held ∙ e));
+      }
+
+  whole_outlet : (o : ℕ) → o < length s.outlets → All IsWholeOutlet s.outlets → IsWholeOutlet (outlet_at t o)
+  whole_outlet o lt all =
+      let r = restored.outlets o in
+      let w : IsWholeOutlet (outlet_at s o) = all o no_outlet lt in
+      record {
+        there = r.there ∙ w.there;
+        number = r.number ∙ w.number ∙ ap (λ (plan : RingPlan). plan.ring) (sym r.port.plan);
+        fit = subst (λ (plan : RingPlan). IsFit plan (outlet_at t o).port.state) (sym r.port.plan) (subst (IsFit (outlet_at s o).port.plan) (sym r.port.state) w.fit);
+      }
+
+  whole_lane : IsWholeLane (route_of before.rows) s → IsWholeLane (route_of before.rows) t
+  whole_lane w = record {
+    inlets = All-from_get_or IsWholeInlet t.inlets no_inlet (λ i lt. whole_inlet i (omega (arith, lt, restored.inlet_count)) w.inlets);
+    outlets = All-from_get_or IsWholeOutlet t.outlets no_outlet (λ o lt. whole_outlet o (omega (arith, lt, restored.outlet_count)) w.outlets);
+    silent = λ o lt told. All-from_get_or IsSilent t.inlets no_inlet (λ i within.
+        let quiet = (w.silent o (omega (arith, lt, restored.outlet_count)) (sym (ap (λ (p : PortState). p.closing) (restored.outlets o).port.state) ∙ told)) i no_inlet (omega (arith, within, restored.inlet_count)) in
+        record { ended = (restored.inlets i).ended ∙ quiet.ended; free = (restored.inlets i).held ∙ quiet.free });
+    routed = λ f o e. let within = w.routed f o e in omega (arith, within, restored.outlet_count);
+  }
+
+  pub restored_whole : IsWholeDirection before → IsWholeDirection after
+  restored_whole w = same_table (λ route. IsWholeLane route t) (whole_lane w)
+
+  module _ (words : Words) where
+    offered_same : (o : ℕ) → offered_at t o ≡ offered_at s o
+    offered_same o = ap port_accesses (restored.outlets o).port.state
+
+    came_same : (i : ℕ) → came_at t i ≡ came_at s i
+    came_same i = ap item_accesses (restored.inlets i).ring.received
+
+    held_same : (i : ℕ) → held_at t i ≡ held_at s i
+    held_same i = ap held_words (restored.inlets i).held
+
+    popped_same : (o : ℕ) → popped_for words t o ≡ popped_for words s o
+    popped_same o = sum_by_alike (came_for words o) t.inlets s.inlets no_inlet restored.inlet_count (λ i lt. ap (λ (l : List Item). length (filter (words.goes_to o) (item_accesses l))) (restored.inlets i).ring.received)
+
+    waits_same : (o : ℕ) → sum_by (held_for words o) t.inlets ≡ sum_by (held_for words o) s.inlets
+    waits_same o = sum_by_alike (held_for words o) t.inlets s.inlets no_inlet restored.inlet_count (λ i lt. ap (λ (p : Option Packet). length (filter (words.goes_to o) (held_words p))) (restored.inlets i).held)
+
+    sound_before : AreSound t → AreSound s
+    sound_before sound = All-from_get_or (λ (x : InletState). All IsSound (item_messages x.ring.received)) s.inlets no_inlet
+        (λ i lt. subst (λ (l : List Item). All IsSound (item_messages l)) (restored.inlets i).ring.received (sound i no_inlet (omega (arith, lt, restored.inlet_count))))
+
+    restored_forwards : Forwards words (route_of before.rows) s → Forwards words (route_of before.rows) t
+    restored_forwards h = record {
+      few = λ o. let old = h.few o in omega (arith, old, ap length (offered_same o), waits_same o, popped_same o);
+      picks = λ f i o passes. subst (λ (l : List Access). IsSubsequence (part words f l ++ part words f (held_at t i)) (part words f (came_at t i))) (sym (offered_same o))
+          (subst (λ (l : List Access). IsSubsequence (part words f (offered_at s o) ++ part words f l) (part words f (came_at t i))) (sym (held_same i))
+          (subst (λ (l : List Access). IsSubsequence (part words f (offered_at s o) ++ part words f (held_at s i)) (part words f l)) (sym (came_same i)) (h.picks f i o (passed_before shape passes))));
+      whole = λ f i o passes sound room.
+          let budget : (outlet_at t o).port.plan.budget ≡ (outlet_at s o).port.plan.budget = ap (λ (plan : RingPlan). plan.budget) (restored.outlets o).port.plan in
+          ap (part words f) (came_same i) ∙ h.whole f i o (passed_before shape passes) (sound_before sound) (omega (arith, room, budget, popped_same o))
+          ∙ ap (λ (l : List Access). part words f l ++ part words f (held_at s i)) (sym (offered_same o))
+          ∙ ap (λ (l : List Access). part words f (offered_at t o) ++ part words f l) (sym (held_same i));
+    }
+
+    pub restored_direction : ForwardsAll words before → ForwardsAll words after
+    restored_direction all = record {
+      laid = same_table (λ route. IsLaid words route t) (laid_then shape all.laid);
+      forwards = same_table (λ route. Forwards words route t) (restored_forwards all.forwards);
+    }
