@@ -56,7 +56,7 @@ module _ (network : Network) where
       (All-weaker (λ d. d.base % 4096 ≡ 0) (λ d. has_address a d ≡ has_address b d) (λ d whole. same_test (has_address a d) (has_address b d) (has_page a b d whole same) (has_page b a d whole (sym same))) network.devices pages)
 
   -- so each word of a transaction is where its address is
-  word_device : All (λ d. d.base % 4096 ≡ 0) network.devices → (t : Txn) → IsTransaction t → (j : ℕ) → j < t.count → device_at network (t.addr + j * 2 ^ t.size) ≡ device_at network t.addr
+  pub word_device : All (λ d. d.base % 4096 ≡ 0) network.devices → (t : Txn) → IsTransaction t → (j : ℕ) → j < t.count → device_at network (t.addr + j * 2 ^ t.size) ≡ device_at network t.addr
   word_device pages t is j below =
       let page : t.addr % 4096 + t.count * 2 ^ t.size ≤ 4096 = is.page in
       let within = word_within t.size t.count j below in

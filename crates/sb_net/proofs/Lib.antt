@@ -51,3 +51,4 @@ pub mod NetworkRouters
 pub mod RouterEnds
 pub mod RouterSteps
 pub mod RoutersAlongWays
+pub mod HostSides

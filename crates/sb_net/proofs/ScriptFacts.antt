@@ -45,7 +45,7 @@ other_number : (m n : ℕ) → m ≢ n → (m == n) ≡ false
 other_number m n other = grind (arith, nat_tests)
 
 -- where no two hosts have one id, each is found by its own
-found_by_id : (hosts : List NetHost) → AllPairs (λ a b. a.id ≢ b.id) hosts → All (λ host. find (λ h. h.id == host.id) hosts ≡ Some host) hosts
+pub found_by_id : (hosts : List NetHost) → AllPairs (λ a b. a.id ≢ b.id) hosts → All (λ host. find (λ h. h.id == host.id) hosts ≡ Some host) hosts
 found_by_id [] apart k d below = absurd (omega arith)
 found_by_id (host ∷ hosts) apart zero d below = ap (λ (b : Bool). cond b (Some host) (find (λ (h : NetHost). h.id == host.id) hosts)) (same_number host.id)
 found_by_id (host ∷ hosts) apart (suc k) d below =

@@ -18,3 +18,4 @@ pub mod RoundSides
 pub mod RouterSides
 pub mod RouterLayouts
 pub mod RouterEnds
+pub mod HostSides

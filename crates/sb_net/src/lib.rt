@@ -2,6 +2,7 @@
 #![tactic(auto)]
 
 pub mod device_laws;
+pub mod host_laws;
 pub mod laws;
 pub mod network_laws;
 pub mod router_laws;

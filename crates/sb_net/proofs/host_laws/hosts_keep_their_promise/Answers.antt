@@ -1,0 +1,9 @@
+-- A whole host keeps a host's promise.
+use Rattle.sb_net.proofs.HostSides.{asked_script, host_promise}
+use Rattle.sb_net.proofs.host_laws.hosts_keep_their_promise.Goals as goal
+
+pub returns-clause-script : goal.returns-clause-script
+returns-clause-script c = λ network host scripts pages listed. asked_script network host scripts pages listed
+
+pub returns-clause-promise : goal.returns-clause-promise
+returns-clause-promise c = λ network layout m host h port scripts pages of whole there has. host_promise network layout m host h port scripts pages of whole there has

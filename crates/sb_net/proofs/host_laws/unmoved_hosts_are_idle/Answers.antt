@@ -1,0 +1,9 @@
+-- A host that didn't move is idle at its two rings.
+use Rattle.sb_net.proofs.HostSides.{unmoved_receives, unmoved_sends}
+use Rattle.sb_net.proofs.host_laws.unmoved_hosts_are_idle.Goals as goal
+
+pub returns-clause-sender : goal.returns-clause-sender
+returns-clause-sender c = λ stages s before after answer port whole turn still there shows leaves. unmoved_sends stages s before after answer port whole turn still there shows leaves
+
+pub returns-clause-receiver : goal.returns-clause-receiver
+returns-clause-receiver c = λ stages s before after answer ring whole turn still here got holds none. unmoved_receives stages s before after answer ring whole turn still here got holds none

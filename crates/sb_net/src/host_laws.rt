@@ -1,0 +1,54 @@
+//! Laws of hosts as they stand in a network: they keep the promises on which whole runs rest.
+
+ghost use Rattle.std.specs.Prelude.{◌≡◌, ◌≢◌, ◌%◌, ℕ, true, [], All, Contains, None, Some};
+ghost use Rattle.sb_host.specs.Asked.{asked_accesses, asked_by};
+ghost use Rattle.sb_host.specs.Hosts.{HostSide, IsHostTurn, IsWholeHost};
+ghost use Rattle.sb_host.specs.Steps.{IsIdleHost};
+ghost use Rattle.sb_link.specs.declared.answers.Turn.{Turn};
+ghost use Rattle.sb_link.specs.declared.answers.Turn.TheVariants.{Moved};
+ghost use Rattle.sb_node.specs.Sides.{PortSide, RingSide};
+ghost use Rattle.sb_packet.specs.Networks.{NetHost, Network};
+ghost use Rattle.sb_port.specs.Ports.{IsFit};
+ghost use Rattle.sb_net.specs.Flows.{aimed_script};
+ghost use Rattle.sb_net.specs.HostSides.{IsHostOf};
+ghost use Rattle.sb_net.specs.Layouts.{HasScripts, Layout};
+ghost use Rattle.sb_net.specs.Moments.{Moment};
+ghost use Rattle.sb_net.specs.RoundSides.{HasPort, ShowsPort, ShowsRing};
+ghost use Rattle.sb_net.specs.Runs.{IsHost};
+ghost use Rattle.sb_net.specs.Stages.{Stages};
+ghost use Rattle.sb_net.specs.Standstills.{IsIdleReceiver, IsIdleSender, RoundEnd};
+
+/// What a host asks for are the words of its script that a device has, where devices have whole pages; and a whole host
+/// keeps a host's promise for each of its flows.
+pub fn hosts_keep_their_promise()
+    ensures script { (network : Network) (host : NetHost)
+        → HasScripts network → All (λ d. d.base % 4096 ≡ 0) network.devices → Contains network.hosts host
+        → asked_accesses (asked_by network host) ≡ aimed_script network host.id }
+    ensures promise { (network : Network) (layout : Layout) (m : Moment) (host : NetHost) (h : HostSide) (port : PortSide)
+        → HasScripts network → All (λ d. d.base % 4096 ≡ 0) network.devices
+        → IsHostOf network layout host h → IsWholeHost h → h.requests ≡ Some port → HasPort m h.asks_by port
+        → All (λ f. f.host ≡ host.id → IsHost network layout m f) layout.requests.flows }
+{}
+
+/// A host that did nothing in its turn is idle at both its rings. It has told its port to close, or its ring is full.
+pub fn idle_hosts_are_idle()
+    ensures sender { (stages : Stages) (s : RoundEnd) (r : ℕ) (port : PortSide) (ring : RingSide)
+        → ShowsPort s r port → stages.leaves_host r ≡ true → IsFit port.plan port.state
+        → IsIdleHost port ring → IsIdleSender stages s r }
+    ensures receiver { (stages : Stages) (s : RoundEnd) (r : ℕ) (port : PortSide) (ring : RingSide)
+        → ShowsRing s r ring → s.holds r ≡ None → s.at.held r ≡ []
+        → IsIdleHost port ring → IsIdleReceiver stages s r }
+{}
+
+/// So is a whole host after a turn in which it didn't move.
+pub fn unmoved_hosts_are_idle()
+    ensures sender { (stages : Stages) (s : RoundEnd) (before after : HostSide) (answer : Turn) (port : PortSide)
+        → IsWholeHost after → IsHostTurn before answer after → answer ≢ Moved
+        → after.requests ≡ Some port → ShowsPort s after.asks_by port → stages.leaves_host after.asks_by ≡ true
+        → IsIdleSender stages s after.asks_by }
+    ensures receiver { (stages : Stages) (s : RoundEnd) (before after : HostSide) (answer : Turn) (ring : RingSide)
+        → IsWholeHost after → IsHostTurn before answer after → answer ≢ Moved
+        → after.answers ≡ Some ring → ShowsRing s after.answered_by ring
+        → s.holds after.answered_by ≡ None → s.at.held after.answered_by ≡ []
+        → IsIdleReceiver stages s after.answered_by }
+{}
