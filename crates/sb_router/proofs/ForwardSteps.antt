@@ -31,7 +31,7 @@ laid_then {words} {route} {s} {t} shape laid = record {
       (sym (ap (λ (plan : RingPlan). goes_through plan.flows f) (shape.in_plans i)) ∙ a) (sym (ap (λ (plan : RingPlan). goes_through plan.flows f) (shape.in_plans j)) ∙ b);
   leads_on = λ i o p lt planned next.
       let there : IsPlanned (outlet_at s o).port.plan (message_of p) = laid.leads_on i o p (omega (arith, lt, shape.inlets)) (subst (λ (plan : RingPlan). IsPlanned plan (message_of p)) (shape.in_plans i) planned)
-          (sym (ap (λ (plan : RingPlan). next_place route plan p) (shape.in_plans i)) ∙ next) in
+      (sym (ap (λ (plan : RingPlan). next_place route plan p) (shape.in_plans i)) ∙ next) in
       subst (λ (plan : RingPlan). IsPlanned plan (message_of p)) (sym (shape.out_plans o)) there;
 }
 

@@ -103,10 +103,10 @@ module _ {words : Words} {route : Route} (s : LaneState) (h : Forwards words rou
           let O = part words f (offered_at s o) in
           elim (set_cases s.inlets i j x no_inlet lt) [
             | inl q ↦
-              let at : IsSubsequence (O ++ part words f (held_at s i)) (part words f (came_at s i)) = subst (λ (k : ℕ). IsSubsequence (O ++ part words f (held_at s k)) (part words f (came_at s k))) q.0 old in
-              let new : IsSubsequence (O ++ part words f (held_words x.held)) (part words f (received_words x.ring)) =
+                let at : IsSubsequence (O ++ part words f (held_at s i)) (part words f (came_at s i)) = subst (λ (k : ℕ). IsSubsequence (O ++ part words f (held_at s k)) (part words f (came_at s k))) q.0 old in
+                let new : IsSubsequence (O ++ part words f (held_words x.held)) (part words f (received_words x.ring)) =
                 more_came O (part words f (held_at s i)) (part words f (came_at s i)) (part words f (accesses_of_item item)) (ap (part words f) free) (ap (part words f) held) (part_came f) at in
-              subst (λ (y : InletState). IsSubsequence (O ++ part words f (held_words y.held)) (part words f (received_words y.ring))) (sym q.1) new
+                subst (λ (y : InletState). IsSubsequence (O ++ part words f (held_words y.held)) (part words f (received_words y.ring))) (sym q.1) new
             | inr q ↦ subst (λ (y : InletState). IsSubsequence (O ++ part words f (held_words y.held)) (part words f (received_words y.ring))) (sym q) old
           ];
       whole = λ f j o passes sound room.
@@ -114,10 +114,10 @@ module _ {words : Words} {route : Route} (s : LaneState) (h : Forwards words rou
           let O = part words f (offered_at s o) in
           elim (set_cases s.inlets i j x no_inlet lt) [
             | inl q ↦
-              let at : part words f (came_at s i) ≡ O ++ part words f (held_at s i) = subst (λ (k : ℕ). part words f (came_at s k) ≡ O ++ part words f (held_at s k)) q.0 old in
-              let new : part words f (received_words x.ring) ≡ O ++ part words f (held_words x.held) =
+                let at : part words f (came_at s i) ≡ O ++ part words f (held_at s i) = subst (λ (k : ℕ). part words f (came_at s k) ≡ O ++ part words f (held_at s k)) q.0 old in
+                let new : part words f (received_words x.ring) ≡ O ++ part words f (held_words x.held) =
                 all_came O (part words f (held_at s i)) (part words f (came_at s i)) (part words f (accesses_of_item item)) (ap (part words f) free) (ap (part words f) held) (part_came f) at in
-              subst (λ (y : InletState). part words f (received_words y.ring) ≡ O ++ part words f (held_words y.held)) (sym q.1) new
+                subst (λ (y : InletState). part words f (received_words y.ring) ≡ O ++ part words f (held_words y.held)) (sym q.1) new
             | inr q ↦ subst (λ (y : InletState). part words f (received_words y.ring) ≡ O ++ part words f (held_words y.held)) (sym q) old
           ];
     }

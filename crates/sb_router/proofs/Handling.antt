@@ -116,9 +116,9 @@ module _ {words : Words} {route : Route} (s : LaneState) (laid : IsLaid words ro
       picks f j o old = let O = part words f (offered_at s o) in
           elim (set_cases s.inlets i j (emptied (inlet_at s i)) no_inlet lt) [
             | inl q ↦
-              let at : IsSubsequence (O ++ part words f (held_at s i)) (part words f (came_at s i)) = subst (λ (k : ℕ). IsSubsequence (O ++ part words f (held_at s k)) (part words f (came_at s k))) q.0 old in
-              let new : IsSubsequence (O ++ []) (part words f (came_at s i)) = subst (λ (l : List Access). IsSubsequence l (part words f (came_at s i))) (sym (append-nil O)) (without_end O (part words f (held_at s i)) at) in
-              subst (λ (y : InletState). IsSubsequence (O ++ part words f (held_words y.held)) (part words f (received_words y.ring))) (sym q.1) new
+                let at : IsSubsequence (O ++ part words f (held_at s i)) (part words f (came_at s i)) = subst (λ (k : ℕ). IsSubsequence (O ++ part words f (held_at s k)) (part words f (came_at s k))) q.0 old in
+                let new : IsSubsequence (O ++ []) (part words f (came_at s i)) = subst (λ (l : List Access). IsSubsequence l (part words f (came_at s i))) (sym (append-nil O)) (without_end O (part words f (held_at s i)) at) in
+                subst (λ (y : InletState). IsSubsequence (O ++ part words f (held_words y.held)) (part words f (received_words y.ring))) (sym q.1) new
             | inr q ↦ subst (λ (y : InletState). IsSubsequence (O ++ part words f (held_words y.held)) (part words f (received_words y.ring))) (sym q) old
           ]
 
@@ -134,10 +134,10 @@ module _ {words : Words} {route : Route} (s : LaneState) (laid : IsLaid words ro
       whole_then f j o passes sound room old = let O = part words f (offered_at s o) in
           elim (set_cases s.inlets i j (emptied (inlet_at s i)) no_inlet lt) [
             | inl q ↦
-              let at : part words f (came_at s i) ≡ O ++ part words f (held_at s i) = subst (λ (k : ℕ). part words f (came_at s k) ≡ O ++ part words f (held_at s k)) q.0 old in
-              let passes_i : Passes route s f i o = subst (λ (k : ℕ). Passes route s f k o) q.0 passes in
-              let new : part words f (came_at s i) ≡ O ++ [] = at ∙ ap (λ (l : List Access). O ++ l) (nothing_lost f o passes_i sound room) in
-              subst (λ (y : InletState). part words f (received_words y.ring) ≡ O ++ part words f (held_words y.held)) (sym q.1) new
+                let at : part words f (came_at s i) ≡ O ++ part words f (held_at s i) = subst (λ (k : ℕ). part words f (came_at s k) ≡ O ++ part words f (held_at s k)) q.0 old in
+                let passes_i : Passes route s f i o = subst (λ (k : ℕ). Passes route s f k o) q.0 passes in
+                let new : part words f (came_at s i) ≡ O ++ [] = at ∙ ap (λ (l : List Access). O ++ l) (nothing_lost f o passes_i sound room) in
+                subst (λ (y : InletState). part words f (received_words y.ring) ≡ O ++ part words f (held_words y.held)) (sym q.1) new
             | inr q ↦ subst (λ (y : InletState). part words f (received_words y.ring) ≡ O ++ part words f (held_words y.held)) (sym q) old
           ]
 
@@ -159,27 +159,27 @@ module _ {words : Words} {route : Route} (s : LaneState) (laid : IsLaid words ro
         → part words f (offered_at given_to q) ++ part words f (held_at given_to j) ≡ part words f (offered_at s q) ++ part words f (held_at s j)
     joined f j q passes = elim (one.no_other f) [
       | inl is ↦
-        let at_i : j ≡ i = laid.apart f j i passes.inlet lt passes.through (ap (goes_through (inlet_at s i).ring.plan.flows) is ∙ found.2) in
-        let at_o : Some q ≡ Some o = sym passes.route_to ∙ ap route is ∙ goes in let same : q ≡ o = cc in
-        let outlet : outlet_at given_to q ≡ y = ap (λ (k : ℕ). get_or (set s.outlets o y) k no_outlet) same ∙ get_or-set_same s.outlets o y no_outlet within in
-        let inlet : inlet_at given_to j ≡ emptied (inlet_at s i) = ap (λ (k : ℕ). get_or rest k no_inlet) at_i ∙ get_or-set_same s.inlets i (emptied (inlet_at s i)) no_inlet lt in
-        let left : part words f (offered_at given_to q) ++ part words f (held_at given_to j) ≡ part words f (offered_words y.port) ++ [] =
+          let at_i : j ≡ i = laid.apart f j i passes.inlet lt passes.through (ap (goes_through (inlet_at s i).ring.plan.flows) is ∙ found.2) in
+          let at_o : Some q ≡ Some o = sym passes.route_to ∙ ap route is ∙ goes in let same : q ≡ o = cc in
+          let outlet : outlet_at given_to q ≡ y = ap (λ (k : ℕ). get_or (set s.outlets o y) k no_outlet) same ∙ get_or-set_same s.outlets o y no_outlet within in
+          let inlet : inlet_at given_to j ≡ emptied (inlet_at s i) = ap (λ (k : ℕ). get_or rest k no_inlet) at_i ∙ get_or-set_same s.inlets i (emptied (inlet_at s i)) no_inlet lt in
+          let left : part words f (offered_at given_to q) ++ part words f (held_at given_to j) ≡ part words f (offered_words y.port) ++ [] =
           ap (λ (z : OutletState). part words f (offered_words z.port) ++ part words f (held_at given_to j)) outlet ∙ ap (λ (z : InletState). part words f (offered_words y.port) ++ part words f (held_words z.held)) inlet in
-        let right : part words f (offered_at s o) ++ part words f (accesses_of p) ≡ part words f (offered_at s q) ++ part words f (held_at s j) =
+          let right : part words f (offered_at s o) ++ part words f (accesses_of p) ≡ part words f (offered_at s q) ++ part words f (held_at s j) =
           ap (λ (l : List Access). part words f (offered_at s o) ++ part words f l) (sym its_words) ∙ ap (λ (k : ℕ). part words f (offered_at s k) ++ part words f (held_at s i)) (sym same)
           ∙ ap (λ (k : ℕ). part words f (offered_at s q) ++ part words f (held_at s k)) (sym at_i) in
-        left ∙ append-nil (part words f (offered_words y.port)) ∙ offered_more f ∙ right
+          left ∙ append-nil (part words f (offered_words y.port)) ∙ offered_more f ∙ right
       | inr none ↦
-        let offered : part words f (offered_at given_to q) ≡ part words f (offered_at s q) = elim (set_cases s.outlets o q y no_outlet within) [
-          | inl w ↦ ap (λ (z : OutletState). part words f (offered_words z.port)) w.1 ∙ offered_more f ∙ ap (λ (l : List Access). part words f (offered_at s o) ++ l) none
-            ∙ append-nil (part words f (offered_at s o)) ∙ ap (λ (k : ℕ). part words f (offered_at s k)) (sym w.0)
-          | inr w ↦ ap (λ (z : OutletState). part words f (offered_words z.port)) w
-        ] in
-        let holds : part words f (held_at given_to j) ≡ part words f (held_at s j) = elim (set_cases s.inlets i j (emptied (inlet_at s i)) no_inlet lt) [
-          | inl w ↦ ap (λ (z : InletState). part words f (held_words z.held)) w.1 ∙ sym (ap (part words f) its_words ∙ none) ∙ ap (λ (k : ℕ). part words f (held_at s k)) (sym w.0)
-          | inr w ↦ ap (λ (z : InletState). part words f (held_words z.held)) w
-        ] in
-        ap (λ (l : List Access). l ++ part words f (held_at given_to j)) offered ∙ ap (λ (l : List Access). part words f (offered_at s q) ++ l) holds
+          let offered : part words f (offered_at given_to q) ≡ part words f (offered_at s q) = elim (set_cases s.outlets o q y no_outlet within) [
+            | inl w ↦ ap (λ (z : OutletState). part words f (offered_words z.port)) w.1 ∙ offered_more f ∙ ap (λ (l : List Access). part words f (offered_at s o) ++ l) none
+                ∙ append-nil (part words f (offered_at s o)) ∙ ap (λ (k : ℕ). part words f (offered_at s k)) (sym w.0)
+            | inr w ↦ ap (λ (z : OutletState). part words f (offered_words z.port)) w
+          ] in
+          let holds : part words f (held_at given_to j) ≡ part words f (held_at s j) = elim (set_cases s.inlets i j (emptied (inlet_at s i)) no_inlet lt) [
+            | inl w ↦ ap (λ (z : InletState). part words f (held_words z.held)) w.1 ∙ sym (ap (part words f) its_words ∙ none) ∙ ap (λ (k : ℕ). part words f (held_at s k)) (sym w.0)
+            | inr w ↦ ap (λ (z : InletState). part words f (held_words z.held)) w
+          ] in
+          ap (λ (l : List Access). l ++ part words f (held_at given_to j)) offered ∙ ap (λ (l : List Access). part words f (offered_at s q) ++ l) holds
     ]
 
     came_part : (f : NetFlow) (j : ℕ) → part words f (came_at given_to j) ≡ part words f (came_at s j)
@@ -188,11 +188,11 @@ module _ {words : Words} {route : Route} (s : LaneState) (laid : IsLaid words ro
     few : (q : ℕ) → length (offered_at given_to q) + sum_by (held_for words q) rest ≤ popped_for words given_to q
     few q = let old = h.few q in elim (set_cases s.outlets o q y no_outlet within) [
       | inl w ↦
-        let length_now : length (offered_at given_to q) ≡ length (offered_at s o) + length (accesses_of p) =
+          let length_now : length (offered_at given_to q) ≡ length (offered_at s o) + length (accesses_of p) =
           ap (λ (z : OutletState). length (offered_words z.port)) w.1 ∙ ap length given.words ∙ length-append (offered_at s o) (accesses_of p) in
-        let before : length (offered_at s q) ≡ length (offered_at s o) = ap (λ (k : ℕ). length (offered_at s k)) w.0 in
-        let goal_here = its_goal q (goes ∙ ap (λ (k : ℕ). Some k) (sym w.0)) in
-        omega (arith, old, length_now, before, goal_here, came_sum q, held_sum q)
+          let before : length (offered_at s q) ≡ length (offered_at s o) = ap (λ (k : ℕ). length (offered_at s k)) w.0 in
+          let goal_here = its_goal q (goes ∙ ap (λ (k : ℕ). Some k) (sym w.0)) in
+          omega (arith, old, length_now, before, goal_here, came_sum q, held_sum q)
       | inr w ↦ let same : length (offered_at given_to q) ≡ length (offered_at s q) = ap (λ (z : OutletState). length (offered_words z.port)) w in omega (arith, old, same, came_sum q, held_sum q)
     ]
 

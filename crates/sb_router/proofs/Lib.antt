@@ -21,5 +21,6 @@ pub mod RouterTurning
 pub mod Tables
 pub mod Legs
 pub mod FreshLanes
+pub mod Found
 pub mod KeptSteps
 pub mod ForwardSteps

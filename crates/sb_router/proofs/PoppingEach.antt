@@ -124,10 +124,10 @@ pops_more {route} {s} {now} {then} {found} {one} {place} h lt at =
       moved = moved_then found.moved one.moved h.moved popped.moved;
       one_item = λ j. elim (set_cases now.inlets place j x no_inlet lt) [
         | inl w ↦
-          let ahead = ap (λ (y : InletState). length y.ring.received) (h.ahead place (omega arith)) in
-          let new = ap (λ (y : InletState). length y.ring.received) w.1 in
-          let old = ap (λ (k : ℕ). length (inlet_at s k).ring.received) w.0 in
-          let one_item = popped.one_item in omega (arith, ahead, new, old, one_item)
+            let ahead = ap (λ (y : InletState). length y.ring.received) (h.ahead place (omega arith)) in
+            let new = ap (λ (y : InletState). length y.ring.received) w.1 in
+            let old = ap (λ (k : ℕ). length (inlet_at s k).ring.received) w.0 in
+            let one_item = popped.one_item in omega (arith, ahead, new, old, one_item)
         | inr w ↦ let same = ap (λ (y : InletState). length y.ring.received) w in let old = h.one_item j in omega (arith, same, old)
       ];
       ahead = λ j le. elim (set_cases now.inlets place j x no_inlet lt) [
@@ -139,7 +139,7 @@ pops_more {route} {s} {now} {then} {found} {one} {place} h lt at =
         | inr w ↦ subst IsSeen (sym w) (elim (le_cases j place below) [
           | inl before ↦ h.seen two.0 j before
           | inr same ↦ let here : inlet_at now j ≡ x = sym w ∙ ap (λ (k : ℕ). get_or (set now.inlets place x) k no_inlet) same ∙ get_or-set_same now.inlets place x no_inlet lt in
-            subst IsSeen (sym here) (popped.seen two.1)
+              subst IsSeen (sym here) (popped.seen two.1)
         ])
       ];
       empty = λ e. let two = or_false found.moved one.moved e in

@@ -118,9 +118,9 @@ turns_more {route} {s} {now} {then} {found} {one} {place} h lt at =
               | inr w ↦ subst (λ (z : OutletState). IsPortIdle (outlet_at s o) z) (sym w) (h.idle two.0 o before)
             ]
             | inr same ↦
-              let here : outlet_at t o ≡ y = ap (λ (k : ℕ). get_or (set now.outlets place y) k no_outlet) same ∙ get_or-set_same now.outlets place y no_outlet lt in
-              let at_o : IsPortIdle (outlet_at s o) y = subst (λ (k : ℕ). IsPortIdle (outlet_at s k) y) (sym same) (idle_here two.1) in
-              subst (λ (z : OutletState). IsPortIdle (outlet_at s o) z) (sym here) at_o
+                let here : outlet_at t o ≡ y = ap (λ (k : ℕ). get_or (set now.outlets place y) k no_outlet) same ∙ get_or-set_same now.outlets place y no_outlet lt in
+                let at_o : IsPortIdle (outlet_at s o) y = subst (λ (k : ℕ). IsPortIdle (outlet_at s k) y) (sym same) (idle_here two.1) in
+                subst (λ (z : OutletState). IsPortIdle (outlet_at s o) z) (sym here) at_o
           ];
       full = λ e. let two = or_false found.moved one.moved e in
           ap (λ (c : Option Cause). lower c one.full) (h.full two.0) ∙ ap (lower (lowest (map outlet_cause (take place now.outlets)))) (turned.cause two.1)

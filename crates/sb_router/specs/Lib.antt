@@ -19,3 +19,4 @@ pub mod Kept
 pub mod Routers
 pub mod RouterOf
 pub mod SideOf
+pub mod Taking

@@ -5,14 +5,17 @@ mod causes;
 mod ends;
 mod inlet;
 mod lane;
+mod laws;
 mod outlet;
 mod router;
 mod router_core;
 mod routes;
+mod seats;
 mod table;
 
 pub use inlet::Inlet;
 pub use lane::Lane;
+pub use laws::routers_hand_on;
 pub use router::Router;
 pub use router_core::RouterCore;
 pub use routes::Routes;

@@ -1,12 +1,15 @@
 //! A router at its links.
 
 ghost use Rattle.std.specs.Prelude.{◌≡◌, true, false, All, map, IfOk};
+ghost use Rattle.std.specs.Option.{option_map};
+ghost use Rattle.sb_node.specs.Sides.{port_side, ring_side};
 ghost use Rattle.sb_flow.specs.NetworkOf.{network_of};
 ghost use Rattle.sb_flow.specs.Tables.{paths_of};
 ghost use Rattle.sb_router.specs.Forwarding.{Forwards, Words};
 ghost use Rattle.sb_router.specs.Fresh.{IsFreshPair, fresh_inlet, fresh_outlet};
 ghost use Rattle.sb_router.specs.RouteOf.{route_of};
 ghost use Rattle.sb_router.specs.Routers.{IsWholeRouter};
+ghost use Rattle.sb_router.specs.Taking.{HasVacantIn, HasVacantOut, IsPutIn, IsPutOut, IsTakenIn, IsTakenOut, inlet_place, outlet_place};
 ghost use Rattle.sb_router.specs.Ways.{IsTableOf};
 
 use crate::ends::{ends_in, ends_out};
@@ -16,7 +19,7 @@ use crate::table::routes;
 use sb_drive::Node;
 use sb_flow::{Bundle, Paths};
 use sb_link::{Fabric, Turn};
-use sb_port::{InLeg, OutLeg};
+use sb_port::{InLeg, OutLeg, OutPort};
 use std::alloc::{AllocError, Global};
 
 /// A router at its links. It hands on what comes, each flow by the link that leads on: requests towards their device,
@@ -112,5 +115,35 @@ impl<F: Fabric> Router<F> {
                 },
             },
         })
+    }
+
+    /// Hands out the port of that ring, where the router has it. Takes no memory.
+    pub fn take_out(&mut self, ring: u16) -> Option<OutPort<F::Tx>>
+        ensures taken { IsTakenOut (outlet_place ring (router_side F.Tx.TxEnd F.Rx.RxEnd self.old).requests) (outlet_place ring (router_side F.Tx.TxEnd F.Rx.RxEnd self.old).answers) (router_side F.Tx.TxEnd F.Rx.RxEnd self.old) (router_side F.Tx.TxEnd F.Rx.RxEnd self.new) (option_map (port_side F.Tx.TxEnd) result) }
+    {
+        self.core.take_out(ring)
+    }
+
+    /// Hands out the end of that ring, where the router has it. Takes no memory.
+    pub fn take_in(&mut self, ring: u16) -> Option<F::Rx>
+        ensures taken { IsTakenIn (inlet_place ring (router_side F.Tx.TxEnd F.Rx.RxEnd self.old).requests) (inlet_place ring (router_side F.Tx.TxEnd F.Rx.RxEnd self.old).answers) (router_side F.Tx.TxEnd F.Rx.RxEnd self.old) (router_side F.Tx.TxEnd F.Rx.RxEnd self.new) (option_map (ring_side F.Rx.RxEnd) result) }
+    {
+        self.core.take_in(ring)
+    }
+
+    /// Puts the port of that ring back into its empty place. Takes no memory.
+    pub fn put_out(&mut self, ring: u16, port: OutPort<F::Tx>)
+        requires vacant { HasVacantOut (outlet_place ring (router_side F.Tx.TxEnd F.Rx.RxEnd self.old).requests) (outlet_place ring (router_side F.Tx.TxEnd F.Rx.RxEnd self.old).answers) (router_side F.Tx.TxEnd F.Rx.RxEnd self.old) }
+        ensures put { IsPutOut (outlet_place ring (router_side F.Tx.TxEnd F.Rx.RxEnd self.old).requests) (outlet_place ring (router_side F.Tx.TxEnd F.Rx.RxEnd self.old).answers) (router_side F.Tx.TxEnd F.Rx.RxEnd self.old) (router_side F.Tx.TxEnd F.Rx.RxEnd self.new) (port_side F.Tx.TxEnd port) }
+    {
+        self.core.put_out(ring, port);
+    }
+
+    /// Puts the end of that ring back into its empty place. Takes no memory.
+    pub fn put_in(&mut self, ring: u16, rx: F::Rx)
+        requires vacant { HasVacantIn (inlet_place ring (router_side F.Tx.TxEnd F.Rx.RxEnd self.old).requests) (inlet_place ring (router_side F.Tx.TxEnd F.Rx.RxEnd self.old).answers) (router_side F.Tx.TxEnd F.Rx.RxEnd self.old) }
+        ensures put { IsPutIn (inlet_place ring (router_side F.Tx.TxEnd F.Rx.RxEnd self.old).requests) (inlet_place ring (router_side F.Tx.TxEnd F.Rx.RxEnd self.old).answers) (router_side F.Tx.TxEnd F.Rx.RxEnd self.old) (router_side F.Tx.TxEnd F.Rx.RxEnd self.new) (ring_side F.Rx.RxEnd rx) }
+    {
+        self.core.put_in(ring, rx);
     }
 }

@@ -15,14 +15,7 @@ use std::alloc::{AllocError, Global};
 const FLOW_COUNT: u8 = 32;
 
 // the link by which a flow leaves a router: towards its host, or towards its device
-fn link_on(
-    bundle: &Bundle,
-    paths: &Paths,
-    up: bool,
-    router: u8,
-    host: u8,
-    device: u8,
-) -> Option<u8>
+fn link_on(bundle: &Bundle, paths: &Paths, up: bool, router: u8, host: u8, device: u8) -> Option<u8>
     requires made { paths.now ≡ paths_of (network_of bundle.now) }
     ensures link { result ≡ link_on (network_of bundle.now) up router (record { host = host; device = device }) }
 {

@@ -26,8 +26,16 @@ close_at-requires-clause-whole g c =
 pub close_at-requires-clause-within : goal.close_at-requires-clause-within
 close_at-requires-clause-within g c =
     let shape = steps_shape c.loop-place.invariant.told.steps in
-    omega (arith, c.loop-place-test.true, c.len-place-end.ensures, c.args.self.now.outlets.ok.0, c.loop-place.self.outlets.ok.0, length-map c.args.self.now.outlets.items (outlet_of g.T.TxEnd),
-    length-map c.loop-place.self.outlets.items (outlet_of g.T.TxEnd), shape.outlets)
+    omega (
+      arith,
+      c.loop-place-test.true,
+      c.len-place-end.ensures,
+      c.args.self.now.outlets.ok.0,
+      c.loop-place.self.outlets.ok.0,
+      length-map c.args.self.now.outlets.items (outlet_of g.T.TxEnd),
+      length-map c.loop-place.self.outlets.items (outlet_of g.T.TxEnd),
+      shape.outlets,
+    )
 
 pub loop-place-preserved : goal.loop-place-preserved
 loop-place-preserved g c =

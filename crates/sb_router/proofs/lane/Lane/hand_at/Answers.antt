@@ -18,7 +18,7 @@ returns-in_default-next-clause-handed g c =
     let self = c.args.self.now in
     let p : Packet = c.in-Some.packet in
     let held : (inlet_at (lane_of g.T.TxEnd g.U.RxEnd self) c.args.place).held ≡ Some p =
-        ap (λ (x : InletState). x.held) (at_place (inlet_of g.U.RxEnd) self.inlets.items c.args.place c.index.result.now no_inlet (omega (arith, c.requires.within, self.inlets.ok.0)) c.index.ensures) ∙ c.in-Some.is in
+    ap (λ (x : InletState). x.held) (at_place (inlet_of g.U.RxEnd) self.inlets.items c.args.place c.index.result.now no_inlet (omega (arith, c.requires.within, self.inlets.ok.0)) c.index.ensures) ∙ c.in-Some.is in
     inr record {
       packet = p;
       held = held;
@@ -48,8 +48,8 @@ returns-clause-handed g c =
     let f = inlet_of g.U.RxEnd in
     let i = c.args.place in
     let held : (inlet_at s i).held ≡ Some p =
-        ap (λ (x : InletState). x.held) (at_place f self.inlets.items i c.index.result.now no_inlet (omega (arith, c.requires.within, self.inlets.ok.0)) c.index.ensures) ∙ c.in-Some.is in
+    ap (λ (x : InletState). x.held) (at_place f self.inlets.items i c.index.result.now no_inlet (omega (arith, c.requires.within, self.inlets.ok.0)) c.index.ensures) ∙ c.in-Some.is in
     let inlets = c.empty_at-2.ensures.emptied ∙ ap (λ v. set (map f v.items) i (emptied (get_or (map f v.items) i no_inlet))) c.hand_to_at.ensures.inlets in
     let outlets = ap (λ v. map (outlet_of g.T.TxEnd) v.items) c.empty_at-2.ensures.outlets in
     handed_on (lane_route self) s then (lane_of g.T.TxEnd g.U.RxEnd c.empty_at-2.new.self) i c.in-Some-next.next p held
-        (sym c.next.ensures.next ∙ c.in-Some-next.is) c.hand_to_at.ensures.handed (same_lane inlets outlets)
+    (sym c.next.ensures.next ∙ c.in-Some-next.is) c.hand_to_at.ensures.handed (same_lane inlets outlets)

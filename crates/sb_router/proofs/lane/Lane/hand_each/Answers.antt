@@ -39,8 +39,16 @@ loop-place-preserved g c =
 pub hand_at-handed-requires-clause-within : goal.hand_at-handed-requires-clause-within
 hand_at-handed-requires-clause-within g c =
     let shape = steps_shape c.loop-place.invariant.handed.steps in
-    omega (arith, c.loop-place-test.true, c.len-place-end.ensures, c.args.self.now.inlets.ok.0, c.loop-place.self.inlets.ok.0, length-map c.args.self.now.inlets.items (inlet_of g.U.RxEnd),
-    length-map c.loop-place.self.inlets.items (inlet_of g.U.RxEnd), shape.inlets)
+    omega (
+      arith,
+      c.loop-place-test.true,
+      c.len-place-end.ensures,
+      c.args.self.now.inlets.ok.0,
+      c.loop-place.self.inlets.ok.0,
+      length-map c.args.self.now.inlets.items (inlet_of g.U.RxEnd),
+      length-map c.loop-place.self.inlets.items (inlet_of g.U.RxEnd),
+      shape.inlets,
+    )
 
 pub returns-clause-handed : goal.returns-clause-handed
 returns-clause-handed g c =
