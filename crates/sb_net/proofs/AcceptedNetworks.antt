@@ -56,6 +56,13 @@ limited network e =
 short_script : (h : NetHost) → is_limited_host h ≡ true → length h.script ≤ 65536
 short_script h e = let most = (and_parts (nat_le h.id 31 && nat_le h.qos 15 && nat_le h.prot 3) (nat_le (length h.script) 65536) e).1 in grind (arith, nat_tests)
 
+low_id : (h : NetHost) → is_limited_host h ≡ true → h.id < 32
+low_id h e = let least = (and_parts (nat_le h.id 31) (nat_le h.qos 15) (and_parts (nat_le h.id 31 && nat_le h.qos 15) (nat_le h.prot 3) (and_parts (nat_le h.id 31 && nat_le h.qos 15 && nat_le h.prot 3) (nat_le (length h.script) 65536) e).0).0).0 in grind (arith, nat_tests)
+
+-- hosts' ids are below 32
+pub low_ids : (network : Network) → IsAccepted network → All (λ h. h.id < 32) network.hosts
+low_ids network accepted = All-weaker (λ h. is_limited_host h ≡ true) (λ h. h.id < 32) low_id network.hosts (limited network accepted.limits).hosts
+
 is_placed : (b : Bool) → not b ≡ false → b ≡ true
 is_placed true e = refl
 is_placed false e = absurd (cc)

@@ -67,8 +67,8 @@ module _ (network : Network) (routed : IsRouted network) (c : Course) (up : Bool
 
   goes_on : (o : ℕ) (f : NetFlow) → route f ≡ Some o → is_among f (flows_over c (outlet_at s o).number) ≡ true
   goes_on o f e =
-      let lt = built.within f o e in
-      (ring_out o lt).flows f (sym (ap (λ (plan : RingPlan). goes_through plan.flows f) (out_plan o lt)) ∙ built.leads f o e)
+      let lt = built.table.within f o e in
+      (ring_out o lt).flows f (sym (ap (λ (plan : RingPlan). goes_through plan.flows f) (out_plan o lt)) ∙ built.table.leads f o e)
 
   -- the words of a packet are of its flow
   packet_words : (i : ℕ) (p : Packet) (g : NetFlow) → i < length s.inlets → message_flow (inlet_at s i).ring.plan.flows (message_of p) ≡ Some g → All (λ a. is_of network g a ≡ true) (accesses_of p)
@@ -77,7 +77,7 @@ module _ (network : Network) (routed : IsRouted network) (c : Course) (up : Bool
   together : (list : List Access) (g : NetFlow) → All (λ a. is_of network g a ≡ true) list → (o : ℕ) → route g ≡ Some o → filter (is_carried network c (slice_index_or outs o 0)) list ≡ list
   together list g of_g o e = filter_all (is_carried network c (slice_index_or outs o 0)) list
       (All-weaker (λ a. is_of network g a ≡ true) (λ a. is_carried network c (slice_index_or outs o 0) a ≡ true)
-      (λ a t. ap (λ (n : ℕ). is_carried network c n a) (out_number o (built.within g o e)) ∙ of_some network g a (flows_over c (outlet_at s o).number) t (goes_on o g e)) list of_g)
+      (λ a t. ap (λ (n : ℕ). is_carried network c n a) (out_number o (built.table.within g o e)) ∙ of_some network g a (flows_over c (outlet_at s o).number) t (goes_on o g e)) list of_g)
 
   no_other : (list : List Access) (g : NetFlow) → All (λ a. is_of network g a ≡ true) list → (f : NetFlow) → (f ≡ g) ⊎ (filter (is_of network f) list ≡ [])
   no_other list g of_g f = by_test (is_same_flow f g) refl
@@ -114,14 +114,14 @@ module _ (network : Network) (routed : IsRouted network) (c : Course) (up : Bool
       by_flow : (found : Option NetFlow) → message_flow (inlet_at s i).ring.plan.flows (message_of p) ≡ found → option_and_then route found ≡ Some o → IsPlanned (outlet_at s o).port.plan (message_of p)
       by_flow None is e = absurd (cc)
       by_flow (Some g) is e =
-          let within = built.within g o e in
+          let within = built.table.within g o e in
           let up_in : (inlet_at s i).ring.plan.up ≡ up = ap (λ (plan : RingPlan). plan.up) (in_plan i lt) ∙ (ring_in i lt).direction in
           let up_out : (outlet_at s o).port.plan.up ≡ up = ap (λ (plan : RingPlan). plan.up) (out_plan o within) ∙ (ring_out o within).direction in
           let flow : message_flow (outlet_at s o).port.plan.flows (message_of p) ≡ Some g =
           ap (λ (plan : RingPlan). message_flow plan.flows (message_of p)) (out_plan o within) ∙ sym (ap (λ (plan : RingPlan). message_flow plan.flows (message_of p)) (in_plan i lt)) ∙ is in
           record {
             direction = planned.direction ∙ ap not (up_in ∙ sym up_out);
-            allowed = ap (λ (f : Option NetFlow). option_map_or (goes_through (outlet_at s o).port.plan.flows) f false) flow ∙ built.leads g o e;
+            allowed = ap (λ (f : Option NetFlow). option_map_or (goes_through (outlet_at s o).port.plan.flows) f false) flow ∙ built.table.leads g o e;
           }
 
   pub built_is_laid : IsLaid (course_words network c outs) route s

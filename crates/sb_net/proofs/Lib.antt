@@ -50,5 +50,6 @@ pub mod BuiltRouters
 pub mod NetworkRouters
 pub mod RouterEnds
 pub mod RouterSteps
+pub mod RouterTables
 pub mod RoutersAlongWays
 pub mod HostSides

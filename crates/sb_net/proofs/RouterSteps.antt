@@ -48,24 +48,26 @@ among_kept test fs i d below t =
     any_passing (is_same_flow f) test fs i d below t (same_flow_from f f refl (grind (arith, nat_tests)))
 
 -- a flow of one of a ring's ways goes over it by its plan
+pub through_way : (network : Network) (ring : ℕ) (ws : List NetWay) (f : NetFlow) → ring_ways network ring ≡ ws → f.host < 32 → f.device < 32 → list_any (λ way. (way.host.id == f.host) && (way.device == f.device)) ws ≡ true → goes_through (ring_flows network ring) f ≡ true
+through_way network ring ws f same host device some =
+    let ways = ring_ways network ring in
+    let row : List Bool = map (λ d. list_any (λ way. (way.host.id == f.host) && (way.device == d)) ways) (range_with_len 0 32) in
+    let at_host : slice_index_or (flow_table ways) f.host [] ≡ row = table_at (λ id. map (λ d. list_any (λ way. (way.host.id == id) && (way.device == d)) ways) (range_with_len 0 32)) 32 f.host [] host in
+    ap (λ (r : List Bool). slice_index_or r f.device false) at_host
+    ∙ table_at (λ d. list_any (λ way. (way.host.id == f.host) && (way.device == d)) ways) 32 f.device false device
+    ∙ ap (list_any (λ way. (way.host.id == f.host) && (way.device == f.device))) same ∙ some
+
 pub through_flow : (network : Network) (ring : ℕ) (ws : List NetWay) (fs : List NetFlow) (f : NetFlow) → ring_ways network ring ≡ ws → fs ≡ map flow_of ws → f.host < 32 → f.device < 32 → is_among f fs ≡ true → goes_through (ring_flows network ring) f ≡ true
 through_flow network ring ws fs f same flows host device among =
-    let ways = ring_ways network ring in
-    let is_way : NetWay → Bool = λ way. (way.host.id == f.host) && (way.device == f.device) in
-    let row : List Bool = map (λ d. list_any (λ way. (way.host.id == f.host) && (way.device == d)) ways) (range_with_len 0 32) in
     let there : list_any (λ way. is_same_flow f (flow_of way)) ws ≡ true = sym (list_any-map (is_same_flow f) flow_of ws) ∙ ap (is_among f) (sym flows) ∙ among in
-    let some : list_any (λ way. (way.host.id == f.host) && (way.device == f.device)) ws ≡ true =
-    any_weaker (λ way. is_same_flow f (flow_of way)) (λ way. (way.host.id == f.host) && (way.device == f.device))
+    through_way network ring ws f same host device
+    (any_weaker (λ way. is_same_flow f (flow_of way)) (λ way. (way.host.id == f.host) && (way.device == f.device))
     (λ way e. let parts = and_parts (f.host == way.host.id) (f.device == way.device) e in
     let host_test = parts.0 in
     let device_test = parts.1 in
     let host : (way.host.id == f.host) ≡ true = grind (arith, nat_tests) in
     let device : (way.device == f.device) ≡ true = grind (arith, nat_tests) in
-    rw (host, device) refl) ws there in
-    let at_host : slice_index_or (flow_table ways) f.host [] ≡ row = table_at (λ id. map (λ d. list_any (λ way. (way.host.id == id) && (way.device == d)) ways) (range_with_len 0 32)) 32 f.host [] host in
-    ap (λ (r : List Bool). slice_index_or r f.device false) at_host
-    ∙ table_at (λ d. list_any (λ way. (way.host.id == f.host) && (way.device == d)) ways) 32 f.device false device
-    ∙ ap (list_any (λ way. (way.host.id == f.host) && (way.device == f.device))) same ∙ some
+    rw (host, device) refl) ws there)
 
 -- A router keeps its promise for a flow that goes over one of its rings that come in and over one of those that go out.
 pub one_step : (network : Network) (c : Course) (m : Moment) (ins outs : List ℕ) (d : DirectionSide) → IsRouterAt network c m ins outs d → IsRouterOf c outs d.lane → (f : NetFlow) (a b : ℕ) →
@@ -109,5 +111,5 @@ one_step network c m ins outs d at of f a b comes goes by_in by_out =
       inlet = i_within;
       outlet = o_within;
       through = ap (λ (plan : RingPlan). goes_through plan.flows f) in_plan ∙ by_in;
-      route_to = at.built.led f o o_within (ap (λ (plan : RingPlan). goes_through plan.flows f) out_plan ∙ by_out);
+      route_to = at.built.table.led f o o_within (ap (λ (plan : RingPlan). goes_through plan.flows f) out_plan ∙ by_out);
     }

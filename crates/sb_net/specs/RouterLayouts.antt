@@ -1,11 +1,12 @@
 -- The routers of a network: the rings at which each stands, and where its tables lead.
-use Rattle.std.specs.Prelude.{◌≡◌, ◌<◌, ℕ, true, List, length, map, All, Some}
+use Rattle.std.specs.Prelude.{◌≡◌, ◌<◌, ℕ, Bool, true, List, length, map, All, Some}
 use Rattle.sb_packet.specs.Networks.{Network}
 use Rattle.sb_packet.specs.Plans.{NetFlow, goes_through}
 use Rattle.sb_packet.specs.Rings.{ring_plan}
 use Rattle.sb_router.specs.Lanes.{outlet_at}
 use Rattle.sb_router.specs.RouteOf.{route_of}
 use Rattle.sb_router.specs.Routers.{DirectionSide, ForwardsAll, IsWholeDirection}
+use Rattle.sb_router.specs.Ways.{IsTableOf}
 use Rattle.sb_net.specs.Courses.{AlongWay, Course}
 use Rattle.sb_net.specs.Moments.{Moment}
 use Rattle.sb_net.specs.NetworkLayouts.{answer_ring, links_into, links_out_of, request_ring}
@@ -25,16 +26,19 @@ answer_ins network r = map answer_ring (links_out_of network (Some r))
 abbrev pub answer_outs : Network → ℕ → List ℕ
 answer_outs network r = map answer_ring (links_into network (Some r))
 
--- A direction is built for a network: it stands at these rings, which have the plans of the network's.
+-- A direction's table leads a flow to a ring just where that ring carries it.
+pub record LeadsByPlans (d : DirectionSide) : Type 0 where
+  pub within : (f : NetFlow) (o : ℕ) → route_of d.rows f ≡ Some o → o < length d.lane.outlets
+  pub leads : (f : NetFlow) (o : ℕ) → route_of d.rows f ≡ Some o → goes_through (outlet_at d.lane o).port.plan.flows f ≡ true
+  pub led : (f : NetFlow) (o : ℕ) → o < length d.lane.outlets → goes_through (outlet_at d.lane o).port.plan.flows f ≡ true → route_of d.rows f ≡ Some o
+
+-- A direction is built for a network: it stands at these rings, which have the plans of the network's, and its table leads by them.
 pub record IsBuiltFor (network : Network) (ins outs : List ℕ) (d : DirectionSide) : Type 0 where
   pub comes_by : ring_ins d.lane ≡ ins
   pub sends_by : ring_outs d.lane ≡ outs
   pub in_plans : All (λ x. x.ring.plan ≡ ring_plan network x.number) d.lane.inlets
   pub out_plans : All (λ y. y.port.plan ≡ ring_plan network y.number) d.lane.outlets
-  -- its table leads a flow to a ring just where that ring carries it
-  pub within : (f : NetFlow) (o : ℕ) → route_of d.rows f ≡ Some o → o < length d.lane.outlets
-  pub leads : (f : NetFlow) (o : ℕ) → route_of d.rows f ≡ Some o → goes_through (outlet_at d.lane o).port.plan.flows f ≡ true
-  pub led : (f : NetFlow) (o : ℕ) → o < length d.lane.outlets → goes_through (outlet_at d.lane o).port.plan.flows f ≡ true → route_of d.rows f ≡ Some o
+  pub table : LeadsByPlans d
 
 -- A direction stands in a network at a moment of a run: it is built for it, is whole, and has forwarded what came.
 pub record IsRouterAt (network : Network) (c : Course) (m : Moment) (ins outs : List ℕ) (d : DirectionSide) : Type 0 where
@@ -46,3 +50,8 @@ pub record IsRouterAt (network : Network) (c : Course) (m : Moment) (ins outs : 
 -- each flow's promise is kept by each router on its way
 abbrev pub KeepsAlongWays : Network → Course → Moment → Type 0
 KeepsAlongWays network c m = All (λ f. AlongWay (Forwards network c m f) (c.first f) (c.rest f)) c.flows
+
+-- A direction's table is that of the network, by the links of the rings that go out, and has nothing for hosts' ids or devices from 32 on.
+pub record HasTable (network : Network) (up : Bool) (r : ℕ) (links : List ℕ) (d : DirectionSide) : Type 0 where
+  pub table : IsTableOf network up r links d.rows
+  pub nothing_else : (f : NetFlow) (o : ℕ) → route_of d.rows f ≡ Some o → (f.host < 32) × (f.device < 32)

@@ -1,10 +1,12 @@
 //! Laws of routers as they stand in a network: they keep the promises on which whole runs rest.
 
-ghost use Rattle.std.specs.Prelude.{◌≢◌, ◌<◌, ℕ, List, length, All};
+ghost use Rattle.std.specs.Prelude.{◌≡◌, ◌≢◌, ◌<◌, ℕ, Some, true, false, List, length, All};
 ghost use Rattle.sb_link.specs.declared.answers.Turn.{Turn};
 ghost use Rattle.sb_link.specs.declared.answers.Turn.TheVariants.{Moved};
 ghost use Rattle.sb_packet.specs.Networks.{Network};
 ghost use Rattle.sb_packet.specs.Plans.{NetFlow};
+ghost use Rattle.sb_packet.specs.Rings.{ring_plan};
+ghost use Rattle.sb_flow.specs.Accepted.{IsAccepted};
 ghost use Rattle.sb_router.specs.Forwarding.{HasForwarded, IsLaid, Passes, Words};
 ghost use Rattle.sb_router.specs.Lanes.{inlet_at, outlet_at};
 ghost use Rattle.sb_router.specs.RouteOf.{route_of};
@@ -12,12 +14,12 @@ ghost use Rattle.sb_router.specs.Routers.{ClosesWhenDue, DirectionSide, Forwards
 ghost use Rattle.sb_router.specs.Turning.{IsIdleLane};
 ghost use Rattle.sb_net.specs.Courses.{Course};
 ghost use Rattle.sb_net.specs.Moments.{Moment};
-ghost use Rattle.sb_net.specs.NetworkLayouts.{network_answers, network_requests};
+ghost use Rattle.sb_net.specs.NetworkLayouts.{links_into, links_out_of, network_answers, network_requests};
 ghost use Rattle.sb_net.specs.Promises.{Forwards};
 ghost use Rattle.sb_net.specs.Routed.{IsRouted};
 ghost use Rattle.sb_net.specs.RouterEnds.{IsFreshDirection, IsRestoredDirection};
-ghost use Rattle.sb_net.specs.RouterLayouts.{IsBuiltFor, IsRouterAt, KeepsAlongWays, answer_ins, answer_outs, request_ins, request_outs};
-ghost use Rattle.sb_net.specs.RouterSides.{HasLane, IsAtStage, IsIdleAtRings, IsRouterOf, ShowsLane, course_words};
+ghost use Rattle.sb_net.specs.RouterLayouts.{HasTable, IsBuiltFor, IsRouterAt, KeepsAlongWays, LeadsByPlans, answer_ins, answer_outs, request_ins, request_outs};
+ghost use Rattle.sb_net.specs.RouterSides.{HasLane, IsAtStage, IsIdleAtRings, IsRouterOf, ShowsLane, course_words, ring_outs};
 ghost use Rattle.sb_net.specs.Stages.{Stages};
 ghost use Rattle.sb_net.specs.Standstills.{IsIdleReceiver, IsIdleSender, RoundEnd};
 
@@ -100,4 +102,23 @@ pub fn restored_routers_go_on()
         → IsRestoredDirection before after → IsWholeDirection before → IsWholeDirection after }
     ensures forwards { (words : Words) (before after : DirectionSide)
         → IsRestoredDirection before after → ForwardsAll words before → ForwardsAll words after }
+{}
+
+/// The table of a router, made from the ways of its network, leads a flow to a ring just where that ring carries it.
+pub fn tables_lead_by_plans()
+    ensures requests { (network : Network) (r : ℕ) (d : DirectionSide)
+        → IsRouted network → All (λ host. host.id < 32) network.hosts
+        → ring_outs d.lane ≡ request_outs network r → All (λ y. y.port.plan ≡ ring_plan network y.number) d.lane.outlets
+        → HasTable network false r (links_out_of network (Some r)) d
+        → LeadsByPlans d }
+    ensures answers { (network : Network) (r : ℕ) (d : DirectionSide)
+        → IsRouted network → All (λ host. host.id < 32) network.hosts
+        → ring_outs d.lane ≡ answer_outs network r → All (λ y. y.port.plan ≡ ring_plan network y.number) d.lane.outlets
+        → HasTable network true r (links_into network (Some r)) d
+        → LeadsByPlans d }
+{}
+
+/// The hosts of an accepted network have ids for which there are rows in tables.
+pub fn accepted_ids_are_low()
+    ensures low { (network : Network) → IsAccepted network → All (λ host. host.id < 32) network.hosts }
 {}
