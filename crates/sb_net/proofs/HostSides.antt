@@ -1,5 +1,5 @@
 -- Hosts as they stand in a network keep the promises of whole runs.
-use Rattle.std.proofs.Common.{◌≡◌, ◌≢◌, ◌<◌, ℕ, Bool, ◌+◌, ◌%◌, true, false, List, [], ◌∷◌, ◌++◌, refl, sym, ap, ◌∙◌, arith, subst, inl, inr, drop}
+use Rattle.std.proofs.Common.{◌≡◌, ◌≢◌, ◌<◌, ℕ, Bool, ◌+◌, ◌%◌, true, false, List, [], ◌∷◌, ◌++◌, length, refl, sym, ap, ◌∙◌, arith, subst, inl, inr, drop}
 use Rattle.std.specs.Prelude.{◌⊎◌, ◌==◌, filter, flat_map, map, All, Contains, Option, Some, None, is_some, get_or, if◌then◌else◌}
 use Rattle.std.specs.List.{enumerate_from, find}
 use Rattle.std.specs.Option.{option_map_or}
@@ -11,20 +11,21 @@ use Rattle.sb_link.specs.declared.answers.Turn.TheVariants.{Moved}
 use Rattle.sb_packet.specs.Messages.{Message}
 use Rattle.sb_packet.specs.Networks.{NetHost, Network, device_at}
 use Rattle.sb_packet.specs.Scripts.{IsTransaction, transaction_accesses, transaction_message, script_accesses}
-use Rattle.sb_packet.specs.Traffic.{has_close}
+use Rattle.sb_packet.specs.Traffic.{has_close, item_accesses}
 use Rattle.sb_packet.specs.declared.transaction.Txn.{Txn}
 use Rattle.sb_packet.proofs.Lists.{All-made, filter_all, filter_none}
 use Rattle.sb_port.specs.Ports.{IsFit}
-use Rattle.sb_node.specs.Sides.{PortSide, RingSide, has_ended, has_rest, is_drained, is_full, offered_words}
+use Rattle.sb_node.specs.Sides.{PortSide, RingSide, has_ended, has_rest, is_drained, is_full, offered_words, received_words}
 use Rattle.sb_host.specs.Asked.{Asked, accesses_from, asked_accesses, asked_by, line_in, packets_from, sent_accesses}
 use Rattle.sb_host.specs.Hosts.{HostSide, IsHostTurn, IsInOrder, IsWholeHost}
 use Rattle.sb_host.specs.Issuing.{packets_left}
+use Rattle.sb_host.specs.Rows.{IsTable}
 use Rattle.sb_host.specs.Steps.{IsIdleHost}
 use Rattle.sb_net.specs.Flows.{aimed_script}
 use Rattle.sb_net.specs.HostSides.{IsHostOf}
 use Rattle.sb_net.specs.Layouts.{HasScripts, Layout}
-use Rattle.sb_net.specs.Moments.{Moment}
-use Rattle.sb_net.specs.RoundSides.{HasPort, ShowsPort, ShowsRing}
+use Rattle.sb_net.specs.Moments.{Moment, arrived}
+use Rattle.sb_net.specs.RoundSides.{HasPort, HasRing, ShowsPort, ShowsRing}
 use Rattle.sb_net.specs.Runs.{IsHost}
 use Rattle.sb_net.specs.Stages.{Stages}
 use Rattle.sb_net.specs.Standstills.{IsBlocked, IsIdleReceiver, IsIdleSender, RoundEnd}
@@ -125,3 +126,13 @@ pub unmoved_receives : (stages : Stages) (s : RoundEnd) (before after : HostSide
     ShowsRing s after.answered_by ring → s.holds after.answered_by ≡ None → s.at.held after.answered_by ≡ [] → IsIdleReceiver stages s after.answered_by
 unmoved_receives stages s before after answer ring whole turn still here got holds none =
     idle_host_receives stages s after.answered_by whole.port ring got holds none (turn.idle still whole.port whole.has_port ring here)
+
+-- a whole host that told its port to close has come to the end of its script
+pub told_at_end : (h : HostSide) (port : PortSide) → IsWholeHost h → h.requests ≡ Some port → port.state.closing ≡ true → h.next ≡ length h.asked.lines
+told_at_end h port whole there told = whole.in_order.closes (ap (λ (p : PortSide). p.state.closing) (one_there h.requests whole.port port whole.has_port there) ∙ told)
+
+-- its table has the answers to its words among those that came by its ring
+pub table_of_ring : (m : Moment) (h : HostSide) (ring : RingSide) → IsWholeHost h → h.answers ≡ Some ring → HasRing m h.answered_by ring → IsTable h.asked (arrived m h.answered_by) h.rows
+table_of_ring m h ring whole here got =
+    let same : received_words whole.ring ≡ arrived m h.answered_by = ap received_words (one_there h.answers whole.ring ring whole.has_ring here) ∙ ap item_accesses (sym got.received) in
+    subst (λ (l : List Access). IsTable h.asked l h.rows) same whole.in_order.table

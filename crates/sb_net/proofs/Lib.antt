@@ -53,3 +53,4 @@ pub mod RouterSteps
 pub mod RouterTables
 pub mod RoutersAlongWays
 pub mod HostSides
+pub mod HostOutcomes

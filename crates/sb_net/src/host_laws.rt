@@ -1,22 +1,27 @@
 //! Laws of hosts as they stand in a network: they keep the promises on which whole runs rest.
 
-ghost use Rattle.std.specs.Prelude.{◌≡◌, ◌≢◌, ◌%◌, ℕ, true, [], All, Contains, None, Some};
+ghost use Rattle.std.specs.Prelude.{◌≡◌, ◌≢◌, ◌%◌, ℕ, true, List, [], All, Contains, None, Some};
 ghost use Rattle.sb_host.specs.Asked.{asked_accesses, asked_by};
 ghost use Rattle.sb_host.specs.Hosts.{HostSide, IsHostTurn, IsWholeHost};
+ghost use Rattle.sb_host.specs.Outcomes.{outcomes_so_far};
+ghost use Rattle.sb_host.specs.Rows.{IsTable};
 ghost use Rattle.sb_host.specs.Steps.{IsIdleHost};
 ghost use Rattle.sb_link.specs.declared.answers.Turn.{Turn};
 ghost use Rattle.sb_link.specs.declared.answers.Turn.TheVariants.{Moved};
-ghost use Rattle.sb_node.specs.Sides.{PortSide, RingSide};
+ghost use Rattle.sb_node.specs.Sides.{PortSide, RingSide, received_words};
 ghost use Rattle.sb_packet.specs.Networks.{NetHost, Network};
+ghost use Rattle.sb_packet.specs.Outcomes.{host_outcomes};
+ghost use Rattle.sb_packet.specs.declared.entry.Entry.{Entry};
 ghost use Rattle.sb_port.specs.Ports.{IsFit};
 ghost use Rattle.sb_net.specs.Flows.{aimed_script};
 ghost use Rattle.sb_net.specs.HostSides.{IsHostOf};
-ghost use Rattle.sb_net.specs.Layouts.{HasScripts, Layout};
-ghost use Rattle.sb_net.specs.Moments.{Moment};
-ghost use Rattle.sb_net.specs.RoundSides.{HasPort, ShowsPort, ShowsRing};
-ghost use Rattle.sb_net.specs.Runs.{IsHost};
+ghost use Rattle.sb_net.specs.Layouts.{HasScripts, IsLayout, Layout};
+ghost use Rattle.sb_net.specs.Moments.{Moment, arrived};
+ghost use Rattle.sb_net.specs.RoundSides.{HasPort, HasRing, ShowsPort, ShowsRing};
+ghost use Rattle.sb_net.specs.Runs.{IsHost, IsMomentOf};
 ghost use Rattle.sb_net.specs.Stages.{Stages};
 ghost use Rattle.sb_net.specs.Standstills.{IsIdleReceiver, IsIdleSender, RoundEnd};
+ghost use Rattle.sb_net.specs.Wholes.{HasAllEnded};
 
 /// What a host asks for are the words of its script that a device has, where devices have whole pages; and a whole host
 /// keeps a host's promise for each of its flows.
@@ -51,4 +56,19 @@ pub fn unmoved_hosts_are_idle()
         → after.answers ≡ Some ring → ShowsRing s after.answered_by ring
         → s.holds after.answered_by ≡ None → s.at.held after.answered_by ≡ []
         → IsIdleReceiver stages s after.answered_by }
+{}
+
+/// Where each ring has given its Close, a host that told its port to close knows of each of its transactions what the
+/// journal says: by the words that came to it, each is found by its reply address, its opcode and its size.
+pub fn hosts_find_the_journals_outcomes()
+    ensures outcomes { (network : Network) (layout : Layout) (journal : List Entry) (m : Moment) (host : NetHost) (h : HostSide)
+        (port : PortSide) (ring : RingSide)
+        → IsLayout network layout → All (λ d. d.base % 4096 ≡ 0) network.devices
+        → IsMomentOf network layout journal m → HasAllEnded layout m
+        → IsHostOf network layout host h → IsWholeHost h → h.requests ≡ Some port → port.state.closing ≡ true
+        → HasRing m h.answered_by ring
+        → outcomes_so_far h.asked (received_words ring) h.next ≡ host_outcomes network journal host }
+    ensures table { (m : Moment) (h : HostSide) (ring : RingSide)
+        → IsWholeHost h → h.answers ≡ Some ring → HasRing m h.answered_by ring
+        → IsTable h.asked (arrived m h.answered_by) h.rows }
 {}
