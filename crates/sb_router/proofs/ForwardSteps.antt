@@ -56,45 +56,45 @@ module _ {words : Words} {route : Route} (s : LaneState) (h : Forwards words rou
       }
 
   -- a ring was looked at, but nothing came
-  module _ (i : ℕ) (x : InletState) (lt : i < length s.inlets) (is : IsUnmoved (inlet_at s i) x) where
+  module _ (i : ℕ) (x : InletState) (lt : i < length s.inlets) (same_plan : x.ring.plan ≡ (inlet_at s i).ring.plan) (same_received : x.ring.received ≡ (inlet_at s i).ring.received) (same_held : x.held ≡ (inlet_at s i).held) where
     abbrev pub looked : LaneState
     looked = record s { inlets = set s.inlets i x }
 
     came_same : (j : ℕ) → came_at looked j ≡ came_at s j
     came_same j = elim (set_cases s.inlets i j x no_inlet lt) [
-      | inl w ↦ ap (λ (z : InletState). received_words z.ring) w.1 ∙ ap item_accesses is.received ∙ ap (λ (k : ℕ). came_at s k) (sym w.0)
+      | inl w ↦ ap (λ (z : InletState). received_words z.ring) w.1 ∙ ap item_accesses same_received ∙ ap (λ (k : ℕ). came_at s k) (sym w.0)
       | inr w ↦ ap (λ (z : InletState). received_words z.ring) w
     ]
 
     held_same : (j : ℕ) → held_at looked j ≡ held_at s j
     held_same j = elim (set_cases s.inlets i j x no_inlet lt) [
-      | inl w ↦ ap (λ (z : InletState). held_words z.held) w.1 ∙ ap held_words is.held ∙ ap (λ (k : ℕ). held_at s k) (sym w.0)
+      | inl w ↦ ap (λ (z : InletState). held_words z.held) w.1 ∙ ap held_words same_held ∙ ap (λ (k : ℕ). held_at s k) (sym w.0)
       | inr w ↦ ap (λ (z : InletState). held_words z.held) w
     ]
 
     came_sum : (o : ℕ) → popped_for words looked o ≡ popped_for words s o
     came_sum o = let sum = sum_by-set (came_for words o) s.inlets i x no_inlet lt in
-        let same : came_for words o x ≡ came_for words o (inlet_at s i) = ap (λ (l : List Item). length (filter (words.goes_to o) (item_accesses l))) is.received in omega (arith, sum, same)
+        let same : came_for words o x ≡ came_for words o (inlet_at s i) = ap (λ (l : List Item). length (filter (words.goes_to o) (item_accesses l))) same_received in omega (arith, sum, same)
 
     held_sum : (o : ℕ) → sum_by (held_for words o) (set s.inlets i x) ≡ sum_by (held_for words o) s.inlets
     held_sum o = let sum = sum_by-set (held_for words o) s.inlets i x no_inlet lt in
-        let same : held_for words o x ≡ held_for words o (inlet_at s i) = ap (λ (l : Option Packet). length (filter (words.goes_to o) (held_words l))) is.held in omega (arith, sum, same)
+        let same : held_for words o x ≡ held_for words o (inlet_at s i) = ap (λ (l : Option Packet). length (filter (words.goes_to o) (held_words l))) same_held in omega (arith, sum, same)
 
     pub looking : Forwards words route looked
     looking = record {
       few = λ o. let old = h.few o in omega (arith, old, came_sum o, held_sum o);
-      picks = λ f j o passes. let old = h.picks f j o (passed_before (inlets_shape s i x lt is.kept.plan) passes) in
+      picks = λ f j o passes. let old = h.picks f j o (passed_before (inlets_shape s i x lt same_plan) passes) in
           subst (λ (l : List Access). IsSubsequence (part words f (offered_at s o) ++ part words f (held_at looked j)) (part words f l)) (sym (came_same j))
           (subst (λ (l : List Access). IsSubsequence (part words f (offered_at s o) ++ part words f l) (part words f (came_at s j))) (sym (held_same j)) old);
       whole = λ f j o passes sound room.
           ap (part words f) (came_same j)
-          ∙ h.whole f j o (passed_before (inlets_shape s i x lt is.kept.plan) passes) (sound_before s i x [] lt (is.received ∙ sym (append-nil (inlet_at s i).ring.received)) sound) (omega (arith, room, came_sum o))
+          ∙ h.whole f j o (passed_before (inlets_shape s i x lt same_plan) passes) (sound_before s i x [] lt (same_received ∙ sym (append-nil (inlet_at s i).ring.received)) sound) (omega (arith, room, came_sum o))
           ∙ ap (λ (l : List Access). part words f (offered_at s o) ++ part words f l) (sym (held_same j));
     }
 
 pub forwards_step : {words : Words} {route : Route} {s t : LaneState} → IsLaid words route s → IsWholeLane route s → Forwards words route s → Step route s t → Forwards words route t
 forwards_step {words} {route} {s} laid w h (receives i x item lt is) = receiving s h i x item lt is
-forwards_step {words} {route} {s} laid w h (looks i x lt is) = looking s h i x lt is
+forwards_step {words} {route} {s} laid w h (looks i x lt is) = looking s h i x lt is.kept.plan is.received is.held
 forwards_step {words} {route} {s} laid w h (drops i p lt held refused) = dropping s laid h i p lt held (All-get_or IsWholeInlet s.inlets i no_inlet lt w.inlets) refused
 forwards_step {words} {route} {s} laid w h (offers i o p y lt within held next is) = offering s laid h i p lt held (All-get_or IsWholeInlet s.inlets i no_inlet lt w.inlets) o y within next is
 forwards_step {words} {route} {s} laid w h (turns o y within is) = acting s h o y within is.kept.plan is.words

@@ -22,5 +22,6 @@ pub mod Tables
 pub mod Legs
 pub mod FreshLanes
 pub mod Found
+pub mod Restored
 pub mod KeptSteps
 pub mod ForwardSteps

@@ -61,7 +61,7 @@ not_ended : (s : LaneState) (i : ℕ) → i < length s.inlets → (inlet_at s i)
 not_ended s i lt open' silent = let at = All-get_or IsSilent s.inlets i no_inlet lt silent in let ended = at.ended in cc
 
 -- a port of a list in which one was set was told, where that one wasn't
-told_before : (s : LaneState) (o q : ℕ) (y : OutletState) → o < length s.outlets → (y.port.state.closing ≡ true → (outlet_at s o).port.state.closing ≡ true)
+pub told_before : (s : LaneState) (o q : ℕ) (y : OutletState) → o < length s.outlets → (y.port.state.closing ≡ true → (outlet_at s o).port.state.closing ≡ true)
     → (get_or (set s.outlets o y) q no_outlet).port.state.closing ≡ true → (outlet_at s q).port.state.closing ≡ true
 told_before s o q y lt same e = elim (set_cases s.outlets o q y no_outlet lt) [
   | inl w ↦ let now = same (sym (ap (λ (z : OutletState). z.port.state.closing) w.1) ∙ e) in ap (λ (k : ℕ). (outlet_at s k).port.state.closing) w.0 ∙ now

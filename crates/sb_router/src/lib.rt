@@ -15,7 +15,7 @@ mod table;
 
 pub use inlet::Inlet;
 pub use lane::Lane;
-pub use laws::routers_hand_on;
+pub use laws::{router_is_whole_again, routers_hand_on};
 pub use router::Router;
 pub use router_core::RouterCore;
 pub use routes::Routes;
