@@ -24,7 +24,7 @@ use Rattle.sb_net.specs.RouterLayouts.{IsBuiltFor}
 use Rattle.sb_net.specs.RouterSides.{course_words}
 use Rattle.sb_net.proofs.CarriedRings.{All-unmap}
 use Rattle.sb_net.proofs.FlowMembers.{among_all, among_passing, at_flow, not_true, one_flow, same_flow}
-use Rattle.sb_net.proofs.MessageFlows.{flow_words, of_some}
+use Rattle.sb_net.proofs.MessageFlows.{flow_low, flow_words, of_some}
 
 -- what is known of a ring of a course: its direction, and that its flows are those that go over it by its plan
 pub record IsRingOf (network : Network) (c : Course) (up : Bool) (ring : ℕ) : Type 0 where
@@ -65,19 +65,28 @@ module _ (network : Network) (routed : IsRouted network) (c : Course) (up : Bool
   comes_over : (i : ℕ) (f : NetFlow) → i < length s.inlets → goes_through (inlet_at s i).ring.plan.flows f ≡ true → is_among f (flows_over c (inlet_at s i).number) ≡ true
   comes_over i f lt e = (ring_in i lt).flows f (sym (ap (λ (plan : RingPlan). goes_through plan.flows f) (in_plan i lt)) ∙ e)
 
-  goes_on : (o : ℕ) (f : NetFlow) → route f ≡ Some o → is_among f (flows_over c (outlet_at s o).number) ≡ true
-  goes_on o f e =
+  goes_on : (o : ℕ) (f : NetFlow) → f.host < 32 → f.device < 32 → route f ≡ Some o → is_among f (flows_over c (outlet_at s o).number) ≡ true
+  goes_on o f host device e =
       let lt = built.table.within f o e in
-      (ring_out o lt).flows f (sym (ap (λ (plan : RingPlan). goes_through plan.flows f) (out_plan o lt)) ∙ built.table.leads f o e)
+      (ring_out o lt).flows f (sym (ap (λ (plan : RingPlan). goes_through plan.flows f) (out_plan o lt)) ∙ built.table.leads f o host device e)
 
   -- the words of a packet are of its flow
   packet_words : (i : ℕ) (p : Packet) (g : NetFlow) → i < length s.inlets → message_flow (inlet_at s i).ring.plan.flows (message_of p) ≡ Some g → All (λ a. is_of network g a ≡ true) (accesses_of p)
   packet_words i p g lt e = flow_words network routed (inlet_at s i).number (message_of p) g (sym (ap (λ (plan : RingPlan). message_flow plan.flows (message_of p)) (in_plan i lt)) ∙ e)
 
-  together : (list : List Access) (g : NetFlow) → All (λ a. is_of network g a ≡ true) list → (o : ℕ) → route g ≡ Some o → filter (is_carried network c (slice_index_or outs o 0)) list ≡ list
-  together list g of_g o e = filter_all (is_carried network c (slice_index_or outs o 0)) list
+  packet_low : (i : ℕ) (p : Packet) (g : NetFlow) → i < length s.inlets → message_flow (inlet_at s i).ring.plan.flows (message_of p) ≡ Some g → (g.host < 32) × (g.device < 32)
+  packet_low i p g lt e =
+      let low = flow_low network (inlet_at s i).number (message_of p) g (sym (ap (λ (plan : RingPlan). message_flow plan.flows (message_of p)) (in_plan i lt)) ∙ e) in
+      let fits = p.cmd.host_fits in
+      let host = low.0 in
+      let device = low.1 in
+      let few = routed.few in
+      (omega (arith, host, fits), omega (arith, device, few))
+
+  together : (list : List Access) (g : NetFlow) → (g.host < 32) × (g.device < 32) → All (λ a. is_of network g a ≡ true) list → (o : ℕ) → route g ≡ Some o → filter (is_carried network c (slice_index_or outs o 0)) list ≡ list
+  together list g low of_g o e = filter_all (is_carried network c (slice_index_or outs o 0)) list
       (All-weaker (λ a. is_of network g a ≡ true) (λ a. is_carried network c (slice_index_or outs o 0) a ≡ true)
-      (λ a t. ap (λ (n : ℕ). is_carried network c n a) (out_number o (built.table.within g o e)) ∙ of_some network g a (flows_over c (outlet_at s o).number) t (goes_on o g e)) list of_g)
+      (λ a t. ap (λ (n : ℕ). is_carried network c n a) (out_number o (built.table.within g o e)) ∙ of_some network g a (flows_over c (outlet_at s o).number) t (goes_on o g low.0 low.1 e)) list of_g)
 
   no_other : (list : List Access) (g : NetFlow) → All (λ a. is_of network g a ≡ true) list → (f : NetFlow) → (f ≡ g) ⊎ (filter (is_of network f) list ≡ [])
   no_other list g of_g f = by_test (is_same_flow f g) refl
@@ -115,18 +124,19 @@ module _ (network : Network) (routed : IsRouted network) (c : Course) (up : Bool
       by_flow None is e = absurd (cc)
       by_flow (Some g) is e =
           let within = built.table.within g o e in
+          let low = packet_low i p g lt is in
           let up_in : (inlet_at s i).ring.plan.up ≡ up = ap (λ (plan : RingPlan). plan.up) (in_plan i lt) ∙ (ring_in i lt).direction in
           let up_out : (outlet_at s o).port.plan.up ≡ up = ap (λ (plan : RingPlan). plan.up) (out_plan o within) ∙ (ring_out o within).direction in
           let flow : message_flow (outlet_at s o).port.plan.flows (message_of p) ≡ Some g =
           ap (λ (plan : RingPlan). message_flow plan.flows (message_of p)) (out_plan o within) ∙ sym (ap (λ (plan : RingPlan). message_flow plan.flows (message_of p)) (in_plan i lt)) ∙ is in
           record {
             direction = planned.direction ∙ ap not (up_in ∙ sym up_out);
-            allowed = ap (λ (f : Option NetFlow). option_map_or (goes_through (outlet_at s o).port.plan.flows) f false) flow ∙ built.table.leads g o e;
+            allowed = ap (λ (f : Option NetFlow). option_map_or (goes_through (outlet_at s o).port.plan.flows) f false) flow ∙ built.table.leads g o low.0 low.1 e;
           }
 
   pub built_is_laid : IsLaid (course_words network c outs) route s
   built_is_laid = record {
-    one_flow = λ i p g lt e. record { no_other = no_other (accesses_of p) g (packet_words i p g lt e); together = together (accesses_of p) g (packet_words i p g lt e) };
+    one_flow = λ i p g lt e. record { no_other = no_other (accesses_of p) g (packet_words i p g lt e); together = together (accesses_of p) g (packet_low i p g lt e) (packet_words i p g lt e) };
     apart = apart;
     leads_on = leads_on;
   }

@@ -1,17 +1,18 @@
 -- The words of a message are of the flow that it is of.
-use Rattle.std.proofs.Common.{◌≡◌, ◌<◌, ℕ, ◌+◌, ◌*◌, ◌^◌, Bool, true, false, cond, List, [], ◌∷◌, refl, ap, ◌∙◌, arith, subst}
+use Rattle.std.proofs.Common.{◌≡◌, ◌<◌, ℕ, ◌+◌, ◌*◌, ◌^◌, Bool, true, false, cond, List, [], ◌∷◌, length, refl, sym, ap, ◌∙◌, arith, subst}
 use Rattle.std.specs.Prelude.{◌==◌, ◌||◌, ◌&&◌, map, All, Option, Some, None, option_map}
 use Rattle.std.specs.List.{list_any, position_from}
 use Rattle.std.proofs.Math.Pow.{pow_pos}
 use Rattle.std.proofs.lemmas.Bool.Decides.{nat_tests}
+use Rattle.std.proofs.lemmas.List.{length-take}
 use Rattle.sb_packet.specs.Accesses.{Access, access_at, message_accesses}
 use Rattle.sb_packet.specs.Messages.{Message, message_span}
 use Rattle.sb_packet.specs.Soundness.{device_place}
 use Rattle.sb_packet.specs.Networks.{Network, device_at}
 use Rattle.sb_packet.specs.Journals.{is_request, device_address}
-use Rattle.sb_packet.specs.Plans.{NetFlow, holds_span, goes_home, goes_through, device_ranges, message_flow}
+use Rattle.sb_packet.specs.Plans.{AddressRange, NetFlow, holds_span, goes_home, goes_through, device_ranges, message_flow}
 use Rattle.sb_packet.specs.Ways.{NetWay}
-use Rattle.sb_packet.specs.Rings.{ring_flows, ring_ways}
+use Rattle.sb_packet.specs.Rings.{network_ranges, ring_flows, ring_ways}
 use Rattle.sb_packet.proofs.Lists.{All-made}
 use Rattle.sb_packet.proofs.ReplyAddresses.{word_within}
 use Rattle.sb_net.specs.Flows.{is_of, is_among, is_same_flow}
@@ -19,8 +20,32 @@ use Rattle.sb_net.specs.NetworkLayouts.{flow_of}
 use Rattle.sb_net.specs.Routed.{IsRouted}
 use Rattle.sb_net.proofs.CarriedRings.{list_any-map}
 use Rattle.sb_net.proofs.FlowMembers.{and_parts, same_flow}
+use Rattle.sb_net.proofs.LinksToDevices.{found_place}
 use Rattle.sb_net.proofs.ListPlaces.{or_left, or_right}
 use Rattle.sb_net.proofs.PlannedWords.{any_weaker, in_table, span_device, at_one_device}
+
+-- a message's flow is of its host, and of a device that there is
+pub flow_low : (network : Network) (ring : ℕ) (m : Message) (g : NetFlow) → message_flow (ring_flows network ring) m ≡ Some g → (g.host ≡ m.host) × (g.device < length network.devices)
+flow_low network ring m g e = by_home (goes_home m) e
+  where
+    ranges : List AddressRange
+    ranges = device_ranges (ring_flows network ring)
+
+    place : Option ℕ
+    place = position_from (holds_span (device_place m) (message_span m)) 0 ranges
+
+    by_place : (o : Option ℕ) → place ≡ o → option_map (λ d. record { host = m.host; device = d }) o ≡ Some g → (g.host ≡ m.host) × (g.device < length network.devices)
+    by_place None is e = absurd (cc)
+    by_place (Some d) is e =
+        let same : (let f : NetFlow = record { host = m.host; device = d } in f ≡ g) = cc in
+        let at = found_place (holds_span (device_place m) (message_span m)) 0 d ranges is in
+        let inside = at.2.inside in
+        let few = length-take (length network.devices) (network_ranges network) in
+        (sym (ap (λ (f : NetFlow). f.host) same), (let device : d ≡ g.device = ap (λ (f : NetFlow). f.device) same in omega (arith, at.1, inside, few, device)))
+
+    by_home : (b : Bool) → cond b (option_map (λ d. record { host = m.host; device = d }) place) None ≡ Some g → (g.host ≡ m.host) × (g.device < length network.devices)
+    by_home true e = by_place place refl e
+    by_home false e = absurd (cc)
 
 module _ (network : Network) (routed : IsRouted network) where
   pub flow_words : (ring : ℕ) (m : Message) (g : NetFlow) → message_flow (ring_flows network ring) m ≡ Some g → All (λ a. is_of network g a ≡ true) (message_accesses m)

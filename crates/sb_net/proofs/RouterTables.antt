@@ -65,7 +65,7 @@ record WayFact (network : Network) (test : ℕ → Bool) (way : NetWay) : Type 0
 module _ (network : Network) (test : ℕ → Bool) (ring : ℕ → ℕ) (ways_are : (k : ℕ) → k < length network.links → ring_ways network (ring k) ≡ link_ways network k) (facts : All (WayFact network test) (network_ways network)) (d : DirectionSide)
     (sends_by : ring_outs d.lane ≡ map ring (filter test (range_with_len 0 (length network.links)))) (out_plans : All (λ y. y.port.plan ≡ ring_plan network y.number) d.lane.outlets)
     (table : (f : NetFlow) → f.host < 32 → f.device < 32 → route_of d.rows f ≡ option_and_then (place_of_link (filter test (range_with_len 0 (length network.links)))) (find test (flow_links network f)))
-    (nothing_else : (f : NetFlow) (o : ℕ) → route_of d.rows f ≡ Some o → (f.host < 32) × (f.device < 32)) where
+    (within_links : (f : NetFlow) (o : ℕ) → route_of d.rows f ≡ Some o → o < length (filter test (range_with_len 0 (length network.links)))) where
   abbrev all : List ℕ
   all = range_with_len 0 (length network.links)
 
@@ -116,18 +116,11 @@ module _ (network : Network) (test : ℕ → Bool) (ring : ℕ → ℕ) (ways_ar
       by_place (Some p) e = let at = place_at k p e in e ∙ ap Some (one_place o p lt at.0 (sym at.1))
 
   within : (f : NetFlow) (o : ℕ) → route_of d.rows f ≡ Some o → o < length d.lane.outlets
-  within f o e = by_link (find test (flow_links network f)) (sym (table f (nothing_else f o e).0 (nothing_else f o e).1) ∙ e)
-    where
-      by_link : (x : Option ℕ) → option_and_then (place_of_link links) x ≡ Some o → o < length d.lane.outlets
-      by_link None e = absurd (cc)
-      by_link (Some k) e = let inside = (place_at k o e).0 in omega (arith, inside, count)
+  within f o e = let inside = within_links f o e in omega (arith, inside, count)
 
-  leads : (f : NetFlow) (o : ℕ) → route_of d.rows f ≡ Some o → goes_through (outlet_at d.lane o).port.plan.flows f ≡ true
-  leads f o e = by_link (find test (flow_links network f)) refl (sym (table f low.0 low.1) ∙ e)
+  leads : (f : NetFlow) (o : ℕ) → f.host < 32 → f.device < 32 → route_of d.rows f ≡ Some o → goes_through (outlet_at d.lane o).port.plan.flows f ≡ true
+  leads f o host device e = by_link (find test (flow_links network f)) refl (sym (table f host device) ∙ e)
     where
-      low : (f.host < 32) × (f.device < 32)
-      low = nothing_else f o e
-
       by_way : (k : ℕ) → (x : Option NetWay) → find (is_way_of f) (network_ways network) ≡ x → is_in k (option_map_or (λ way. way.links) x []) ≡ true → list_any (is_way_of f) (link_ways network k) ≡ true
       by_way k None is on = absurd (cc)
       by_way k (Some way) is on =
@@ -141,7 +134,7 @@ module _ (network : Network) (test : ℕ → Bool) (ring : ℕ → ℕ) (ways_ar
           let at = place_at k o e in
           let on = (found_fact (λ j. is_in j (flow_links network f) ≡ true) test (flow_links network f) k is (all_in (flow_links network f))).1 in
           let there : k < length network.links = subst (λ (n : ℕ). n < length network.links) at.1 (link_facts o 0 at.0).0 in
-          let through = through_way network (ring k) (link_ways network k) f (ways_are k there) low.0 low.1 (by_way k (find (is_way_of f) (network_ways network)) refl on) in
+          let through = through_way network (ring k) (link_ways network k) f (ways_are k there) host device (by_way k (find (is_way_of f) (network_ways network)) refl on) in
           let inside = at.0 in
           ap (λ (plan : RingPlan). goes_through plan.flows f) (plan_at o (omega (arith, inside, count)) ∙ ap (λ (n : ℕ). ring_plan network (ring n)) at.1) ∙ through
 
@@ -197,7 +190,7 @@ module _ (network : Network) (r : ℕ) (d : DirectionSide) (routed : IsRouted ne
   same_links i w below = let flow : FlowWay network (flow_of (get_or (network_ways network) i w)) = way_flows network ways i w below in sym (ways.found i w below) ∙ flow.links
 
   pub request_tables : ring_outs d.lane ≡ request_outs network r → All (λ y. y.port.plan ≡ ring_plan network y.number) d.lane.outlets → HasTable network false r (links_out_of network (Some r)) d → LeadsByPlans d
-  request_tables sends plans has = leads_by_plans network (λ k. is_some_number r (router_before network k)) request_ring (request_ways network ways) (way_facts (λ k. is_some_number r (router_before network k)) unique) d sends plans (λ f host device. has.table f host device) has.nothing_else
+  request_tables sends plans has = leads_by_plans network (λ k. is_some_number r (router_before network k)) request_ring (request_ways network ways) (way_facts (λ k. is_some_number r (router_before network k)) unique) d sends plans (λ f host device. has.table f host device) has.within
     where
       unique : All (λ way. (a b : ℕ) → is_in a way.links ≡ true → is_in b way.links ≡ true → is_some_number r (router_before network a) ≡ true → is_some_number r (router_before network b) ≡ true → a ≡ b) (network_ways network)
       unique i w below a b x y s t =
@@ -207,7 +200,7 @@ module _ (network : Network) (r : ℕ) (d : DirectionSide) (routed : IsRouted ne
           one_out_of network way.device r a b flow.head flow.tail flow.way flow.start (ap (is_in a) (sym links) ∙ x) (ap (is_in b) (sym links) ∙ y) (named r (router_before network a) s) (named r (router_before network b) t)
 
   pub answer_tables : ring_outs d.lane ≡ answer_outs network r → All (λ y. y.port.plan ≡ ring_plan network y.number) d.lane.outlets → HasTable network true r (links_into network (Some r)) d → LeadsByPlans d
-  answer_tables sends plans has = leads_by_plans network (λ k. is_some_number r (router_after network k)) answer_ring (answer_ways network ways) (way_facts (λ k. is_some_number r (router_after network k)) unique) d sends plans (λ f host device. has.table f host device) has.nothing_else
+  answer_tables sends plans has = leads_by_plans network (λ k. is_some_number r (router_after network k)) answer_ring (answer_ways network ways) (way_facts (λ k. is_some_number r (router_after network k)) unique) d sends plans (λ f host device. has.table f host device) has.within
     where
       unique : All (λ way. (a b : ℕ) → is_in a way.links ≡ true → is_in b way.links ≡ true → is_some_number r (router_after network a) ≡ true → is_some_number r (router_after network b) ≡ true → a ≡ b) (network_ways network)
       unique i w below a b x y s t =

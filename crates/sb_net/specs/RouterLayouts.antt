@@ -26,10 +26,10 @@ answer_ins network r = map answer_ring (links_out_of network (Some r))
 abbrev pub answer_outs : Network → ℕ → List ℕ
 answer_outs network r = map answer_ring (links_into network (Some r))
 
--- A direction's table leads a flow to a ring just where that ring carries it.
+-- A direction's table leads a flow to a ring just where that ring carries it. Hosts' ids and devices are below 32.
 pub record LeadsByPlans (d : DirectionSide) : Type 0 where
   pub within : (f : NetFlow) (o : ℕ) → route_of d.rows f ≡ Some o → o < length d.lane.outlets
-  pub leads : (f : NetFlow) (o : ℕ) → route_of d.rows f ≡ Some o → goes_through (outlet_at d.lane o).port.plan.flows f ≡ true
+  pub leads : (f : NetFlow) (o : ℕ) → f.host < 32 → f.device < 32 → route_of d.rows f ≡ Some o → goes_through (outlet_at d.lane o).port.plan.flows f ≡ true
   pub led : (f : NetFlow) (o : ℕ) → o < length d.lane.outlets → goes_through (outlet_at d.lane o).port.plan.flows f ≡ true → route_of d.rows f ≡ Some o
 
 -- A direction is built for a network: it stands at these rings, which have the plans of the network's, and its table leads by them.
@@ -51,7 +51,7 @@ pub record IsRouterAt (network : Network) (c : Course) (m : Moment) (ins outs : 
 abbrev pub KeepsAlongWays : Network → Course → Moment → Type 0
 KeepsAlongWays network c m = All (λ f. AlongWay (Forwards network c m f) (c.first f) (c.rest f)) c.flows
 
--- A direction's table is that of the network, by the links of the rings that go out, and has nothing for hosts' ids or devices from 32 on.
+-- A direction's table is that of the network, by the links of the rings that go out.
 pub record HasTable (network : Network) (up : Bool) (r : ℕ) (links : List ℕ) (d : DirectionSide) : Type 0 where
   pub table : IsTableOf network up r links d.rows
-  pub nothing_else : (f : NetFlow) (o : ℕ) → route_of d.rows f ≡ Some o → (f.host < 32) × (f.device < 32)
+  pub within : (f : NetFlow) (o : ℕ) → route_of d.rows f ≡ Some o → o < length links
