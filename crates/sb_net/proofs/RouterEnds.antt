@@ -1,30 +1,26 @@
--- What a router promises holds at first, and is not touched by a meeting of its ends.
-use Rattle.std.proofs.Common.{◌≡◌, ◌≤◌, ◌<◌, ℕ, suc, List, [], ◌∷◌, ◌++◌, length, All, refl, sym, ap, ◌∙◌, arith, subst, inl, inr}
-use Rattle.std.specs.Prelude.{◌⊎◌, filter, sum_by, Option, get_or}
-use Rattle.std.proofs.lemmas.Bool.{cases_lt}
-use Rattle.std.proofs.lemmas.List.{get_or_past}
+-- What a router promises is not touched by a meeting of its ends.
+use Rattle.std.proofs.Common.{◌≡◌, ◌<◌, ℕ, suc, List, [], ◌∷◌, ◌++◌, length, All, refl, sym, ap, ◌∙◌, arith, subst}
+use Rattle.std.specs.Prelude.{filter, sum_by, Option, get_or}
 use Rattle.std.proofs.lemmas.List.Elements.{All-from_get_or}
 use Rattle.std.proofs.lemmas.List.Sums.{sum_by-cons}
 use Rattle.sb_packet.specs.Accesses.{Access}
 use Rattle.sb_packet.specs.Messages.{message_of}
 use Rattle.sb_packet.specs.Plans.{RingPlan}
-use Rattle.sb_packet.specs.Prefixes.{IsSubsequence, none}
+use Rattle.sb_packet.specs.Prefixes.{IsSubsequence}
 use Rattle.sb_packet.specs.Soundness.{IsSound}
 use Rattle.sb_packet.specs.Traffic.{IsCarriable, has_close, item_accesses, item_messages}
 use Rattle.sb_packet.specs.declared.item.Item.{Item}
 use Rattle.sb_packet.specs.declared.packet.Packet.{Packet}
 use Rattle.sb_port.specs.Ports.{IsFit, PortState, port_accesses}
-use Rattle.sb_node.specs.Sides.{offered_words}
 use Rattle.sb_router.specs.Forwarding.{AreSound, Forwards, IsLaid, Words, came_for, held_for, part, popped_for}
-use Rattle.sb_router.specs.Lanes.{InletState, LaneState, OutletState, Route, came_at, held_at, held_words, inlet_at, no_inlet, no_outlet, offered_at, outlet_at}
+use Rattle.sb_router.specs.Lanes.{InletState, LaneState, Route, came_at, held_at, held_words, inlet_at, no_inlet, no_outlet, offered_at, outlet_at}
 use Rattle.sb_router.specs.RouteOf.{route_of}
 use Rattle.sb_router.specs.Routers.{DirectionSide, ForwardsAll, IsWholeDirection}
 use Rattle.sb_router.specs.Steps.{IsSilent}
 use Rattle.sb_router.specs.Whole.{IsLast, IsWholeInlet, IsWholeLane, IsWholeOutlet}
 use Rattle.sb_router.proofs.ForwardSteps.{laid_then}
 use Rattle.sb_router.proofs.Shapes.{SameShape, passed_before}
-use Rattle.sb_net.specs.RouterEnds.{IsFreshDirection, IsRestoredDirection}
-use Rattle.sb_net.proofs.Sums.{sum_by_nothing, sum_by_same}
+use Rattle.sb_net.specs.RouterEnds.{IsRestoredDirection}
 
 -- sums over lists that are alike at each place
 sum_by_alike : (f : InletState → ℕ) (xs ys : List InletState) (d : InletState) → length xs ≡ length ys → ((i : ℕ) → i < length xs → f (get_or xs i d) ≡ f (get_or ys i d)) → sum_by f xs ≡ sum_by f ys
@@ -35,38 +31,6 @@ sum_by_alike f (x ∷ xs) (y ∷ ys) d long same =
     let rest = sum_by_alike f xs ys d (omega arith) (λ i lt. same (suc i) (omega arith)) in
     let here : f x ≡ f y = same 0 (omega arith) in
     omega (arith, sum_by-cons f x xs, sum_by-cons f y ys)
-
-module _ (words : Words) (d : DirectionSide) (fresh : IsFreshDirection d) (laid : IsLaid words (route_of d.rows) d.lane) where
-  none_offered : (o : ℕ) → offered_at d.lane o ≡ []
-  none_offered o = by_place (cases_lt o (length d.lane.outlets))
-    where
-      by_place : (o < length d.lane.outlets) ⊎ (length d.lane.outlets ≤ o) → offered_at d.lane o ≡ []
-      by_place (inl lt) = fresh.outlets o no_outlet lt
-      by_place (inr beyond) = ap (λ (y : OutletState). offered_words y.port) (get_or_past d.lane.outlets o no_outlet beyond)
-
-  none_held : (i : ℕ) → i < length d.lane.inlets → held_at d.lane i ≡ []
-  none_held i lt = ap held_words (fresh.inlets i no_inlet lt).held
-
-  none_came : (i : ℕ) → i < length d.lane.inlets → came_at d.lane i ≡ []
-  none_came i lt = ap item_accesses (fresh.inlets i no_inlet lt).received
-
-  none_held_for : (o : ℕ) → sum_by (held_for words o) d.lane.inlets ≡ 0
-  none_held_for o = sum_by_same (held_for words o) (λ x. 0) d.lane.inlets
-      (λ i e lt. ap (λ (p : Option Packet). length (filter (words.goes_to o) (held_words p))) (fresh.inlets i e lt).held) ∙ sum_by_nothing d.lane.inlets
-
-  fresh_forwards : Forwards words (route_of d.rows) d.lane
-  fresh_forwards = record {
-    few = λ o. omega (arith, ap length (none_offered o), none_held_for o);
-    picks = λ f i o passes. subst (λ (l : List Access). IsSubsequence (part words f l ++ part words f (held_at d.lane i)) (part words f (came_at d.lane i))) (sym (none_offered o))
-        (subst (λ (l : List Access). IsSubsequence (part words f l) (part words f (came_at d.lane i))) (sym (none_held i passes.inlet))
-        (subst (λ (l : List Access). IsSubsequence [] (part words f l)) (sym (none_came i passes.inlet)) none));
-    whole = λ f i o passes sound room. ap (part words f) (none_came i passes.inlet)
-        ∙ ap (λ (l : List Access). part words f l) (sym (none_held i passes.inlet))
-        ∙ ap (λ (l : List Access). part words f l ++ part words f (held_at d.lane i)) (sym (none_offered o));
-  }
-
-  pub fresh_direction : ForwardsAll words d
-  fresh_direction = record { laid = laid; forwards = fresh_forwards }
 
 module _ (before after : DirectionSide) (restored : IsRestoredDirection before after) where
   abbrev s : LaneState

@@ -1,19 +1,8 @@
--- The ends of a router's rings between its turns: as they were given to it, and as they are put back after a meeting.
-use Rattle.std.specs.Prelude.{◌≡◌, ℕ, [], length, All, None}
+-- The ends of a router's rings between its turns: as they are put back after a meeting.
+use Rattle.std.specs.Prelude.{◌≡◌, ℕ, length}
 use Rattle.sb_node.specs.Kept.{IsRestoredPort, IsRestoredRing}
-use Rattle.sb_node.specs.Sides.{offered_words}
 use Rattle.sb_router.specs.Lanes.{InletState, OutletState, inlet_at, outlet_at}
 use Rattle.sb_router.specs.Routers.{DirectionSide}
-
--- nothing came by a ring, and nothing is held of it
-pub record IsFreshInlet (x : InletState) : Type 0 where
-  pub received : x.ring.received ≡ []
-  pub held : x.held ≡ None
-
--- Nothing came by a direction's rings, and nothing was offered to its ports.
-pub record IsFreshDirection (d : DirectionSide) : Type 0 where
-  pub inlets : All IsFreshInlet d.lane.inlets
-  pub outlets : All (λ y. offered_words y.port ≡ []) d.lane.outlets
 
 -- the end of a ring that comes in was put back as it was taken out
 pub record IsRestoredInlet (before after : InletState) : Type 0 where

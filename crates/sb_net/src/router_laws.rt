@@ -17,7 +17,7 @@ ghost use Rattle.sb_net.specs.Moments.{Moment};
 ghost use Rattle.sb_net.specs.NetworkLayouts.{links_into, links_out_of, network_answers, network_requests};
 ghost use Rattle.sb_net.specs.Promises.{Forwards};
 ghost use Rattle.sb_net.specs.Routed.{IsRouted};
-ghost use Rattle.sb_net.specs.RouterEnds.{IsFreshDirection, IsRestoredDirection};
+ghost use Rattle.sb_net.specs.RouterEnds.{IsRestoredDirection};
 ghost use Rattle.sb_net.specs.RouterLayouts.{HasTable, IsBuiltFor, IsRouterAt, KeepsAlongWays, LeadsByPlans, answer_ins, answer_outs, request_ins, request_outs};
 ghost use Rattle.sb_net.specs.RouterSides.{HasLane, IsAtStage, IsIdleAtRings, IsRouterOf, ShowsLane, course_words, ring_outs};
 ghost use Rattle.sb_net.specs.Stages.{Stages};
@@ -88,12 +88,6 @@ pub fn routers_keep_promises_along_ways()
         → ((r : ℕ) → r < length network.routers
         → IsRouterAt network (network_answers network) m (answer_ins network r) (answer_outs network r) (router r))
         → KeepsAlongWays network (network_answers network) m }
-{}
-
-/// A direction at whose ends nothing happened yet has forwarded what came.
-pub fn fresh_routers_forward()
-    ensures forwards { (words : Words) (d : DirectionSide)
-        → IsFreshDirection d → IsLaid words (route_of d.rows) d.lane → ForwardsAll words d }
 {}
 
 /// Where the ends of a direction were taken out and put back, as for a meeting, it is whole and has forwarded as before.
