@@ -54,3 +54,4 @@ pub mod RouterTables
 pub mod RoutersAlongWays
 pub mod HostSides
 pub mod HostOutcomes
+pub mod HostsInNetworks

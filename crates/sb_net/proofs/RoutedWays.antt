@@ -17,17 +17,17 @@ use Rattle.sb_net.proofs.ListPlaces.{All-enumerated, AllPairs-enumerated, AllPai
 use Rattle.sb_net.proofs.WalkedWays.{walked}
 
 -- a way of a network, with the place of its host
-record HostWay (network : Network) (way : NetWay) : Type 0 where
-  place : ℕ
-  inside : place < length network.hosts
-  at : slice_get network.hosts place ≡ Some way.host
-  host : Contains network.hosts way.host
-  device : way.device < length network.devices
-  aims : aims_at network way.host way.device ≡ true
-  links : way.links ≡ way_links network place way.device
+pub record HostWay (network : Network) (way : NetWay) : Type 0 where
+  pub place : ℕ
+  pub inside : place < length network.hosts
+  pub at : slice_get network.hosts place ≡ Some way.host
+  pub host : Contains network.hosts way.host
+  pub device : way.device < length network.devices
+  pub aims : aims_at network way.host way.device ≡ true
+  pub links : way.links ≡ way_links network place way.device
 
 module _ (network : Network) where
-  all_host_ways : All (HostWay network) (network_ways network)
+  pub all_host_ways : All (HostWay network) (network_ways network)
   all_host_ways = All-joined (HostWay network) (λ p. host_ways network p.0 p.1) (enumerate_from 0 network.hosts)
       (All-enumerated (λ p. All (HostWay network) (host_ways network p.0 p.1)) 0 network.hosts (λ h host below. of_host (0 + h) (get_or network.hosts h host) (omega arith) (let same : 0 + h ≡ h = omega arith in rw same (slice_get-get_or network.hosts h host below)) (Contains-get_or network.hosts h host below)))
     where

@@ -1,6 +1,6 @@
 //! Laws of hosts as they stand in a network: they keep the promises on which whole runs rest.
 
-ghost use Rattle.std.specs.Prelude.{◌≡◌, ◌≢◌, ◌%◌, ℕ, true, List, [], All, Contains, None, Some};
+ghost use Rattle.std.specs.Prelude.{◌≡◌, ◌≢◌, ◌<◌, ◌%◌, ℕ, true, List, [], length, slice_get, All, Contains, None, Some};
 ghost use Rattle.sb_host.specs.Asked.{asked_accesses, asked_by};
 ghost use Rattle.sb_host.specs.Hosts.{HostSide, IsHostTurn, IsWholeHost};
 ghost use Rattle.sb_host.specs.Outcomes.{outcomes_so_far};
@@ -14,9 +14,11 @@ ghost use Rattle.sb_packet.specs.Outcomes.{host_outcomes};
 ghost use Rattle.sb_packet.specs.declared.entry.Entry.{Entry};
 ghost use Rattle.sb_port.specs.Ports.{IsFit};
 ghost use Rattle.sb_net.specs.Flows.{aimed_script};
-ghost use Rattle.sb_net.specs.HostSides.{IsHostOf};
+ghost use Rattle.sb_net.specs.HostSides.{IsHostAt, IsHostBuiltFor, IsHostOf};
 ghost use Rattle.sb_net.specs.Layouts.{HasScripts, IsLayout, Layout};
 ghost use Rattle.sb_net.specs.Moments.{Moment, arrived};
+ghost use Rattle.sb_net.specs.NetworkLayouts.{network_flows, network_layout};
+ghost use Rattle.sb_net.specs.Routed.{IsRouted};
 ghost use Rattle.sb_net.specs.RoundSides.{HasPort, HasRing, ShowsPort, ShowsRing};
 ghost use Rattle.sb_net.specs.Runs.{IsHost, IsMomentOf};
 ghost use Rattle.sb_net.specs.Stages.{Stages};
@@ -71,4 +73,19 @@ pub fn hosts_find_the_journals_outcomes()
     ensures table { (m : Moment) (h : HostSide) (ring : RingSide)
         → IsWholeHost h → h.answers ≡ Some ring → HasRing m h.answered_by ring
         → IsTable h.asked (arrived m h.answered_by) h.rows }
+{}
+
+/// A host that is built for a place of a network belongs to it: all its flows begin at its one ring, and all their
+/// answers come by its other.
+pub fn built_hosts_belong_to_their_networks()
+    ensures belongs { (network : Network) (place : ℕ) (host : NetHost) (h : HostSide)
+        → IsRouted network → slice_get network.hosts place ≡ Some host → IsHostBuiltFor network place h
+        → IsHostOf network (network_layout network) host h }
+{}
+
+/// Where each host stands so in its network, each flow's host keeps its promise: all that whole runs ask of hosts.
+pub fn hosts_keep_promises_for_all_flows()
+    ensures promises { (network : Network) (m : Moment) (host : ℕ → HostSide)
+        → IsRouted network → ((n : ℕ) → n < length network.hosts → IsHostAt network m n (host n))
+        → All (IsHost network (network_layout network) m) (network_flows network) }
 {}
