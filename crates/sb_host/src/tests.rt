@@ -1,7 +1,7 @@
 //! What a host makes of answers, whatever their order.
 
-ghost use Rattle.std.specs.Prelude.{◌≡◌, ◌≤◌, ◌<◌, ◌+◌, ◌*◌, ◌%◌, ◌^◌, List, IfOk, false, length, replicate};
-ghost use Rattle.sb_packet.specs.Journals.{is_request};
+ghost use Rattle.std.specs.Prelude.{◌≡◌, ◌≤◌, ◌<◌, ◌+◌, ◌*◌, ◌%◌, ◌^◌, List, IfOk, length, replicate};
+ghost use Rattle.sb_packet.specs.Messages.{atomic_type_of};
 ghost use Rattle.sb_packet.specs.Accesses.{Access};
 ghost use Rattle.sb_packet.specs.Scripts.{IsTransaction};
 ghost use Rattle.sb_host.specs.Places.{AreIssuable, asked_of};
@@ -54,35 +54,53 @@ fn write(alloc: Global, kind: Kind, aimed: bool) -> Result<Line, AllocError>
     })
 }
 
-/// A packet of 32 bytes that answers host 1, at that place of its addresses.
-fn answer(op: Op, size: u8, len: u8, tail: u8, place: u64, byte: u8) -> Packet
-    requires answers { is_request op ≡ false }
-    requires size { size ≤ 3 }
+/// The command of an answer to host 1, of four words of 8 bytes.
+fn command(op: Op, tail: u8) -> Cmd
+    requires plain { atomic_type_of op 3 ≡ 0 }
     requires tail { tail ≤ 3 }
-    requires span { (len + 1) * 2 ^ size ≡ 32 }
-    requires aligned { place % 8 ≡ 0 }
-    requires range { place ≤ 2 ^ 32 }
+    ensures op { result.op ≡ op }
+    ensures size { result.size ≡ 3 }
+    ensures len { result.len ≡ 3 }
 {
-    let body = match op {
-        Op::RespRd => [byte; 32],
-        _ => [0; 32],
-    };
+    Cmd {
+        op,
+        size: 3,
+        len: 3,
+        qos: 0,
+        prot: 0,
+        eom: true,
+        eof: false,
+        ex: false,
+        tail,
+        host: 1,
+    }
+}
+
+/// Four words of 8 bytes that answer host 1, at that place of its addresses.
+fn bytes(place: u64, tail: u8, byte: u8) -> Packet
+    requires aligned { place % 8 ≡ 0 }
+    requires range { place ≤ 8192 }
+    requires tail { tail ≤ 3 }
+{
     Packet {
-        cmd: Cmd {
-            op,
-            size,
-            len,
-            qos: 0,
-            prot: 0,
-            eom: true,
-            eof: false,
-            ex: false,
-            tail,
-            host: 1,
-        },
+        cmd: command(Op::RespRd, tail),
         dst: REPLIES + place,
         src: 0x1000,
-        body,
+        body: [byte; 32],
+    }
+}
+
+/// The answer to four words that were written.
+fn written(place: u64, tail: u8) -> Packet
+    requires aligned { place % 8 ≡ 0 }
+    requires range { place ≤ 8192 }
+    requires tail { tail ≤ 3 }
+{
+    Packet {
+        cmd: command(Op::RespWr, tail),
+        dst: REPLIES + place,
+        src: 0x1000,
+        body: [0; 32],
     }
 }
 
@@ -140,10 +158,10 @@ fn answers_come_in_any_order(rt: HostRuntime) -> Result<(), Fail> {
     assert_eq!(rt; states(&table, &orders, 0), [WAITING, WAITING, TxnState::Posted, WAITING]);
     // the second half of the read before the first, and each of them twice: the first counts
     let late = [
-        answer(Op::RespRd, 3, 3, 2, 32, 5),
-        answer(Op::RespRd, 3, 3, 3, 32, 6),
-        answer(Op::RespRd, 3, 3, 0, 0, 4),
-        answer(Op::RespRd, 3, 3, 3, 0, 9),
+        bytes(32, 2, 5),
+        bytes(32, 3, 6),
+        bytes(0, 0, 4),
+        bytes(0, 3, 9),
     ];
     take_all(&mut table, &orders, &late);
     let refused = TxnState::Answered { code: Code::DevErr };
@@ -161,19 +179,18 @@ fn other_words_are_dropped(rt: HostRuntime) -> Result<(), Fail> {
     let orders = orders(alloc)?;
     let mut table = Table::new(alloc, &orders)?;
     let strays = [
-        // another opcode, and another size
-        answer(Op::RespWr, 3, 3, 1, 0, 0),
-        answer(Op::RespRd, 2, 7, 1, 0, 1),
-        answer(Op::RespRd, 3, 3, 1, 2048, 1),
+        // of another opcode
+        written(0, 1),
+        bytes(2048, 1, 1),
         // the posted write, the read that is aimed at no device, and what nobody asked for
-        answer(Op::RespWr, 3, 3, 1, 4096, 0),
-        answer(Op::RespRd, 3, 3, 1, 6144, 1),
-        answer(Op::RespRd, 3, 3, 1, 8192, 1),
-        answer(Op::RespRd, 3, 3, 1, 64, 1),
+        written(4096, 1),
+        bytes(6144, 1, 1),
+        bytes(8192, 1, 1),
+        bytes(64, 1, 1),
     ];
     take_all(&mut table, &orders, &strays);
     assert_eq!(rt; states(&table, &orders, 0), [WAITING, WAITING, TxnState::Posted, WAITING]);
-    let write = [answer(Op::RespWr, 3, 3, 1, 2048, 0)];
+    let write = [written(2048, 1)];
     take_all(&mut table, &orders, &write);
     let answered = TxnState::Answered { code: Code::ExOk };
     assert_eq!(rt; states(&table, &orders, 3), [WAITING, answered, TxnState::Posted, WAITING]);
