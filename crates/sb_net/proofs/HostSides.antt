@@ -39,7 +39,7 @@ at_listed P xs x all inside = subst P inside.2 (all inside.0 x inside.1)
 
 module _ (network : Network) where
   -- a device has the address of a word
-  abbrev is_aimed : Access → Bool
+  abbrev pub is_aimed : Access → Bool
   is_aimed a = option_map_or (λ d. true) (device_at network a.dst) false
 
   module _ (pages : All (λ d. d.base % 4096 ≡ 0) network.devices) (host : NetHost) where

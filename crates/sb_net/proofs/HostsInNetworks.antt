@@ -14,7 +14,7 @@ use Rattle.sb_net.specs.Courses.{last_of}
 use Rattle.sb_net.specs.HostSides.{IsHostAt, IsHostBuiltFor, IsHostOf}
 use Rattle.sb_net.specs.Layouts.{ring_home}
 use Rattle.sb_net.specs.Moments.{Moment}
-use Rattle.sb_net.specs.NetworkLayouts.{answer_ring, flow_of, network_flows, network_layout, request_ring}
+use Rattle.sb_net.specs.NetworkLayouts.{answer_ring, flow_of, network_flows, network_layout, request_ring, ring_count}
 use Rattle.sb_net.specs.Routed.{IsRouted}
 use Rattle.sb_net.specs.Runs.{IsHost}
 use Rattle.sb_net.proofs.HostSides.{host_promise}
@@ -47,16 +47,19 @@ module _ (network : Network) (routed : IsRouted network) where
       by_order (inr more) (inl less) = absurd (apart j i y x there at less (sym same))
       by_order (inr more) (inr less) = omega (arith, more, less)
 
-  module _ (place : ℕ) (host : NetHost) (h : HostSide) (at : slice_get network.hosts place ≡ Some host) (built : IsHostBuiltFor network place h) where
-    inside : place < length network.hosts
+  module _ (place : ℕ) (host : NetHost) (at : slice_get network.hosts place ≡ Some host) where
+    pub inside : place < length network.hosts
     inside = got_below network.hosts place host at
 
     -- the link from the host
-    abbrev link : ℕ
+    abbrev pub link : ℕ
     link = (routed.first place inside).0
 
-    first : first_link network place ≡ Some link
+    pub first : first_link network place ≡ Some link
     first = (routed.first place inside).1.first
+
+    pub first_link_there : request_ring link < ring_count network
+    first_link_there = let there = (routed.first place inside).1.there in omega (arith, there)
 
     -- each way of the host begins with it
     begins : (way : NetWay) → HostWay network way → flow_links network (flow_of way) ≡ way.links → way.host.id ≡ host.id →
@@ -65,23 +68,23 @@ module _ (network : Network) (routed : IsRouted network) where
         found ∙ w.links ∙ ap (λ (p : ℕ). way_links network p way.device) (one_place w.place place way.host host w.at at mine)
         ∙ ap (links_from (suc (length network.routers)) network way.device) first
 
-    way_asks : All (λ way. way.host.id ≡ host.id → (network_layout network).requests.first (flow_of way) ≡ h.asks_by) (network_ways network)
-    way_asks k d below mine =
+    pub way_first : All (λ way. way.host.id ≡ host.id → (network_layout network).requests.first (flow_of way) ≡ request_ring link) (network_ways network)
+    way_first k d below mine =
         let way = get_or (network_ways network) k d in
-        ap (λ (l : List ℕ). request_ring (slice_index_or l 0 0)) (begins way (all_host_ways network k d below) (found_ways network routed.scripts.ids k d below) mine) ∙ sym (built.asks_by link first)
+        ap (λ (l : List ℕ). request_ring (slice_index_or l 0 0)) (begins way (all_host_ways network k d below) (found_ways network routed.scripts.ids k d below) mine)
 
-    way_answered : All (λ way. way.host.id ≡ host.id → ring_home (network_layout network) (flow_of way) ≡ h.answered_by) (network_ways network)
-    way_answered k d below mine =
+    way_home : All (λ way. way.host.id ≡ host.id → ring_home (network_layout network) (flow_of way) ≡ answer_ring link) (network_ways network)
+    way_home k d below mine =
         let way = get_or (network_ways network) k d in
         ap (λ (l : List ℕ). last_of (answer_ring (slice_index_or (reverse l) 0 0)) (map answer_ring (drop 1 (reverse l)))) (begins way (all_host_ways network k d below) (found_ways network routed.scripts.ids k d below) mine)
-        ∙ home_ring link (links_from (length network.routers) network way.device (next_link network way.device link)) ∙ sym (built.answered_by link first)
+        ∙ home_ring link (links_from (length network.routers) network way.device (next_link network way.device link))
 
-    pub belongs : IsHostOf network (network_layout network) host h
-    belongs = record {
+    pub belongs : (h : HostSide) → IsHostBuiltFor network place h → IsHostOf network (network_layout network) host h
+    belongs h built = record {
       listed = (place, inside, get_or_from_slice_get network.hosts place host host at);
       asked = built.asked host at;
-      asks = All-map (λ f. f.host ≡ host.id → (network_layout network).requests.first f ≡ h.asks_by) flow_of (network_ways network) way_asks;
-      answered = All-map (λ f. f.host ≡ host.id → ring_home (network_layout network) f ≡ h.answered_by) flow_of (network_ways network) way_answered;
+      asks = All-map (λ f. f.host ≡ host.id → (network_layout network).requests.first f ≡ h.asks_by) flow_of (network_ways network) (λ k d below mine. way_first k d below mine ∙ sym (built.asks_by link first));
+      answered = All-map (λ f. f.host ≡ host.id → ring_home (network_layout network) f ≡ h.answered_by) flow_of (network_ways network) (λ k d below mine. way_home k d below mine ∙ sym (built.answered_by link first));
     }
 
   -- where each host stands so, each flow's host keeps its promise
@@ -92,6 +95,6 @@ module _ (network : Network) (routed : IsRouted network) where
       let w = all_host_ways network k d below in
       let n = w.place in
       let s = stand n w.inside in
-      let of_all = host_promise network (network_layout network) m way.host (hosts n) s.whole.port routed.scripts routed.pages (belongs n way.host (hosts n) w.at s.built) s.whole s.whole.has_port (s.has s.whole.port s.whole.has_port) in
+      let of_all = host_promise network (network_layout network) m way.host (hosts n) s.whole.port routed.scripts routed.pages (belongs n way.host w.at (hosts n) s.built) s.whole s.whole.has_port (s.has s.whole.port s.whole.has_port) in
       let at = of_all k (flow_of d) (omega (arith, below, length-map (network_ways network) flow_of)) in
       subst (λ (f : NetFlow). f.host ≡ way.host.id → IsHost network (network_layout network) m f) (get_or-map flow_of (network_ways network) k d (flow_of d) below) at refl)

@@ -55,3 +55,4 @@ pub mod RoutersAlongWays
 pub mod HostSides
 pub mod HostOutcomes
 pub mod HostsInNetworks
+pub mod HostRooms

@@ -1,6 +1,6 @@
 //! Laws of hosts as they stand in a network: they keep the promises on which whole runs rest.
 
-ghost use Rattle.std.specs.Prelude.{◌≡◌, ◌≢◌, ◌<◌, ◌%◌, ℕ, true, List, [], length, slice_get, All, Contains, None, Some};
+ghost use Rattle.std.specs.Prelude.{◌≡◌, ◌≢◌, ◌≤◌, ◌<◌, ◌%◌, ℕ, true, List, [], length, slice_get, All, Contains, None, Some};
 ghost use Rattle.sb_host.specs.Asked.{asked_accesses, asked_by};
 ghost use Rattle.sb_host.specs.Hosts.{HostSide, IsHostTurn, IsWholeHost};
 ghost use Rattle.sb_host.specs.Outcomes.{outcomes_so_far};
@@ -11,13 +11,15 @@ ghost use Rattle.sb_link.specs.declared.answers.Turn.TheVariants.{Moved};
 ghost use Rattle.sb_node.specs.Sides.{PortSide, RingSide, received_words};
 ghost use Rattle.sb_packet.specs.Networks.{NetHost, Network};
 ghost use Rattle.sb_packet.specs.Outcomes.{host_outcomes};
+ghost use Rattle.sb_packet.specs.Rings.{ring_budget};
+ghost use Rattle.sb_packet.specs.Ways.{first_link};
 ghost use Rattle.sb_packet.specs.declared.entry.Entry.{Entry};
 ghost use Rattle.sb_port.specs.Ports.{IsFit};
 ghost use Rattle.sb_net.specs.Flows.{aimed_script};
 ghost use Rattle.sb_net.specs.HostSides.{IsHostAt, IsHostBuiltFor, IsHostOf};
 ghost use Rattle.sb_net.specs.Layouts.{HasScripts, IsLayout, Layout};
 ghost use Rattle.sb_net.specs.Moments.{Moment, arrived};
-ghost use Rattle.sb_net.specs.NetworkLayouts.{network_flows, network_layout};
+ghost use Rattle.sb_net.specs.NetworkLayouts.{network_flows, network_layout, request_ring};
 ghost use Rattle.sb_net.specs.Routed.{IsRouted};
 ghost use Rattle.sb_net.specs.RoundSides.{HasPort, HasRing, ShowsPort, ShowsRing};
 ghost use Rattle.sb_net.specs.Runs.{IsHost, IsMomentOf};
@@ -88,4 +90,11 @@ pub fn hosts_keep_promises_for_all_flows()
     ensures promises { (network : Network) (m : Moment) (host : ℕ → HostSide)
         → IsRouted network → ((n : ℕ) → n < length network.hosts → IsHostAt network m n (host n))
         → All (IsHost network (network_layout network) m) (network_flows network) }
+{}
+
+/// The ring from a host has room for all words that the host asks of devices: they are the words of the ring's flows.
+pub fn host_rings_have_room()
+    ensures room { (network : Network) (place k : ℕ) (host : NetHost)
+        → IsRouted network → slice_get network.hosts place ≡ Some host → first_link network place ≡ Some k
+        → length (asked_accesses (asked_by network host)) ≤ ring_budget network (request_ring k) }
 {}
