@@ -1,6 +1,6 @@
 -- Hosts as they stand in a network keep the promises of whole runs.
 use Rattle.std.proofs.Common.{◌≡◌, ◌≢◌, ◌<◌, ℕ, Bool, ◌+◌, ◌%◌, true, false, List, [], ◌∷◌, ◌++◌, length, refl, sym, ap, ◌∙◌, arith, subst, inl, inr, drop}
-use Rattle.std.specs.Prelude.{◌⊎◌, ◌==◌, filter, flat_map, map, All, Contains, Option, Some, None, is_some, get_or, if◌then◌else◌}
+use Rattle.std.specs.Prelude.{◌⊎◌, ◌==◌, filter, flat_map, map, All, Contains, Option, Some, None, is_some, get_or, slice_get, if◌then◌else◌}
 use Rattle.std.specs.List.{enumerate_from, find}
 use Rattle.std.specs.Option.{option_map_or}
 use Rattle.std.proofs.lemmas.List.{drop_all, append-nil}
@@ -12,19 +12,21 @@ use Rattle.sb_packet.specs.Messages.{Message}
 use Rattle.sb_packet.specs.Networks.{NetHost, Network, device_at}
 use Rattle.sb_packet.specs.Scripts.{IsTransaction, transaction_accesses, transaction_message, script_accesses}
 use Rattle.sb_packet.specs.Traffic.{has_close, item_accesses}
+use Rattle.sb_packet.specs.Ways.{first_link}
 use Rattle.sb_packet.specs.declared.transaction.Txn.{Txn}
 use Rattle.sb_packet.proofs.Lists.{All-made, filter_all, filter_none}
 use Rattle.sb_port.specs.Ports.{IsFit}
 use Rattle.sb_node.specs.Sides.{PortSide, RingSide, has_ended, has_rest, is_drained, is_full, offered_words, received_words}
 use Rattle.sb_host.specs.Asked.{Asked, accesses_from, asked_accesses, asked_by, line_in, packets_from, sent_accesses}
-use Rattle.sb_host.specs.Hosts.{HostSide, IsHostTurn, IsInOrder, IsWholeHost}
+use Rattle.sb_host.specs.Hosts.{HostSide, IsHostTurn, IsInOrder, IsKeptHost, IsWholeHost}
 use Rattle.sb_host.specs.Issuing.{packets_left}
 use Rattle.sb_host.specs.Rows.{IsTable}
 use Rattle.sb_host.specs.Steps.{IsIdleHost}
 use Rattle.sb_net.specs.Flows.{aimed_script}
-use Rattle.sb_net.specs.HostSides.{IsHostOf}
+use Rattle.sb_net.specs.HostSides.{IsHostBuiltFor, IsHostOf}
 use Rattle.sb_net.specs.Layouts.{HasScripts, Layout}
 use Rattle.sb_net.specs.Moments.{Moment, arrived}
+use Rattle.sb_net.specs.NetworkLayouts.{answer_ring, request_ring}
 use Rattle.sb_net.specs.RoundSides.{HasPort, HasRing, ShowsPort, ShowsRing}
 use Rattle.sb_net.specs.Runs.{IsHost}
 use Rattle.sb_net.specs.Stages.{Stages}
@@ -136,3 +138,21 @@ pub table_of_ring : (m : Moment) (h : HostSide) (ring : RingSide) → IsWholeHos
 table_of_ring m h ring whole here got =
     let same : received_words whole.ring ≡ arrived m h.answered_by = ap received_words (one_there h.answers whole.ring ring whole.has_ring here) ∙ ap item_accesses (sym got.received) in
     subst (λ (l : List Access). IsTable h.asked l h.rows) same whole.in_order.table
+
+-- a host at the rings of the link from a place is built for it
+pub is_built : (network : Network) (place : ℕ) (h : HostSide) (port : PortSide) (ring : RingSide) → IsWholeHost h → h.requests ≡ Some port → h.answers ≡ Some ring →
+    ((host : NetHost) → slice_get network.hosts place ≡ Some host → h.asked ≡ asked_by network host) →
+    ((k : ℕ) → first_link network place ≡ Some k → port.plan.ring ≡ request_ring k) →
+    ((k : ℕ) → first_link network place ≡ Some k → ring.plan.ring ≡ answer_ring k) → IsHostBuiltFor network place h
+is_built network place h port ring whole there here asked asks_by answered_by = record {
+  asked = asked;
+  asks_by = λ k e. sym whole.port_number ∙ ap (λ (p : PortSide). p.plan.ring) (one_there h.requests whole.port port whole.has_port there) ∙ asks_by k e;
+  answered_by = λ k e. sym whole.ring_number ∙ ap (λ (r : RingSide). r.plan.ring) (one_there h.answers whole.ring ring whole.has_ring here) ∙ answered_by k e;
+}
+
+pub stays_built : (network : Network) (place : ℕ) (before after : HostSide) → IsKeptHost before after → IsHostBuiltFor network place before → IsHostBuiltFor network place after
+stays_built network place before after kept built = record {
+  asked = λ host at. kept.asked ∙ built.asked host at;
+  asks_by = λ k e. kept.asks_by ∙ built.asks_by k e;
+  answered_by = λ k e. kept.answered_by ∙ built.answered_by k e;
+}

@@ -2,7 +2,7 @@
 
 ghost use Rattle.std.specs.Prelude.{◌≡◌, ◌≢◌, ◌≤◌, ◌<◌, ◌%◌, ℕ, true, List, [], length, slice_get, All, Contains, None, Some};
 ghost use Rattle.sb_host.specs.Asked.{asked_accesses, asked_by};
-ghost use Rattle.sb_host.specs.Hosts.{HostSide, IsHostTurn, IsWholeHost};
+ghost use Rattle.sb_host.specs.Hosts.{HostSide, IsHostTurn, IsKeptHost, IsWholeHost};
 ghost use Rattle.sb_host.specs.Outcomes.{outcomes_so_far};
 ghost use Rattle.sb_host.specs.Rows.{IsTable};
 ghost use Rattle.sb_host.specs.Steps.{IsIdleHost};
@@ -19,7 +19,7 @@ ghost use Rattle.sb_net.specs.Flows.{aimed_script};
 ghost use Rattle.sb_net.specs.HostSides.{IsHostAt, IsHostBuiltFor, IsHostOf};
 ghost use Rattle.sb_net.specs.Layouts.{HasScripts, IsLayout, Layout};
 ghost use Rattle.sb_net.specs.Moments.{Moment, arrived};
-ghost use Rattle.sb_net.specs.NetworkLayouts.{network_flows, network_layout, request_ring};
+ghost use Rattle.sb_net.specs.NetworkLayouts.{answer_ring, network_flows, network_layout, request_ring};
 ghost use Rattle.sb_net.specs.Routed.{IsRouted};
 ghost use Rattle.sb_net.specs.RoundSides.{HasPort, HasRing, ShowsPort, ShowsRing};
 ghost use Rattle.sb_net.specs.Runs.{IsHost, IsMomentOf};
@@ -77,9 +77,18 @@ pub fn hosts_find_the_journals_outcomes()
         → IsTable h.asked (arrived m h.answered_by) h.rows }
 {}
 
-/// A host that is built for a place of a network belongs to it: all its flows begin at its one ring, and all their
+/// A whole host at the two rings of the link from a place of a network, which asks for the script there, is built for
+/// that place, and stays so in its turns. It belongs to the network: all its flows begin at its one ring, and all their
 /// answers come by its other.
 pub fn built_hosts_belong_to_their_networks()
+    ensures built { (network : Network) (place : ℕ) (h : HostSide) (port : PortSide) (ring : RingSide)
+        → IsWholeHost h → h.requests ≡ Some port → h.answers ≡ Some ring
+        → ((host : NetHost) → slice_get network.hosts place ≡ Some host → h.asked ≡ asked_by network host)
+        → ((k : ℕ) → first_link network place ≡ Some k → port.plan.ring ≡ request_ring k)
+        → ((k : ℕ) → first_link network place ≡ Some k → ring.plan.ring ≡ answer_ring k)
+        → IsHostBuiltFor network place h }
+    ensures kept { (network : Network) (place : ℕ) (before after : HostSide)
+        → IsKeptHost before after → IsHostBuiltFor network place before → IsHostBuiltFor network place after }
     ensures belongs { (network : Network) (place : ℕ) (host : NetHost) (h : HostSide)
         → IsRouted network → slice_get network.hosts place ≡ Some host → IsHostBuiltFor network place h
         → IsHostOf network (network_layout network) host h }
