@@ -1,14 +1,12 @@
 -- Hosts as they stand in a network keep the promises of whole runs.
-use Rattle.std.proofs.Common.{◌≡◌, ◌≢◌, ◌<◌, ℕ, Bool, ◌+◌, ◌%◌, true, false, List, [], ◌∷◌, ◌++◌, length, refl, sym, ap, ◌∙◌, arith, subst, inl, inr, drop}
+use Rattle.std.proofs.Common.{◌≡◌, ◌≢◌, ◌<◌, ℕ, Bool, ◌+◌, ◌%◌, true, false, List, [], ◌∷◌, ◌++◌, length, refl, sym, ap, ◌∙◌, subst, inl, inr}
 use Rattle.std.specs.Prelude.{◌⊎◌, ◌==◌, filter, flat_map, map, All, Contains, Option, Some, None, is_some, get_or, slice_get, if◌then◌else◌}
 use Rattle.std.specs.List.{enumerate_from, find}
 use Rattle.std.specs.Option.{option_map_or}
-use Rattle.std.proofs.lemmas.List.{drop_all, append-nil}
 use Rattle.std.proofs.lemmas.List.Elements.{All-head, All-tail, filter-append}
-use Rattle.sb_packet.specs.Accesses.{Access, access_at, message_accesses}
+use Rattle.sb_packet.specs.Accesses.{Access, access_at}
 use Rattle.sb_link.specs.declared.answers.Turn.{Turn}
 use Rattle.sb_link.specs.declared.answers.Turn.TheVariants.{Moved}
-use Rattle.sb_packet.specs.Messages.{Message}
 use Rattle.sb_packet.specs.Networks.{NetHost, Network, device_at}
 use Rattle.sb_packet.specs.Scripts.{IsTransaction, transaction_accesses, transaction_message, script_accesses}
 use Rattle.sb_packet.specs.Traffic.{has_close, item_accesses}
@@ -17,11 +15,11 @@ use Rattle.sb_packet.specs.declared.transaction.Txn.{Txn}
 use Rattle.sb_packet.proofs.Lists.{All-made, filter_all, filter_none}
 use Rattle.sb_port.specs.Ports.{IsFit}
 use Rattle.sb_node.specs.Sides.{PortSide, RingSide, has_ended, has_rest, is_drained, is_full, offered_words, received_words}
-use Rattle.sb_host.specs.Asked.{Asked, accesses_from, asked_accesses, asked_by, line_in, packets_from, sent_accesses}
-use Rattle.sb_host.specs.Hosts.{HostSide, IsHostTurn, IsInOrder, IsKeptHost, IsWholeHost}
-use Rattle.sb_host.specs.Issuing.{packets_left}
+use Rattle.sb_host.specs.Asked.{accesses_from, asked_accesses, asked_by, line_in, sent_accesses}
+use Rattle.sb_host.specs.Hosts.{HostSide, IsHostTurn, IsKeptHost, IsWholeHost}
 use Rattle.sb_host.specs.Rows.{IsTable}
 use Rattle.sb_host.specs.Steps.{IsIdleHost}
+use Rattle.sb_host.proofs.Offering.{closes_behind_all, offers_in_order}
 use Rattle.sb_net.specs.Flows.{aimed_script}
 use Rattle.sb_net.specs.HostSides.{IsHostBuiltFor, IsHostOf}
 use Rattle.sb_net.specs.Layouts.{HasScripts, Layout}
@@ -74,13 +72,6 @@ module _ (network : Network) where
       aimed_lines pages host 0 host.script (at_listed (λ h. All IsTransaction h.script) network.hosts host scripts.transactions inside)
       ∙ ap (λ (o : Option NetHost). filter is_aimed (option_map_or script_accesses o [])) (sym (at_listed (λ h. find (λ x. x.id == h.id) network.hosts ≡ Some h) network.hosts host (found_by_id network.hosts scripts.ids) inside))
 
--- a host that told its port to close has offered all
-all_offered : (asked : Asked) (rows : _) (next part : ℕ) (ended : _) (port : PortSide) (ring : RingSide) → IsInOrder asked rows next part ended port ring → port.state.closing ≡ true → offered_words port ≡ asked_accesses asked
-all_offered asked rows next part ended port ring is told =
-    let none : packets_from asked next (drop next asked.lines) ≡ [] = ap (packets_from asked next) (drop_all next asked.lines (let all = is.closes told in omega arith)) in
-    let none_left : packets_left asked next part ≡ [] = ap (drop part) none ∙ drop_all part [] (omega arith) in
-    sym (append-nil (offered_words port)) ∙ ap (λ (l : List Message). offered_words port ++ flat_map message_accesses l) (sym none_left) ∙ is.offered
-
 -- what stands at a place is one thing
 one_there : {X : Type 0} (o : Option X) (x y : X) → o ≡ Some x → o ≡ Some y → x ≡ y
 one_there o x y a b = let same : Some x ≡ Some y = sym a ∙ b in cc
@@ -91,12 +82,12 @@ host_promise network layout m host h port scripts pages of whole there has k f b
     let flow = get_or layout.requests.flows k f in
     let first : layout.requests.first flow ≡ h.asks_by = of.asks k f below mine in
     let script : asked_accesses h.asked ≡ aimed_script network flow.host = ap asked_accesses of.asked ∙ asked_script network host scripts pages of.listed ∙ ap (aimed_script network) (sym mine) in
-    let same : whole.port ≡ port = one_there h.requests whole.port port whole.has_port there in
-    let offered : m.offered (layout.requests.first flow) ≡ offered_words whole.port = ap m.offered first ∙ has.offered ∙ ap offered_words (sym same) in
-    let sent : m.sent (layout.requests.first flow) ≡ whole.port.state.sent = ap m.sent first ∙ has.sent ∙ ap (λ (p : PortSide). p.state.sent) (sym same) in
+    let offered : m.offered (layout.requests.first flow) ≡ offered_words port = ap m.offered first ∙ has.offered in
+    let sent : m.sent (layout.requests.first flow) ≡ port.state.sent = ap m.sent first ∙ has.sent in
+    let begins = offers_in_order h port whole there in
     record {
-      in_order = record { rest = flat_map message_accesses (packets_left h.asked h.next h.part); joined = ap (λ (l : List Access). l ++ flat_map message_accesses (packets_left h.asked h.next h.part)) offered ∙ whole.in_order.offered ∙ script };
-      closed = λ shut. offered ∙ all_offered h.asked h.rows h.next h.part h.ended whole.port whole.ring whole.in_order (whole.fit.told (whole.fit.close ∙ ap has_close (sym sent) ∙ shut)) ∙ script;
+      in_order = record { rest = begins.rest; joined = ap (λ (l : List Access). l ++ begins.rest) offered ∙ begins.joined ∙ script };
+      closed = λ shut. offered ∙ closes_behind_all h port whole there (ap has_close (sym sent) ∙ shut) ∙ script;
     }
 
 pub idle_host_sends : (stages : Stages) (s : RoundEnd) (r : ℕ) (port : PortSide) (ring : RingSide) → ShowsPort s r port → stages.leaves_host r ≡ true → IsFit port.plan port.state → IsIdleHost port ring → IsIdleSender stages s r
