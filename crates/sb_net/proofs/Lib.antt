@@ -56,3 +56,5 @@ pub mod HostSides
 pub mod HostOutcomes
 pub mod HostsInNetworks
 pub mod HostRooms
+pub mod HostParts
+pub mod HostPackets

@@ -83,7 +83,7 @@ flow_of_allowed flows m e = by_home (goes_home m) e
     by_home false e = absurd (cc)
 
 -- a span that a range holds has each of its addresses there
-in_span : (base size address span x : ℕ) → (nat_le base address && nat_le (address + span) (base + size)) ≡ true → x < span → (nat_le base (address + x) && nat_lt (address + x) (base + size)) ≡ true
+pub in_span : (base size address span x : ℕ) → (nat_le base address && nat_le (address + span) (base + size)) ≡ true → x < span → (nat_le base (address + x) && nat_lt (address + x) (base + size)) ≡ true
 in_span base size address span x e below =
     let parts = and_parts (nat_le base address) (nat_le (address + span) (base + size)) e in
     let low_test = parts.0 in

@@ -1,6 +1,6 @@
 //! Laws of hosts as they stand in a network: they keep the promises on which whole runs rest.
 
-ghost use Rattle.std.specs.Prelude.{◌≡◌, ◌≢◌, ◌≤◌, ◌<◌, ◌%◌, ℕ, true, List, [], length, slice_get, All, Contains, None, Some};
+ghost use Rattle.std.specs.Prelude.{◌≡◌, ◌≢◌, ◌≤◌, ◌<◌, ◌%◌, ℕ, true, false, List, [], length, slice_get, All, Contains, None, Some};
 ghost use Rattle.sb_host.specs.Asked.{asked_accesses, asked_by};
 ghost use Rattle.sb_host.specs.Hosts.{HostSide, IsHostTurn, IsKeptHost, IsWholeHost};
 ghost use Rattle.sb_host.specs.Outcomes.{outcomes_so_far};
@@ -9,9 +9,14 @@ ghost use Rattle.sb_host.specs.Steps.{IsIdleHost};
 ghost use Rattle.sb_link.specs.declared.answers.Turn.{Turn};
 ghost use Rattle.sb_link.specs.declared.answers.Turn.TheVariants.{Moved};
 ghost use Rattle.sb_node.specs.Sides.{PortSide, RingSide, received_words};
-ghost use Rattle.sb_packet.specs.Networks.{NetHost, Network};
+ghost use Rattle.sb_packet.specs.Networks.{NetHost, Network, device_at};
 ghost use Rattle.sb_packet.specs.Outcomes.{host_outcomes};
-ghost use Rattle.sb_packet.specs.Rings.{ring_budget};
+ghost use Rattle.sb_packet.specs.Rings.{is_upward, ring_budget, ring_flows, ring_plan};
+ghost use Rattle.sb_packet.specs.Cuts.{transaction_packets};
+ghost use Rattle.sb_packet.specs.Plans.{goes_through};
+ghost use Rattle.sb_packet.specs.Scripts.{IsTransaction};
+ghost use Rattle.sb_packet.specs.Traffic.{IsPlanned};
+ghost use Rattle.sb_packet.specs.declared.transaction.Txn.{Txn};
 ghost use Rattle.sb_packet.specs.Ways.{first_link};
 ghost use Rattle.sb_packet.specs.declared.entry.Entry.{Entry};
 ghost use Rattle.sb_port.specs.Ports.{IsFit};
@@ -106,4 +111,13 @@ pub fn host_rings_have_room()
     ensures room { (network : Network) (place k : ℕ) (host : NetHost)
         → IsRouted network → slice_get network.hosts place ≡ Some host → first_link network place ≡ Some k
         → length (asked_accesses (asked_by network host)) ≤ ring_budget network (request_ring k) }
+{}
+
+/// A ring of requests over which a host's flow to a device goes is made for each packet of each of the host's
+/// transactions that are aimed at the device.
+pub fn rings_are_made_for_packets()
+    ensures planned { (network : Network) (host : NetHost) (i d ring : ℕ) (t : Txn)
+        → IsRouted network → IsTransaction t → device_at network t.addr ≡ Some d → is_upward ring ≡ false
+        → goes_through (ring_flows network ring) (record { host = host.id; device = d }) ≡ true
+        → All (IsPlanned (ring_plan network ring)) (transaction_packets host i t) }
 {}
