@@ -11,3 +11,4 @@ pub mod Turning
 pub mod Beginning
 pub mod Restored
 pub mod Offering
+pub mod PlannedParts
