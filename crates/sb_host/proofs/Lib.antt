@@ -12,3 +12,4 @@ pub mod Beginning
 pub mod Restored
 pub mod Offering
 pub mod PlannedParts
+pub mod OwnWays
