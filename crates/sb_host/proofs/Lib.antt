@@ -13,3 +13,4 @@ pub mod Restored
 pub mod Offering
 pub mod PlannedParts
 pub mod OwnWays
+pub mod MadeRings
