@@ -63,22 +63,22 @@ begins_in_order asked rows port ring issuable made state received table = record
 }
 
 -- what all pass one passes
-passes_at : {X : Type 0} (test : X → Bool) (xs : List X) (i : ℕ) (d : X) → list_all test xs ≡ true → i < length xs → test (get_or xs i d) ≡ true
+pub passes_at : {X : Type 0} (test : X → Bool) (xs : List X) (i : ℕ) (d : X) → list_all test xs ≡ true → i < length xs → test (get_or xs i d) ≡ true
 passes_at test [] i d all below = absurd (omega arith)
 passes_at test (x ∷ xs) zero d all below = (both_true (test x) (list_all test xs) all).0
 passes_at test (x ∷ xs) (suc i) d all below = passes_at test xs i d (both_true (test x) (list_all test xs) all).1 (omega arith)
 
-host_limits : (network : Network) → is_limited network ≡ true → list_all is_limited_host network.hosts ≡ true
+pub host_limits : (network : Network) → is_limited network ≡ true → list_all is_limited_host network.hosts ≡ true
 host_limits network h = grind (arith, h)
 
 -- the limits of a host of a bundle
-record HasLimits (h : NetHost) : Type 0 where
-  id : h.id ≤ 31
-  qos : h.qos ≤ 15
-  prot : h.prot ≤ 3
-  few : length h.script ≤ 65536
+pub record HasLimits (h : NetHost) : Type 0 where
+  pub id : h.id ≤ 31
+  pub qos : h.qos ≤ 15
+  pub prot : h.prot ≤ 3
+  pub few : length h.script ≤ 65536
 
-limits_of : (h : NetHost) → is_limited_host h ≡ true → HasLimits h
+pub limits_of : (h : NetHost) → is_limited_host h ≡ true → HasLimits h
 limits_of h e =
     let three = both_true (nat_le h.id 31 && nat_le h.qos 15 && nat_le h.prot 3) (nat_le (length h.script) 65536) e in
     let two = both_true (nat_le h.id 31 && nat_le h.qos 15) (nat_le h.prot 3) three.0 in

@@ -14,3 +14,5 @@ pub mod Offering
 pub mod PlannedParts
 pub mod OwnWays
 pub mod MadeRings
+pub mod OwnBudget
+pub mod OwnRings

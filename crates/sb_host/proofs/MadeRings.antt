@@ -1,17 +1,17 @@
 -- The ring of requests of a host's own link is made for each of its packets.
-use Rattle.std.proofs.Common.{◌≡◌, ◌≤◌, ◌<◌, ◌+◌, ◌*◌, ◌/◌, ◌%◌, ◌^◌, ℕ, zero, suc, arith, refl, sym, ap, subst, ◌∙◌, length, List, [], ◌∷◌, ◌++◌, Bool, true, false, cond, Option, Some, None}
+use Rattle.std.proofs.Common.{◌≡◌, ◌≤◌, ◌<◌, ◌+◌, ◌*◌, ◌/◌, ◌%◌, ◌^◌, ℕ, zero, suc, arith, refl, sym, ap, ◌∙◌, length, List, [], ◌∷◌, Bool, true, false, cond, Option, Some, None}
 use Rattle.std.specs.Prelude.{All, map, not, ◌||◌, ◌==◌, is_some, if◌then◌else◌}
 use Rattle.std.specs.List.{position_from, AllByRecursion}
 use Rattle.std.specs.Option.{option_map, option_map_or}
 use Rattle.std.proofs.Math.ListN.{get_or}
 use Rattle.std.proofs.lemmas.Bool.Decides.{nat_tests}
 use Rattle.std.proofs.lemmas.List.Elements.{All-nil, All-append, All-head, All-tail, All-weaker}
-use Rattle.sb_packet.specs.Cuts.{cut_parts, words_in}
+use Rattle.sb_packet.specs.Cuts.{cut_parts}
 use Rattle.sb_packet.specs.Journals.{is_request}
 use Rattle.sb_packet.specs.Messages.{Message, message_span}
-use Rattle.sb_packet.specs.Networks.{NetDevice, NetHost, Network, device_at, has_address}
-use Rattle.sb_packet.specs.Plans.{NetFlow, device_ranges, goes_home, goes_through, holds_span, is_allowed, message_flow}
-use Rattle.sb_packet.specs.Rings.{is_upward, range_of, ring_flows, ring_plan}
+use Rattle.sb_packet.specs.Networks.{NetHost, Network, device_at, has_address}
+use Rattle.sb_packet.specs.Plans.{NetFlow, device_ranges, goes_home, goes_through, holds_span, message_flow}
+use Rattle.sb_packet.specs.Rings.{is_upward, ring_flows, ring_plan}
 use Rattle.sb_packet.specs.Scripts.{IsTransaction, request_of}
 use Rattle.sb_packet.specs.Soundness.{device_place}
 use Rattle.sb_packet.specs.Traffic.{IsPlanned}
@@ -24,7 +24,7 @@ use Rattle.sb_host.specs.Asked.{asked_by, asked_packets, line_in, line_message, 
 use Rattle.sb_host.proofs.OwnWays.{any_at, own_flow_through}
 use Rattle.sb_host.proofs.PlannedParts.{LiesIn, cut_lies, ranges_are, same_device}
 
-asks : (kind : Kind) → is_request (request_of kind) ≡ true
+pub asks : (kind : Kind) → is_request (request_of kind) ≡ true
 asks Read = refl
 asks Write = refl
 asks Posted = refl
@@ -45,7 +45,7 @@ place_below p s (x ∷ xs) d e = by_test (p x) e (place_below p (s + 1) xs d) wh
   by_test true e later = let same : s ≡ d = cc in omega (arith, same)
   by_test false e later = let behind = later e in omega (arith, behind)
 
-down : (k : ℕ) → is_upward (2 * k) ≡ false
+pub down : (k : ℕ) → is_upward (2 * k) ≡ false
 down k = let even : 2 * k % 2 ≡ 0 = omega arith in rw even refl
 
 -- a host aims at the device of each of its transactions

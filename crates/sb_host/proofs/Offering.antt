@@ -51,7 +51,7 @@ closes_behind_all h port w at =
       (λ closed. offered_all h.asked h.next h.part (offered_words w.port) (w.in_order.closes (w.fit.told (w.fit.close ∙ closed))) w.in_order.offered)
 
 -- a word begins within its transaction's page
-within_page : (t : Txn) (j : ℕ) → IsTransaction t → j < t.count → t.addr % 4096 + j * 2 ^ t.size < 4096
+pub within_page : (t : Txn) (j : ℕ) → IsTransaction t → j < t.count → t.addr % 4096 + j * 2 ^ t.size < 4096
 within_page t j is below =
     let word = word_within t.size t.count j below in
     let some = pow_pos t.size in

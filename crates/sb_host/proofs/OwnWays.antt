@@ -1,17 +1,15 @@
 -- The ways of a host begin with its own link, so that link's rings have all its flows.
-use Rattle.std.proofs.Common.{◌≡◌, ◌≤◌, ◌<◌, ◌+◌, ◌*◌, ◌/◌, ◌%◌, ℕ, zero, suc, arith, refl, sym, ap, subst, ◌∙◌, length, List, [], ◌∷◌, ◌++◌, Bool, true, false, cond, Option, Some, None}
-use Rattle.std.specs.Prelude.{All, map, filter, flat_map, nat_lt, ◌&&◌, ◌||◌, ◌==◌, slice_get, slice_index_or, sum_by, if◌then◌else◌}
+use Rattle.std.proofs.Common.{◌≡◌, ◌≤◌, ◌<◌, ◌+◌, ◌*◌, ◌/◌, ℕ, zero, suc, arith, refl, ap, ◌∙◌, length, List, [], ◌∷◌, ◌++◌, Bool, true, false, cond, Option, Some, None}
+use Rattle.std.specs.Prelude.{map, filter, flat_map, nat_lt, ◌&&◌, ◌||◌, ◌==◌, slice_index_or, if◌then◌else◌}
 use Rattle.std.specs.List.{enumerate_from, list_any, range_with_len}
 use Rattle.std.specs.Option.{option_map_or}
 use Rattle.std.proofs.Math.ListN.{get_or}
 use Rattle.std.proofs.lemmas.Bool.Decides.{nat_tests}
-use Rattle.std.proofs.lemmas.List.Elements.{All-head, All-tail, filter-append}
 use Rattle.std.proofs.lemmas.List.FromFn.{get_or-enumerate_from, get_or-map-range_with_len, get_or-range_with_len, length-enumerate_from, length-range_with_len}
-use Rattle.sb_packet.specs.Networks.{NetHost, Network, device_at}
+use Rattle.sb_packet.specs.Networks.{NetHost, Network}
 use Rattle.sb_packet.specs.Plans.{NetFlow, goes_through}
-use Rattle.sb_packet.specs.Rings.{flow_table, has_link, is_upward, link_ways, ring_flows, ring_link, ring_ways}
-use Rattle.sb_packet.specs.Ways.{NetWay, aims_at, first_link, host_ways, is_aimed_at, links_from, network_ways, next_link, way_links}
-use Rattle.sb_packet.specs.declared.transaction.Txn.{Txn}
+use Rattle.sb_packet.specs.Rings.{flow_table, has_link, link_ways, ring_flows, ring_link, ring_ways}
+use Rattle.sb_packet.specs.Ways.{NetWay, aims_at, first_link, host_ways, links_from, network_ways, next_link, way_links}
 
 -- one of a list passes
 pub any_at : {X : Type 0} (p : X → Bool) (xs : List X) (i : ℕ) (d : X) → i < length xs → p (get_or xs i d) ≡ true → list_any p xs ≡ true
@@ -39,7 +37,7 @@ any_piece p f (x ∷ xs) (suc i) d below holds = any-append p (f x) (flat_map f 
   either_true false = refl
 
 -- one of those that are kept passes
-any_kept : {X : Type 0} (p q : X → Bool) (xs : List X) → list_any q (filter p xs) ≡ list_any (λ x. p x && q x) xs
+pub any_kept : {X : Type 0} (p q : X → Bool) (xs : List X) → list_any q (filter p xs) ≡ list_any (λ x. p x && q x) xs
 any_kept p q [] = refl
 any_kept p q (x ∷ xs) = by_test (p x) (any_kept p q xs) where
   by_test : (b : Bool) → list_any q (filter p xs) ≡ list_any (λ x. p x && q x) xs → list_any q (cond b (x ∷ filter p xs) (filter p xs)) ≡ ((b && q x) || list_any (λ x. p x && q x) xs)
@@ -50,11 +48,11 @@ any-map : {X Y : Type 0} (p : Y → Bool) (f : X → Y) (xs : List X) → list_a
 any-map p f [] = refl
 any-map p f (x ∷ xs) = ap (λ b. p (f x) || b) (any-map p f xs)
 
-itself : (n : ℕ) → (n == n) ≡ true
+pub itself : (n : ℕ) → (n == n) ≡ true
 itself n = grind (arith, nat_tests)
 
 -- a way that begins with a link has it
-begins_with : (network : Network) (h d k : ℕ) → first_link network h ≡ Some k → list_any (λ j. j == k) (way_links network h d) ≡ true
+pub begins_with : (network : Network) (h d k : ℕ) → first_link network h ≡ Some k → list_any (λ j. j == k) (way_links network h d) ≡ true
 begins_with network h d k first =
     ap (λ (o : Option ℕ). list_any (λ j. j == k) (links_from (suc (length network.routers)) network d o)) first
     ∙ ap (λ (b : Bool). b || list_any (λ j. j == k) (links_from (length network.routers) network d (next_link network d k))) (itself k)

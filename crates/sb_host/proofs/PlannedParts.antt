@@ -1,8 +1,8 @@
 -- The packets of a transaction lie in the range of the device that has its address.
-use Rattle.std.proofs.Common.{◌≡◌, ◌≤◌, ◌<◌, ◌+◌, ◌-◌, ◌*◌, ◌/◌, ◌%◌, ◌^◌, ℕ, zero, suc, arith, refl, sym, ap, subst, ◌∙◌, length, List, [], ◌∷◌, ◌++◌, Bool, true, false, cond, Option, Some, None, take}
-use Rattle.std.specs.Prelude.{All, map, nat_le, nat_lt, ◌&&◌, ◌==◌, slice_get, if◌then◌else◌}
+use Rattle.std.proofs.Common.{◌≡◌, ◌≤◌, ◌<◌, ◌+◌, ◌-◌, ◌*◌, ◌%◌, ◌^◌, ℕ, zero, suc, arith, refl, sym, ap, ◌∙◌, length, List, [], ◌∷◌, Bool, true, false, Option, take}
+use Rattle.std.specs.Prelude.{All, map, nat_le, nat_lt, ◌==◌, slice_get, if◌then◌else◌}
 use Rattle.std.specs.List.{position_from, range_with_len, AllByRecursion}
-use Rattle.std.specs.Option.{option_map, option_map_or}
+use Rattle.std.specs.Option.{option_map_or}
 use Rattle.std.proofs.Math.ListN.{get_or}
 use Rattle.std.proofs.Math.Nat.{mul-le-mul_right}
 use Rattle.std.proofs.Math.Pow.{pow_pos}
@@ -11,12 +11,11 @@ use Rattle.std.proofs.lemmas.List.{length-map, length-take-le, get_or-take, get_
 use Rattle.std.proofs.lemmas.List.Elements.{All-nil, All-cons, All-weaker}
 use Rattle.std.proofs.lemmas.List.FromFn.{get_or-map-range_with_len, length-map-range_with_len}
 use Rattle.std.proofs.lemmas.Option.{slice_get-get_or}
-use Rattle.sb_word.specs.declared.command.Op.{Op}
-use Rattle.sb_packet.specs.Cuts.{cut_parts, first_part, is_one_part, other_parts, part_of, parts_in, words_in}
+use Rattle.sb_packet.specs.Cuts.{cut_parts, first_part, is_one_part, other_parts, parts_in, words_in}
 use Rattle.sb_packet.specs.Messages.{Message, message_span}
-use Rattle.sb_packet.specs.Networks.{NetDevice, Network, device_at, device_size, has_address}
+use Rattle.sb_packet.specs.Networks.{NetDevice, Network, device_size, has_address}
 use Rattle.sb_packet.specs.Plans.{AddressRange, device_ranges, holds_span}
-use Rattle.sb_packet.specs.Rings.{network_ranges, range_of, ring_flows}
+use Rattle.sb_packet.specs.Rings.{range_of, ring_flows}
 use Rattle.sb_packet.proofs.CutWords.{more_than_fit}
 use Rattle.sb_flow.specs.Ranges.{is_placed_device}
 use Rattle.sb_host.proofs.TableSteps.{both_true}

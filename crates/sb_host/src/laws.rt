@@ -1,6 +1,11 @@
 //! Laws of hosts.
 
-ghost use Rattle.std.specs.Prelude.{◌≡◌, true, None, Some, All, filter, is_some};
+ghost use Rattle.std.specs.Prelude.{◌≡◌, ◌*◌, ℕ, true, None, Some, All, filter, is_some, slice_get};
+ghost use Rattle.sb_packet.specs.Rings.{ring_plan};
+ghost use Rattle.sb_packet.specs.Ways.{first_link};
+ghost use Rattle.sb_port.specs.Waiting.{IsWidth};
+ghost use Rattle.sb_flow.specs.Accepted.{IsAccepted};
+ghost use Rattle.sb_host.specs.Issuing.{IsMadeFor};
 ghost use Rattle.sb_packet.specs.Networks.{NetHost, Network, device_at};
 ghost use Rattle.sb_packet.specs.Prefixes.{IsPrefix};
 ghost use Rattle.sb_packet.specs.Scripts.{IsTransaction, script_accesses};
@@ -33,4 +38,14 @@ pub fn host_is_whole_again()
         → IsWholeHost (record h { answers = Some ring_then }) }
     ensures port { (h : HostSide) (port port_then : PortSide) → IsWholeHost h → h.requests ≡ Some port → IsRestoredPort port port_then
         → IsWholeHost (record h { requests = Some port_then }) }
+{}
+
+/// In an accepted network the ring of requests of a host's own link is made for the host: for each of its packets, and for
+/// all its words.
+pub fn own_rings_are_made_for_hosts()
+    ensures made { (network : Network) (h k : ℕ) (host : NetHost)
+        → IsAccepted network → slice_get network.hosts h ≡ Some host → first_link network h ≡ Some k
+        → IsMadeFor (ring_plan network (2 * k)) (asked_by network host) }
+    ensures wide { (network : Network) (h k : ℕ)
+        → IsAccepted network → first_link network h ≡ Some k → IsWidth (ring_plan network (2 * k)).width }
 {}

@@ -22,7 +22,10 @@ pub use cursor::Cursor;
 pub use desk::Desk;
 pub use host::Host;
 pub use host_core::HostCore;
-pub use laws::{host_is_whole_again, hosts_ask_what_their_scripts_aim_at, hosts_offer_their_scripts};
+pub use laws::{
+    host_is_whole_again, hosts_ask_what_their_scripts_aim_at, hosts_offer_their_scripts,
+    own_rings_are_made_for_hosts,
+};
 pub use line::Line;
 pub use orders::Orders;
 pub use table::Table;

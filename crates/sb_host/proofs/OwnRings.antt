@@ -1,0 +1,74 @@
+-- In an accepted network the ring of requests of a host's own link is made for the host.
+use Rattle.std.proofs.Common.{◌≡◌, ◌≤◌, ◌<◌, ◌*◌, ◌/◌, ℕ, zero, suc, arith, ap, subst, ◌∙◌, length, List, [], ◌∷◌, Bool, true, Option, Some, None}
+use Rattle.std.specs.Prelude.{All, ◌==◌, nat_lt, slice_get, if◌then◌else◌}
+use Rattle.std.specs.List.{AllByRecursion}
+use Rattle.std.specs.Option.{option_and_then, option_map_or}
+use Rattle.std.proofs.Math.ListN.{get_or}
+use Rattle.std.proofs.lemmas.Bool.Decides.{nat_tests}
+use Rattle.std.proofs.lemmas.List.Elements.{All-get_or}
+use Rattle.std.proofs.lemmas.Option.{get_or_from_slice_get, slice_get-get_or}
+use Rattle.sb_packet.specs.Networks.{NetHost, NetLink, Network, at_host, at_router}
+use Rattle.sb_packet.specs.Rings.{ring_link, ring_plan}
+use Rattle.sb_packet.specs.Scripts.{IsTransaction}
+use Rattle.sb_packet.specs.Sides.{leaves_from}
+use Rattle.sb_packet.specs.Ways.{first_link}
+use Rattle.sb_port.specs.Waiting.{IsWidth}
+use Rattle.sb_flow.specs.Accepted.{IsAccepted}
+use Rattle.sb_flow.specs.Ends.{is_width_now}
+use Rattle.sb_flow.specs.Limits.{is_limited, is_limited_host}
+use Rattle.sb_flow.specs.Ranges.{is_placed_device}
+use Rattle.sb_flow.proofs.Clashes.{all_pass}
+use Rattle.sb_host.specs.Asked.{asked_by}
+use Rattle.sb_host.specs.Issuing.{IsMadeFor}
+use Rattle.sb_host.proofs.Beginning.{host_limits, limits_of, passes_at}
+use Rattle.sb_host.proofs.MadeRings.{place_below, planned_host}
+use Rattle.sb_host.proofs.OwnBudget.{words_within}
+
+-- what is got is in the list
+got_below : {X : Type 0} (xs : List X) (i : ℕ) (x : X) → slice_get xs i ≡ Some x → i < length xs
+got_below [] i x e = absurd (cc)
+got_below (y ∷ xs) zero x e = omega arith
+got_below (y ∷ xs) (suc i) x e = let rest = got_below xs i x e in omega (arith, rest)
+
+-- what all pass in a list one passes
+pass_at : {X : Type 0} (p : X → Bool) (xs : List X) (i : ℕ) (d : X) → AllByRecursion (λ x. p x ≡ true) xs → i < length xs → p (get_or xs i d) ≡ true
+pass_at p [] i d all below = absurd (omega arith)
+pass_at p (x ∷ xs) zero d all below = all.0
+pass_at p (x ∷ xs) (suc i) d all below = pass_at p xs i d all.1 (omega arith)
+
+few_devices : (network : Network) → is_limited network ≡ true → length network.devices ≤ 32
+few_devices network h = grind (arith, h)
+
+link_there : (network : Network) (h k : ℕ) → first_link network h ≡ Some k → k < length network.links
+link_there network h k first = let found = place_below (leaves_from h) 0 network.links k first in omega (arith, found)
+
+pub own_ring_made : (network : Network) (h k : ℕ) (host : NetHost) → IsAccepted network → slice_get network.hosts h ≡ Some host → first_link network h ≡ Some k
+    → IsMadeFor (ring_plan network (2 * k)) (asked_by network host)
+own_ring_made network h k host accepted got first =
+    let there : h < length network.hosts = got_below network.hosts h host got in
+    let at : get_or network.hosts h host ≡ host = get_or_from_slice_get network.hosts h host host got in
+    let link = link_there network h k first in
+    let limits = limits_of host (subst (λ (x : NetHost). is_limited_host x ≡ true) at (passes_at is_limited_host network.hosts h host (host_limits network accepted.limits) there)) in
+    let lines : All IsTransaction host.script = subst (λ (x : NetHost). All IsTransaction x.script) at (All-get_or (λ (x : NetHost). All IsTransaction x.script) network.hosts h host there accepted.lines) in
+    let id = limits.id in
+    record {
+      planned = planned_host network h k host there at first link (omega (arith, id)) (few_devices network accepted.limits) (all_pass is_placed_device 0 network.devices accepted.placed) lines;
+      room = words_within network host accepted.placed h k there at first link lines;
+    }
+
+-- and as wide as a link may be now
+pub own_ring_wide : (network : Network) (h k : ℕ) → IsAccepted network → first_link network h ≡ Some k → IsWidth (ring_plan network (2 * k)).width
+own_ring_wide network h k accepted first =
+    let there = link_there network h k first in
+    let half : 2 * k / 2 ≡ k = omega arith in
+    let inside : nat_lt (2 * k / 2) (length network.links) ≡ true = rw half (let t : nat_lt k (length network.links) ≡ true = grind (arith, nat_tests) in t) in
+    let link : ring_link network (2 * k) ≡ Some k =
+        ap (λ (b : Bool). if b then Some (2 * k / 2) else (if 2 * k / 2 == length network.links then network.wire else None)) inside ∙ ap (λ (n : ℕ). Some n) half in
+    let any : NetLink = get_or network.links k any_link in
+    let got : slice_get network.links k ≡ Some any = slice_get-get_or network.links k any_link there in
+    let test : (any.width == 32) ≡ true = pass_at (λ l. is_width_now l.width) network.links k any_link (all_pass (λ l. is_width_now l.width) 0 network.links accepted.widths) there in
+    let width : any.width ≡ 32 = grind (arith, nat_tests) in
+    ap (λ (o : Option ℕ). option_map_or (λ l. l.width) (option_and_then (slice_get network.links) o) 0) link ∙ ap (λ (o : Option NetLink). option_map_or (λ l. l.width) o 0) got ∙ width
+  where
+    any_link : NetLink
+    any_link = record { name = []; from = at_host 0; to = at_router 0; width = 0; capacity = 0 }
