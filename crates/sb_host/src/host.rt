@@ -1,16 +1,16 @@
 //! A host at its link.
 
-ghost use Rattle.std.specs.Prelude.{◌≡◌, ◌==◌, ◌<◌, ℕ, List, [], None, Some, IfOk, if◌then◌else◌, length, slice_get, slice_index_or};
+ghost use Rattle.std.specs.Prelude.{◌≡◌, ◌==◌, ◌<◌, ◌*◌, ℕ, List, [], None, Some, IfOk, if◌then◌else◌, length, slice_get, slice_index_or};
 ghost use Rattle.std.specs.Option.{option_map};
 ghost use Rattle.sb_packet.specs.Accesses.{Access};
 ghost use Rattle.sb_packet.specs.Networks.{NetHost};
 ghost use Rattle.sb_packet.specs.Outcomes.{Outcome};
-ghost use Rattle.sb_port.specs.Waiting.{IsWidth};
+ghost use Rattle.sb_packet.specs.Rings.{ring_plan};
+ghost use Rattle.sb_packet.specs.Ways.{first_link};
 ghost use Rattle.sb_node.specs.Sides.{fresh_port, port_side, ring_side};
 ghost use Rattle.sb_flow.specs.NetworkOf.{network_of};
 ghost use Rattle.sb_host.specs.Asked.{asked_by};
 ghost use Rattle.sb_host.specs.Hosts.{IsWholeHost};
-ghost use Rattle.sb_host.specs.Issuing.{IsMadeFor};
 ghost use Rattle.sb_host.specs.Outcomes.{outcomes_so_far};
 ghost use Rattle.sb_host.specs.Places.{AreIssuable};
 ghost use Rattle.sb_host.specs.Rows.{IsTable};
@@ -57,8 +57,8 @@ impl<F: Fabric> Node for Host<F> {
 impl<F: Fabric> Host<F> {
     ghost use Rattle.sb_host.specs.SideOf.{host_side};
 
-    /// The host at that place of a bundle, at its leg, at which nothing was sent or received. The ring of requests is
-    /// made for it: for each of its packets, and for all its words. All the memory that it will ever need is taken here.
+    /// The host at that place of a bundle, at the leg of its own link, at which nothing was sent or received; the ring of
+    /// requests has the plan that the bundle gives it. All the memory that the host will ever need is taken here.
     ///
     /// # Errors
     ///
@@ -72,8 +72,8 @@ impl<F: Fabric> Host<F> {
         requires number { number < length bundle.now.hosts.items }
         requires unsent { F.Tx.sent leg.requests ≡ [] }
         requires unreceived { F.Rx.received leg.answers ≡ [] }
-        requires made { (host : NetHost) → slice_get (network_of bundle.now).hosts number ≡ Some host → IsMadeFor (F.Tx.planned leg.requests) (asked_by (network_of bundle.now) host) }
-        requires wide { IsWidth (F.Tx.planned leg.requests).width }
+        requires own { first_link (network_of bundle.now) number ≡ Some leg.link }
+        requires planned { F.Tx.planned leg.requests ≡ ring_plan (network_of bundle.now) (2 * leg.link) }
         ensures whole { IfOk result (λ h. IsWholeHost (host_side F.Tx.TxEnd F.Rx.RxEnd h)) }
         ensures asked { IfOk result (λ h. (host : NetHost) → slice_get (network_of bundle.now).hosts number ≡ Some host → (host_side F.Tx.TxEnd F.Rx.RxEnd h).asked ≡ asked_by (network_of bundle.now) host) }
         ensures table { IfOk result (λ h. IsTable (host_side F.Tx.TxEnd F.Rx.RxEnd h).asked [] (host_side F.Tx.TxEnd F.Rx.RxEnd h).rows) }

@@ -18,14 +18,8 @@ mod table;
 #[cfg(test)]
 mod tests;
 
-pub use cursor::Cursor;
-pub use desk::Desk;
 pub use host::Host;
-pub use host_core::HostCore;
 pub use laws::{
     host_is_whole_again, hosts_ask_what_their_scripts_aim_at, hosts_offer_their_scripts,
     own_rings_are_made_for_hosts,
 };
-pub use line::Line;
-pub use orders::Orders;
-pub use table::Table;

@@ -11,12 +11,18 @@ use Rattle.sb_port.specs.Waiting.{nothing_waits}
 use Rattle.sb_node.specs.Sides.{port_side, ring_side}
 use Rattle.sb_flow.specs.NetworkOf.{network_of}
 use Rattle.sb_flow.specs.Rows.{host_of}
-use Rattle.sb_flow.proofs.Bundles.{idle_plan}
-use Rattle.sb_host.specs.Asked.{Asked}
+use Rattle.sb_flow.proofs.Bundles.{accepted, idle_plan}
+use Rattle.sb_host.specs.Asked.{Asked, asked_by}
 use Rattle.sb_host.specs.Issuing.{IsMadeFor}
 use Rattle.sb_host.specs.Places.{asked_of}
 use Rattle.sb_host.proofs.Beginning.{begins_in_order}
+use Rattle.sb_host.proofs.OwnRings.{own_ring_made, own_ring_wide}
 use Rattle.sb_host.proofs.host.Host.new.Goals as goal
+
+pub new-requires-2-clause-wide : goal.new-requires-2-clause-wide
+new-requires-2-clause-wide g c =
+    let network = network_of c.args.bundle.now in
+    ap (λ (p : RingPlan). p.width) c.requires.planned ∙ own_ring_wide network c.args.number c.args.leg.link (accepted c.args.bundle.now) c.requires.own
 
 pub returns-clause-whole : goal.returns-clause-whole
 returns-clause-whole g c =
@@ -31,7 +37,7 @@ returns-clause-whole g c =
     let plan : port.plan ≡ g.F.Tx.TxEnd.planned c.args.leg.requests = ap g.F.Tx.TxEnd.planned c.new-2.ensures.end in
     let made : IsMadeFor port.plan asked =
         subst (λ (p : RingPlan). IsMadeFor p asked) (sym plan)
-          (subst (λ (a : Asked). IsMadeFor (g.F.Tx.TxEnd.planned c.args.leg.requests) a) (sym (c.in_ok-orders.ensures.asked host there)) (c.requires.made host there)) in
+          (subst (λ (a : Asked). IsMadeFor (g.F.Tx.TxEnd.planned c.args.leg.requests) a) (sym (c.in_ok-orders.ensures.asked host there)) (subst (λ (p : RingPlan). IsMadeFor p (asked_by network host)) (sym c.requires.planned) (own_ring_made network number c.args.leg.link host (accepted c.args.bundle.now) there c.requires.own))) in
     let state : port.state ≡ record { sent = []; waiting = nothing_waits port.plan.width; closing = false; shut = false; claimed = 0 } =
         c.new-2.ensures.state ∙ ap (λ (p : RingPlan). record { sent = []; waiting = nothing_waits p.width; closing = false; shut = false; claimed = 0 }) (sym plan) in
     record {
