@@ -49,25 +49,27 @@ aimed_outcome : (kind : Kind) (width : ℕ) (answers : List (Option Access)) (pa
     → outcome_so_far kind answers ≡ kept_outcome kind true passed row
 aimed_outcome kind width answers passed row is =
     by_kind kind where
-  missing : list_all is_some answers ≡ (row.missing == 0)
-  missing = all_answered answers ∙ ap (λ (n : ℕ). n == 0) (sym (is.counted ∙ ap (count_by not) is.answered))
-  settled : (kind : Kind) → ((list : List Access) → outcome_of kind list ≡ record { state = states.Answered (code_numbered (answer_code list)); body = answer_body list })
-      → outcome_by kind answers ≡ settled_outcome true passed row
-  settled kind answered =
-      let goal : Bool → Bool → Type 0 = λ a b. (if a then outcome_of kind (found answers) else record { state = states.Waiting; body = [] })
+      missing : list_all is_some answers ≡ (row.missing == 0)
+      missing = all_answered answers ∙ ap (λ (n : ℕ). n == 0) (sym (is.counted ∙ ap (count_by not) is.answered))
+
+      settled : (kind : Kind) → ((list : List Access) → outcome_of kind list ≡ record { state = states.Answered (code_numbered (answer_code list)); body = answer_body list })
+          → outcome_by kind answers ≡ settled_outcome true passed row
+      settled kind answered =
+          let goal : Bool → Bool → Type 0 = λ a b. (if a then outcome_of kind (found answers) else record { state = states.Waiting; body = [] })
           ≡ (if b then record { state = states.Answered (code_numbered row.code); body = row.body.items } else record { state = states.Waiting; body = [] }) in
-      subst (goal (list_all is_some answers)) missing
-        (elim (list_all is_some answers) as (λ b. list_all is_some answers ≡ b → goal b b) [
-          | true ↦ λ all. answered (found answers)
-              ∙ ap (λ (n : ℕ). record { state = states.Answered (code_numbered n); body = answer_body (found answers) }) (sym is.code)
-              ∙ ap (λ (bytes : List ℕ). record { state = states.Answered (code_numbered row.code); body = bytes }) (sym (is.body ∙ all_bytes width answers all))
-          | false ↦ λ some. refl
-        ] refl)
-  by_kind : (kind : Kind) → outcome_so_far kind answers ≡ kept_outcome kind true passed row
-  by_kind Read = settled Read (λ list. refl)
-  by_kind Write = settled Write (λ list. refl)
-  by_kind Posted = refl
-  by_kind (Atomic type) = settled (Atomic type) (λ list. refl)
+          subst (goal (list_all is_some answers)) missing
+          (elim (list_all is_some answers) as (λ b. list_all is_some answers ≡ b → goal b b) [
+            | true ↦ λ all. answered (found answers)
+                ∙ ap (λ (n : ℕ). record { state = states.Answered (code_numbered n); body = answer_body (found answers) }) (sym is.code)
+                ∙ ap (λ (bytes : List ℕ). record { state = states.Answered (code_numbered row.code); body = bytes }) (sym (is.body ∙ all_bytes width answers all))
+            | false ↦ λ some. refl
+          ] refl)
+
+      by_kind : (kind : Kind) → outcome_so_far kind answers ≡ kept_outcome kind true passed row
+      by_kind Read = settled Read (λ list. refl)
+      by_kind Write = settled Write (λ list. refl)
+      by_kind Posted = refl
+      by_kind (Atomic type) = settled (Atomic type) (λ list. refl)
 
 -- answers to words that no device has: all of code 3, each with zeros
 module _ (g : ℕ → Access) (width : ℕ) (code : (j : ℕ) → (g j).tail ≡ 3) (bytes : (j : ℕ) → (g j).bytes ≡ replicate width 0) where
@@ -126,10 +128,12 @@ unaimed_outcome : (asked : Asked) (received : List Access) (passed : Bool) (i : 
 unaimed_outcome asked received passed i l kind row is some kept = by_kind kind is passed where
   body : row.body.items ≡ flat_map (bytes_or_zeros (answer_width l)) (map (λ (j : ℕ). no_answer) (range_with_len 0 l.txn.count))
   body = kept.body ∙ ap (flat_map (bytes_or_zeros (answer_width l))) (map-map (device_answer received false) (access_at (line_message asked i l)) (range_with_len 0 l.txn.count))
+
   -- before the host has passed over it
   before : (kind : Kind) → outcome_by kind (map (answer_so_far received false false) (line_accesses asked i l)) ≡ settled_outcome false false row
   before kind = ap (λ (b : Bool). if b then outcome_of kind (found (map (answer_so_far received false false) (line_accesses asked i l))) else record { state = states.Waiting; body = [] })
       (ap (list_all is_some) (map-map (answer_so_far received false false) (access_at (line_message asked i l)) (range_with_len 0 l.txn.count)) ∙ none_all 0 l.txn.count some)
+
   -- and afterwards
   after : (kind : Kind) (g : ℕ → Access) (width : ℕ) → answer_width l ≡ width → ((j : ℕ) → (g j).tail ≡ 3) → ((j : ℕ) → (g j).bytes ≡ replicate width 0)
       → ((j : ℕ) → unreached_by (request_of l.txn.kind) (access_at (line_message asked i l) j) ≡ Some (g j))
@@ -137,8 +141,9 @@ unaimed_outcome asked received passed i l kind row is some kept = by_kind kind i
       → outcome_by kind (map (answer_so_far received false true) (line_accesses asked i l)) ≡ settled_outcome false true row
   after kind g width wide code bytes each answered =
       ap (outcome_by kind) (map-map (answer_so_far received false true) (access_at (line_message asked i l)) (range_with_len 0 l.txn.count)
-          ∙ range_agrees (λ j. unreached_by (request_of l.txn.kind) (access_at (line_message asked i l) j)) (λ j. Some (g j)) 0 0 l.txn.count (λ j below. each (0 + j)))
+      ∙ range_agrees (λ j. unreached_by (request_of l.txn.kind) (access_at (line_message asked i l) j)) (λ j. Some (g j)) 0 0 l.txn.count (λ j below. each (0 + j)))
       ∙ lost_outcome g width code bytes kind l.txn.count row some answered (body ∙ ap (λ (n : ℕ). flat_map (bytes_or_zeros n) (map (λ (j : ℕ). no_answer) (range_with_len 0 l.txn.count))) wide)
+
   by_kind : (kind : Kind) → l.txn.kind ≡ kind → (passed : Bool) → outcome_so_far kind (map (answer_so_far received false passed) (line_accesses asked i l)) ≡ kept_outcome kind false passed row
   by_kind Read is false = before Read
   by_kind Write is false = before Write

@@ -68,17 +68,17 @@ module _ (network : Network) (h k : ℕ) (host : NetHost) (there : h < length ne
       let home : goes_home p ≡ true = ap (λ (b : Bool). b || (p.dst / 2 ^ 40 == p.host)) asks_p in
       let place : device_place p ≡ p.dst = ap (λ (b : Bool). if b then p.dst else p.src) asks_p in
       let found : position_from (holds_span (device_place p) (message_span p)) 0 (device_ranges flows) ≡ Some d =
-          ap (λ (a : ℕ). position_from (holds_span a (message_span p)) 0 (device_ranges flows)) place
-          ∙ ap (position_from (holds_span p.dst (message_span p)) 0) (ranges_are network (2 * k) few)
-          ∙ same_device 0 t.addr (t.count * 2 ^ t.size) p.dst (message_span p) network.devices placed is.page lies.first lies.last lies.some
-          ∙ device in
+      ap (λ (a : ℕ). position_from (holds_span a (message_span p)) 0 (device_ranges flows)) place
+      ∙ ap (position_from (holds_span p.dst (message_span p)) 0) (ranges_are network (2 * k) few)
+      ∙ same_device 0 t.addr (t.count * 2 ^ t.size) p.dst (message_span p) network.devices placed is.page lies.first lies.last lies.some
+      ∙ device in
       let flow : NetFlow = record { host = host.id; device = d } in
       let found_below = place_below (has_address t.addr) 0 network.devices d device in
       let below : d < length network.devices = omega (arith, found_below) in
       let message : message_flow flows p ≡ Some flow =
-          ap (λ (b : Bool). if b then option_map (λ e. record { host = p.host; device = e }) (position_from (holds_span (device_place p) (message_span p)) 0 (device_ranges flows)) else None) home
-          ∙ ap (option_map (λ e. record { host = p.host; device = e })) found
-          ∙ ap (λ (n : ℕ). Some (let f : NetFlow = record { host = n; device = d } in f)) lies.host in
+      ap (λ (b : Bool). if b then option_map (λ e. record { host = p.host; device = e }) (position_from (holds_span (device_place p) (message_span p)) 0 (device_ranges flows)) else None) home
+      ∙ ap (option_map (λ e. record { host = p.host; device = e })) found
+      ∙ ap (λ (n : ℕ). Some (let f : NetFlow = record { host = n; device = d } in f)) lies.host in
       record {
         direction = asks_p ∙ sym (ap not (down k));
         allowed = ap (λ (o : Option NetFlow). option_map_or (goes_through flows) o false) message
@@ -98,8 +98,8 @@ module _ (network : Network) (h k : ℕ) (host : NetHost) (there : h < length ne
   planned_lines i [] all aims = All-nil (IsPlanned (ring_plan network (2 * k)))
   planned_lines i (t ∷ script) all aims =
       All-append (IsPlanned (ring_plan network (2 * k))) (sent_packets (asked_by network host) i (line_in network t)) (packets_from (asked_by network host) (i + 1) (map (line_in network) script))
-        (planned_line i t (All-head IsTransaction t script all) (All-head (Aims network host) t script aims))
-        (planned_lines (i + 1) script (All-tail IsTransaction t script all) (All-tail (Aims network host) t script aims))
+      (planned_line i t (All-head IsTransaction t script all) (All-head (Aims network host) t script aims))
+      (planned_lines (i + 1) script (All-tail IsTransaction t script all) (All-tail (Aims network host) t script aims))
 
   -- all packets of the host
   pub planned_host : All IsTransaction host.script → All (IsPlanned (ring_plan network (2 * k))) (asked_packets (asked_by network host))

@@ -36,15 +36,15 @@ pub rows_more : (lines : List Line) (rows new : List Row) (n : ℕ) (row : Row) 
 rows_more lines rows new n row wanted long joined inside at is each = λ i d r below.
     let goal : ℕ → Row → Type 0 = λ k x. IsRow (answer_width (get_or lines k d)) (replicate (get_or lines k d).txn.count None) x in
     one_or_other i n (goal i (get_or new i r))
-      (λ same.
-        let line : wanted ≡ get_or lines n d = at ∙ get_or_default lines n wanted d inside in
-        let stands : get_or new n r ≡ row = ap (λ (list : List Row). get_or list n r) joined ∙ ap (λ (k : ℕ). get_or (rows ++ row ∷ []) k r) (sym long) ∙ get_or-append_seam rows row [] r in
-        let here : goal n (get_or new n r) = subst (goal n) (sym stands) (subst (λ (x : Line). IsRow (answer_width x) (replicate x.txn.count None) row) line is) in
-        subst (λ (k : ℕ). goal k (get_or new k r)) (sym same) here)
-      (λ other.
-        let before : i < n = omega (arith, below, other) in
-        let stands : get_or new i r ≡ get_or rows i r = ap (λ (list : List Row). get_or list i r) joined ∙ get_or_append_left rows (row ∷ []) r i (omega (arith, before, long)) in
-        subst (goal i) (sym stands) (each i d r before))
+    (λ same.
+    let line : wanted ≡ get_or lines n d = at ∙ get_or_default lines n wanted d inside in
+    let stands : get_or new n r ≡ row = ap (λ (list : List Row). get_or list n r) joined ∙ ap (λ (k : ℕ). get_or (rows ++ row ∷ []) k r) (sym long) ∙ get_or-append_seam rows row [] r in
+    let here : goal n (get_or new n r) = subst (goal n) (sym stands) (subst (λ (x : Line). IsRow (answer_width x) (replicate x.txn.count None) row) line is) in
+    subst (λ (k : ℕ). goal k (get_or new k r)) (sym same) here)
+    (λ other.
+    let before : i < n = omega (arith, below, other) in
+    let stands : get_or new i r ≡ get_or rows i r = ap (λ (list : List Row). get_or list i r) joined ∙ get_or_append_left rows (row ∷ []) r i (omega (arith, before, long)) in
+    subst (goal i) (sym stands) (each i d r before))
 
 none_yet : (received_none aimed : Bool) (word : Access) → device_answer [] aimed word ≡ None
 none_yet b true word = refl
@@ -63,7 +63,7 @@ empty_table asked rows long each = record {
   each = λ i l r inside.
       let line = get_or asked.lines i l in
       let none : device_answers asked [] i line ≡ replicate line.txn.count None =
-          map-map (device_answer [] line.aimed) (access_at (line_message asked i line)) (range_with_len 0 line.txn.count) ∙ all_none line.aimed (access_at (line_message asked i line)) 0 line.txn.count in
+      map-map (device_answer [] line.aimed) (access_at (line_message asked i line)) (range_with_len 0 line.txn.count) ∙ all_none line.aimed (access_at (line_message asked i line)) 0 line.txn.count in
       subst (λ (answers : List (Option Access)). IsRow (answer_width line) answers (get_or rows i r)) (sym none) (each i l r inside);
 }
 

@@ -43,12 +43,12 @@ offers_in_order h port w at =
 pub offers_all : (h : HostSide) (port : PortSide) → IsWholeHost h → h.requests ≡ Some port → port.state.closing ≡ true → offered_words port ≡ asked_accesses h.asked
 offers_all h port w at =
     subst (λ (p : PortSide). p.state.closing ≡ true → offered_words p ≡ asked_accesses h.asked) (the_one w.has_port at)
-      (λ told. offered_all h.asked h.next h.part (offered_words w.port) (w.in_order.closes told) w.in_order.offered)
+    (λ told. offered_all h.asked h.next h.part (offered_words w.port) (w.in_order.closes told) w.in_order.offered)
 
 pub closes_behind_all : (h : HostSide) (port : PortSide) → IsWholeHost h → h.requests ≡ Some port → has_close port.state.sent ≡ true → offered_words port ≡ asked_accesses h.asked
 closes_behind_all h port w at =
     subst (λ (p : PortSide). has_close p.state.sent ≡ true → offered_words p ≡ asked_accesses h.asked) (the_one w.has_port at)
-      (λ closed. offered_all h.asked h.next h.part (offered_words w.port) (w.in_order.closes (w.fit.told (w.fit.close ∙ closed))) w.in_order.offered)
+    (λ closed. offered_all h.asked h.next h.part (offered_words w.port) (w.in_order.closes (w.fit.told (w.fit.close ∙ closed))) w.in_order.offered)
 
 -- a word begins within its transaction's page
 pub within_page : (t : Txn) (j : ℕ) → IsTransaction t → j < t.count → t.addr % 4096 + j * 2 ^ t.size < 4096

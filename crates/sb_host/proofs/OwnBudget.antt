@@ -124,8 +124,8 @@ module _ (network : Network) (host : NetHost) (placed : misplaced_device network
             let of : of_device d a ≡ true = rw (own, there) refl in
             any_kept (aims_at network host) (λ e. of_device e a) (range_with_len 0 (length network.devices))
             ∙ any_at (λ e. aims_at network host e && of_device e a) (range_with_len 0 (length network.devices)) d d (omega (arith, inside, length-range_with_len 0 (length network.devices)))
-                (let here : get_or (range_with_len 0 (length network.devices)) d d ≡ d = get_or-range_with_len 0 (length network.devices) d d inside ∙ omega arith in
-                  ap (λ (e : ℕ). aims_at network host e && of_device e a) here ∙ rw (aims d e, of) refl)
+            (let here : get_or (range_with_len 0 (length network.devices)) d d ≡ d = get_or-range_with_len 0 (length network.devices) d d inside ∙ omega arith in
+            ap (λ (e : ℕ). aims_at network host e && of_device e a) here ∙ rw (aims d e, of) refl)
       ] refl
 
   words_are_of_some : (i : ℕ) (script : List Txn) → All IsTransaction script → All (Aims network host) script
@@ -134,8 +134,8 @@ module _ (network : Network) (host : NetHost) (placed : misplaced_device network
   words_are_of_some i (t ∷ script) all aims =
       let P : Access → Type 0 = λ a. is_some (device_at network a.dst) ≡ true → passes_some of_device targets a ≡ true in
       All-append P (transaction_accesses host i t) (flat_map (λ p. transaction_accesses host p.0 p.1) (enumerate_from (i + 1) script))
-        (All-made P (access_at (transaction_message host i t)) t.count (λ j below. word_is_of_one i j t (All-head IsTransaction t script all) (All-head (Aims network host) t script aims) below))
-        (words_are_of_some (i + 1) script (All-tail IsTransaction t script all) (All-tail (Aims network host) t script aims))
+      (All-made P (access_at (transaction_message host i t)) t.count (λ j below. word_is_of_one i j t (All-head IsTransaction t script all) (All-head (Aims network host) t script aims) below))
+      (words_are_of_some (i + 1) script (All-tail IsTransaction t script all) (All-tail (Aims network host) t script aims))
 
   -- the host's words that go to devices are no more than those of its flows together
   words_by_flow : All IsTransaction host.script → length (asked_accesses (asked_by network host)) ≤ sum_by (λ d. length (filter (of_device d) (script_accesses host))) targets
@@ -153,16 +153,16 @@ module _ (network : Network) (host : NetHost) (placed : misplaced_device network
       let way : ℕ → NetWay = λ d. record { host = host; device = d; links = way_links network h d } in
       let pair : ℕ × NetHost = (h, host) in
       let element : get_or (enumerate_from 0 network.hosts) h pair ≡ (h, host) =
-          get_or-enumerate_from 0 network.hosts h pair there ∙ ap {B = ℕ × NetHost} (λ (x : NetHost). (0 + h, x)) at ∙ (let none : 0 + h ≡ h = omega arith in ap {B = ℕ × NetHost} (λ (n : ℕ). (n, host)) none) in
+      get_or-enumerate_from 0 network.hosts h pair there ∙ ap {B = ℕ × NetHost} (λ (x : NetHost). (0 + h, x)) at ∙ (let none : 0 + h ≡ h = omega arith in ap {B = ℕ × NetHost} (λ (n : ℕ). (n, host)) none) in
       let piece : sum_by count (filter (has_link k) (host_ways network h host)) ≤ sum_by count (link_ways network k) =
-          subst (λ (p : ℕ × NetHost). sum_by count (filter (has_link k) (host_ways network p.0 p.1)) ≤ sum_by count (link_ways network k)) element
-            (piece_within count (has_link k) (λ p. host_ways network p.0 p.1) (enumerate_from 0 network.hosts) h pair (omega (arith, there, length-enumerate_from 0 network.hosts))) in
+      subst (λ (p : ℕ × NetHost). sum_by count (filter (has_link k) (host_ways network p.0 p.1)) ≤ sum_by count (link_ways network k)) element
+      (piece_within count (has_link k) (λ p. host_ways network p.0 p.1) (enumerate_from 0 network.hosts) h pair (omega (arith, there, length-enumerate_from 0 network.hosts))) in
       let kept : filter (has_link k) (host_ways network h host) ≡ host_ways network h host = kept_all (has_link k) way targets (λ d. begins_with network h d k first) in
       let even : is_upward (2 * k) ≡ false = down k in
       let each : (d : ℕ) → count (way d) ≡ length (filter (of_device d) (script_accesses host)) = λ d.
-          ap (λ (b : Bool). length (if b then filter (λ a. is_answered a.op) (way_accesses network (way d)) else way_accesses network (way d))) even in
+      ap (λ (b : Bool). length (if b then filter (λ a. is_answered a.op) (way_accesses network (way d)) else way_accesses network (way d))) even in
       let sums : sum_by count (host_ways network h host) ≡ sum_by (λ d. length (filter (of_device d) (script_accesses host))) targets =
-          sum_made count way targets ∙ sum_by_agree (λ d. count (way d)) (λ d. length (filter (of_device d) (script_accesses host))) targets each in
+      sum_made count way targets ∙ sum_by_agree (λ d. count (way d)) (λ d. length (filter (of_device d) (script_accesses host))) targets each in
       let by_flow = words_by_flow all in
       let whole = ap (sum_by count) kept in
       let ways = ap (sum_by count) (request_ways network k link) in

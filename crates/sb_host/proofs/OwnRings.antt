@@ -63,7 +63,7 @@ own_ring_wide network h k accepted first =
     let half : 2 * k / 2 ≡ k = omega arith in
     let inside : nat_lt (2 * k / 2) (length network.links) ≡ true = rw half (let t : nat_lt k (length network.links) ≡ true = grind (arith, nat_tests) in t) in
     let link : ring_link network (2 * k) ≡ Some k =
-        ap (λ (b : Bool). if b then Some (2 * k / 2) else (if 2 * k / 2 == length network.links then network.wire else None)) inside ∙ ap (λ (n : ℕ). Some n) half in
+    ap (λ (b : Bool). if b then Some (2 * k / 2) else (if 2 * k / 2 == length network.links then network.wire else None)) inside ∙ ap (λ (n : ℕ). Some n) half in
     let any : NetLink = get_or network.links k any_link in
     let got : slice_get network.links k ≡ Some any = slice_get-get_or network.links k any_link there in
     let test : (any.width == 32) ≡ true = pass_at (λ l. is_width_now l.width) network.links k any_link (all_pass (λ l. is_width_now l.width) 0 network.links accepted.widths) there in

@@ -72,16 +72,16 @@ module _ (network : Network) (h k : ℕ) (host : NetHost) (there : h < length ne
       let passes : q (way_to d) ≡ true = rw (begins_with network h d k first, itself host.id, itself d) refl in
       let pair : ℕ × NetHost = (h, host) in
       let element : get_or (enumerate_from 0 network.hosts) h pair ≡ (h, host) =
-          get_or-enumerate_from 0 network.hosts h pair there ∙ ap {B = ℕ × NetHost} (λ (x : NetHost). (0 + h, x)) at ∙ (let none : 0 + h ≡ h = omega arith in ap {B = ℕ × NetHost} (λ (n : ℕ). (n, host)) none) in
+      get_or-enumerate_from 0 network.hosts h pair there ∙ ap {B = ℕ × NetHost} (λ (x : NetHost). (0 + h, x)) at ∙ (let none : 0 + h ≡ h = omega arith in ap {B = ℕ × NetHost} (λ (n : ℕ). (n, host)) none) in
       let own : list_any q (host_ways network h host) ≡ true =
-          any-map q way_to (filter (aims_at network host) (range_with_len 0 (length network.devices)))
-          ∙ any_kept (aims_at network host) (λ e. q (way_to e)) (range_with_len 0 (length network.devices))
-          ∙ any_at (λ e. aims_at network host e && q (way_to e)) (range_with_len 0 (length network.devices)) d d (omega (arith, below, length-range_with_len 0 (length network.devices)))
-              (let here : get_or (range_with_len 0 (length network.devices)) d d ≡ d = get_or-range_with_len 0 (length network.devices) d d below ∙ omega arith in
-                ap (λ (e : ℕ). aims_at network host e && q (way_to e)) here ∙ rw (aims, passes) refl) in
+      any-map q way_to (filter (aims_at network host) (range_with_len 0 (length network.devices)))
+      ∙ any_kept (aims_at network host) (λ e. q (way_to e)) (range_with_len 0 (length network.devices))
+      ∙ any_at (λ e. aims_at network host e && q (way_to e)) (range_with_len 0 (length network.devices)) d d (omega (arith, below, length-range_with_len 0 (length network.devices)))
+      (let here : get_or (range_with_len 0 (length network.devices)) d d ≡ d = get_or-range_with_len 0 (length network.devices) d d below ∙ omega arith in
+      ap (λ (e : ℕ). aims_at network host e && q (way_to e)) here ∙ rw (aims, passes) refl) in
       any_kept (has_link k) (is_flow d) (network_ways network)
       ∙ any_piece q (λ p. host_ways network p.0 p.1) (enumerate_from 0 network.hosts) h pair (omega (arith, there, length-enumerate_from 0 network.hosts))
-          (ap (λ (p : ℕ × NetHost). list_any q (host_ways network p.0 p.1)) element ∙ own)
+      (ap (λ (p : ℕ × NetHost). list_any q (host_ways network p.0 p.1)) element ∙ own)
 
 -- the ring of requests of a link has the link's ways
 pub request_ways : (network : Network) (k : ℕ) → k < length network.links → ring_ways network (2 * k) ≡ link_ways network k
@@ -89,7 +89,7 @@ request_ways network k there =
     let half : 2 * k / 2 ≡ k = omega arith in
     let inside : nat_lt (2 * k / 2) (length network.links) ≡ true = rw half (let t : nat_lt k (length network.links) ≡ true = grind (arith, nat_tests) in t) in
     let link : ring_link network (2 * k) ≡ Some k =
-        ap (λ (b : Bool). if b then Some (2 * k / 2) else (if 2 * k / 2 == length network.links then network.wire else None)) inside ∙ ap (λ (n : ℕ). Some n) half in
+    ap (λ (b : Bool). if b then Some (2 * k / 2) else (if 2 * k / 2 == length network.links then network.wire else None)) inside ∙ ap (λ (n : ℕ). Some n) half in
     ap (λ (o : Option ℕ). option_map_or (link_ways network) o []) link
 
 -- a flow in a ring's table
@@ -108,4 +108,4 @@ pub own_flow_through : (network : Network) (h k : ℕ) (host : NetHost) → h < 
 own_flow_through network h k host there at first link id few d below aims =
     let ways = request_ways network k link in
     in_table (ring_ways network (2 * k)) (record { host = host.id; device = d }) id (omega (arith, below, few))
-      (ap (list_any (λ way. (way.host.id == host.id) && (way.device == d))) ways ∙ own_flow network h k host there at first d below aims)
+    (ap (list_any (λ way. (way.host.id == host.id) && (way.device == d))) ways ∙ own_flow network h k host there at first d below aims)

@@ -27,10 +27,10 @@ from_line P asked (suc n) i (l ∷ lines) all =
 
 -- what holds of all packets holds of those that are left
 pub all_left : (P : Message → Type 0) (asked : Asked) (next part : ℕ) → All P (asked_packets asked) → All P (packets_left asked next part)
-all_left P asked next part all = 
+all_left P asked next part all =
     let here : 0 + next ≡ next = omega arith in
     All-drop P part (packets_from asked next (drop next asked.lines))
-      (subst (λ (n : ℕ). All P (packets_from asked n (drop next asked.lines))) here (from_line P asked next 0 asked.lines all))
+    (subst (λ (n : ℕ). All P (packets_from asked n (drop next asked.lines))) here (from_line P asked next 0 asked.lines all))
 
 -- the packets of one transaction are sound
 sound_line : (asked : Asked) (i : ℕ) (l : Line) → IsTransaction l.txn → i < 65536 → All IsSound (sent_packets asked i l)
@@ -45,8 +45,8 @@ sound_lines : (asked : Asked) (i : ℕ) (lines : List Line) → All (λ l. IsTra
 sound_lines asked i [] all few = All-nil IsSound
 sound_lines asked i (l ∷ lines) all few =
     All-append IsSound (sent_packets asked i l) (packets_from asked (i + 1) lines)
-      (sound_line asked i l (All-head (λ x. IsTransaction x.txn) l lines all) (omega arith))
-      (sound_lines asked (i + 1) lines (All-tail (λ x. IsTransaction x.txn) l lines all) (omega arith))
+    (sound_line asked i l (All-head (λ x. IsTransaction x.txn) l lines all) (omega arith))
+    (sound_lines asked (i + 1) lines (All-tail (λ x. IsTransaction x.txn) l lines all) (omega arith))
 
 -- the packets of a host are sound
 pub sound_packets : (asked : Asked) → AreIssuable asked → All IsSound (asked_packets asked)
@@ -61,7 +61,7 @@ next_passes asked plan next part offered m rest issuable made so_far left = reco
   room =
       let words : length (message_accesses m) ≡ m.count = length-map-range_with_len (access_at m) 0 m.count in
       let whole : offered ++ (message_accesses m ++ flat_map message_accesses rest) ≡ asked_accesses asked =
-          ap (λ (list : List Message). offered ++ flat_map message_accesses list) (sym left) ∙ so_far in
+      ap (λ (list : List Message). offered ++ flat_map message_accesses list) (sym left) ∙ so_far in
       let all = ap length whole in
       let first = length-append offered (message_accesses m ++ flat_map message_accesses rest) in
       let second = length-append (message_accesses m) (flat_map message_accesses rest) in

@@ -46,11 +46,11 @@ parts_lie (suc n) width m more some =
           let span : w * s ≤ m.count * s = mul-le-mul_right s (omega (arith, below)) in
           let split : (m.count - w) * s + w * s ≡ m.count * s = (let joined : (m.count - w) + w ≡ m.count = omega (arith, below) in let spread : ((m.count - w) + w) * s ≡ (m.count - w) * s + w * s = omega arith in sym spread ∙ ap (λ (k : ℕ). k * s) joined) in
           All-cons (LiesIn m) (first_part width m) (parts_in n width (other_parts width m))
-            (record { op = refl; host = refl; first = omega arith; last = omega (arith, span); some = some_span w m.size some })
-            (All-weaker (LiesIn (other_parts width m)) (LiesIn m)
-              (λ p is. let first = is.first in let last = is.last in record { op = is.op; host = is.host; first = omega (arith, first); last = omega (arith, last, split); some = is.some })
-              (parts_in n width (other_parts width m))
-              (parts_lie n width (other_parts width m) (omega (arith, below)) some))
+          (record { op = refl; host = refl; first = omega arith; last = omega (arith, span); some = some_span w m.size some })
+          (All-weaker (LiesIn (other_parts width m)) (LiesIn m)
+          (λ p is. let first = is.first in let last = is.last in record { op = is.op; host = is.host; first = omega (arith, first); last = omega (arith, last, split); some = is.some })
+          (parts_in n width (other_parts width m))
+          (parts_lie n width (other_parts width m) (omega (arith, below)) some))
     ] refl
 
 -- each packet of a message lies within it
@@ -69,28 +69,28 @@ same_range d a n p s placed page first last some =
     let page_first = (both_true (d.base % 4096 == 0) (nat_le (d.base + device_size d) (2 ^ 56)) placed).0 in
     let whole : d.base % 4096 ≡ 0 = grind (arith, nat_tests) in
     same_test (holds_span p s (range_of d)) (has_address a d)
-      (λ holds.
-        let parts = both_true (nat_le d.base p) (nat_le (p + s) (d.base + device_size d)) holds in
-        let low_test = parts.0 in
-        let high_test = parts.1 in
-        let low : d.base ≤ p = grind (arith, nat_tests) in
-        let high : p + s ≤ d.base + d.pages * 4096 = grind (arith, nat_tests) in
-        let low_too : d.base ≤ a = omega (arith, low, whole, page, first, last, some) in
-        let high_too : a < d.base + d.pages * 4096 = omega (arith, high, first, some) in
-        let a_test : nat_le d.base a ≡ true = grind (arith, nat_tests) in
-        let b_test : nat_lt a (d.base + device_size d) ≡ true = grind (arith, nat_tests) in
-        rw (a_test, b_test) refl)
-      (λ has.
-        let parts = both_true (nat_le d.base a) (nat_lt a (d.base + device_size d)) has in
-        let low_test = parts.0 in
-        let high_test = parts.1 in
-        let low : d.base ≤ a = grind (arith, nat_tests) in
-        let high : a < d.base + d.pages * 4096 = grind (arith, nat_tests) in
-        let low_too : d.base ≤ p = omega (arith, low, first) in
-        let high_too : p + s ≤ d.base + d.pages * 4096 = omega (arith, high, whole, page, last) in
-        let a_test : nat_le d.base p ≡ true = grind (arith, nat_tests) in
-        let b_test : nat_le (p + s) (d.base + device_size d) ≡ true = grind (arith, nat_tests) in
-        rw (a_test, b_test) refl)
+    (λ holds.
+    let parts = both_true (nat_le d.base p) (nat_le (p + s) (d.base + device_size d)) holds in
+    let low_test = parts.0 in
+    let high_test = parts.1 in
+    let low : d.base ≤ p = grind (arith, nat_tests) in
+    let high : p + s ≤ d.base + d.pages * 4096 = grind (arith, nat_tests) in
+    let low_too : d.base ≤ a = omega (arith, low, whole, page, first, last, some) in
+    let high_too : a < d.base + d.pages * 4096 = omega (arith, high, first, some) in
+    let a_test : nat_le d.base a ≡ true = grind (arith, nat_tests) in
+    let b_test : nat_lt a (d.base + device_size d) ≡ true = grind (arith, nat_tests) in
+    rw (a_test, b_test) refl)
+    (λ has.
+    let parts = both_true (nat_le d.base a) (nat_lt a (d.base + device_size d)) has in
+    let low_test = parts.0 in
+    let high_test = parts.1 in
+    let low : d.base ≤ a = grind (arith, nat_tests) in
+    let high : a < d.base + d.pages * 4096 = grind (arith, nat_tests) in
+    let low_too : d.base ≤ p = omega (arith, low, first) in
+    let high_too : p + s ≤ d.base + d.pages * 4096 = omega (arith, high, whole, page, last) in
+    let a_test : nat_le d.base p ≡ true = grind (arith, nat_tests) in
+    let b_test : nat_le (p + s) (d.base + device_size d) ≡ true = grind (arith, nat_tests) in
+    rw (a_test, b_test) refl)
 
 -- so the device of a packet is that of its transaction
 pub same_device : (i a n p s : ℕ) (devices : List NetDevice) → AllByRecursion (λ d. is_placed_device d ≡ true) devices → a % 4096 + n ≤ 4096 → a ≤ p → p + s ≤ a + n → 0 < s
@@ -107,12 +107,12 @@ ranges_are network ring few =
     let n = length network.devices in
     let long : length (take n (map f (range_with_len 0 32))) ≡ n = length-take-le n (map f (range_with_len 0 32)) (let all = length-map-range_with_len f 0 32 in omega (arith, all, few)) in
     same_lists (take n (map f (range_with_len 0 32))) (map range_of network.devices) (long ∙ sym (length-map network.devices range_of)) (λ k d inside.
-      let below : k < n = omega (arith, inside, long) in
-      let device = get_or network.devices k none_device in
-      get_or-take n (map f (range_with_len 0 32)) k d below
-      ∙ get_or-map-range_with_len f 0 32 k k d (omega (arith, below, few)) (omega arith)
-      ∙ ap (λ (o : Option NetDevice). option_map_or range_of o none) (slice_get-get_or network.devices k none_device below)
-      ∙ sym (get_or-map range_of network.devices k none_device d below))
+    let below : k < n = omega (arith, inside, long) in
+    let device = get_or network.devices k none_device in
+    get_or-take n (map f (range_with_len 0 32)) k d below
+    ∙ get_or-map-range_with_len f 0 32 k k d (omega (arith, below, few)) (omega arith)
+    ∙ ap (λ (o : Option NetDevice). option_map_or range_of o none) (slice_get-get_or network.devices k none_device below)
+    ∙ sym (get_or-map range_of network.devices k none_device d below))
   where
     none_device : NetDevice
     none_device = record { name = []; base = 0; pages = 0; readonly = false; image = [] }

@@ -59,8 +59,8 @@ bytes_between width before after x a wide here =
     let whole : flat_map f (before ++ x ∷ after) ≡ flat_map f before ++ (f x ++ flat_map f after) = flat_map-append f before (x ∷ after) in
     let front : take (length before * width) (flat_map f (before ++ x ∷ after)) ≡ flat_map f before = rw (n, whole) (take-append_seam (flat_map f before) (f x ++ flat_map f after)) in
     let back : drop (length before * width + width) (flat_map f (before ++ x ∷ after)) ≡ flat_map f after =
-        rw (n, whole) (drop-append-add (flat_map f before) (f x ++ flat_map f after) width)
-        ∙ ap (λ (k : ℕ). drop k (f x ++ flat_map f after)) (sym here) ∙ drop-append_seam (f x) (flat_map f after) in
+    rw (n, whole) (drop-append-add (flat_map f before) (f x ++ flat_map f after) width)
+    ∙ ap (λ (k : ℕ). drop k (f x ++ flat_map f after)) (sym here) ∙ drop-append_seam (f x) (flat_map f after) in
     rw (front, back) (flat_map-append f before (Some a ∷ after))
 
 wide_before : (width : ℕ) (xs ys : List (Option Access)) → AllByRecursion (IsAsWide width) (xs ++ ys) → AllByRecursion (IsAsWide width) xs

@@ -49,17 +49,17 @@ one_changed f g n k a below others here =
           let first : with_answer fs k a ≡ set fs k (Some a) = with_first fs k a (ap is_some (at ∙ e)) in
           let there : g k ≡ Some a = here ∙ ap (λ (x : Option Access). option_or x (Some a)) e in
           let same : gs ≡ set fs k (Some a) = same_lists gs (set fs k (Some a)) (long_g ∙ sym long_f ∙ sym (length-set fs k (Some a))) (λ j d inside.
-              let j_in : j < n = omega (arith, inside, long_g) in
-              let left : get_or gs j d ≡ g j = get_or-map-range_with_len g 0 n j j d j_in (omega arith) in
-              one_or_other j k (get_or gs j d ≡ get_or (set fs k (Some a)) j d)
-                (λ same. left ∙ ap g same ∙ there ∙ sym (ap (λ (i : ℕ). get_or (set fs k (Some a)) i d) same ∙ get_or-set_same fs k (Some a) d (omega (arith, below, long_f))))
-                (λ other. left ∙ others j j_in other ∙ sym (get_or-set_other fs k j (Some a) d other ∙ get_or-map-range_with_len f 0 n j j d j_in (omega arith)))) in
+          let j_in : j < n = omega (arith, inside, long_g) in
+          let left : get_or gs j d ≡ g j = get_or-map-range_with_len g 0 n j j d j_in (omega arith) in
+          one_or_other j k (get_or gs j d ≡ get_or (set fs k (Some a)) j d)
+          (λ same. left ∙ ap g same ∙ there ∙ sym (ap (λ (i : ℕ). get_or (set fs k (Some a)) i d) same ∙ get_or-set_same fs k (Some a) d (omega (arith, below, long_f))))
+          (λ other. left ∙ others j j_in other ∙ sym (get_or-set_other fs k j (Some a) d other ∙ get_or-map-range_with_len f 0 n j j d j_in (omega arith)))) in
           same ∙ sym first
       | Some y ↦ λ e.
           let second : with_answer fs k a ≡ fs = with_second fs k a (ap is_some (at ∙ e)) in
           let there : g k ≡ f k = here ∙ ap (λ (x : Option Access). option_or x (Some a)) e ∙ sym e in
           range_agrees g f 0 0 n (λ j inside. let none : 0 + j ≡ j = omega arith in
-              rw none (one_or_other j k (g j ≡ f j) (λ same. ap g same ∙ there ∙ ap f (sym same)) (λ other. others j inside other)))
+          rw none (one_or_other j k (g j ≡ f j) (λ same. ap g same ∙ there ∙ ap f (sym same)) (λ other. others j inside other)))
           ∙ sym second
     ] refl
 
@@ -118,9 +118,9 @@ other_answer asked received a i j l at inside below elsewhere =
     let word = access_at (line_message asked i l) j in
     elim (l.aimed) as (λ b. l.aimed ≡ b → device_answer (received ++ a ∷ []) b word ≡ device_answer received b word) [
       | true ↦ λ aimed. elim (is_answer_to word a) as (λ b. is_answer_to word a ≡ b → first_answer (received ++ a ∷ []) word ≡ first_answer received word) [
-          | true ↦ λ holds. absurd (elsewhere (belongs asked a i j l at inside below aimed holds))
-          | false ↦ λ fails. first_same received word a fails
-        ] refl
+        | true ↦ λ holds. absurd (elsewhere (belongs asked a i j l at inside below aimed holds))
+        | false ↦ λ fails. first_same received word a fails
+      ] refl
       | false ↦ λ aimed. refl
     ] refl
 
@@ -131,7 +131,7 @@ other_answers : (asked : Asked) (received : List Access) (a : Access) (i : ℕ) 
 other_answers asked received a i l at inside elsewhere =
     map-map (device_answer (received ++ a ∷ []) l.aimed) (access_at (line_message asked i l)) (range_with_len 0 l.txn.count)
     ∙ range_agrees (λ j. device_answer (received ++ a ∷ []) l.aimed (access_at (line_message asked i l) j)) (λ j. device_answer received l.aimed (access_at (line_message asked i l) j)) 0 0 l.txn.count
-        (λ j below. let none : 0 + j ≡ j = omega arith in rw none (other_answer asked received a i j l at inside below (elsewhere j)))
+    (λ j below. let none : 0 + j ≡ j = omega arith in rw none (other_answer asked received a i j l at inside below (elsewhere j)))
     ∙ sym (map-map (device_answer received l.aimed) (access_at (line_message asked i l)) (range_with_len 0 l.txn.count))
 
 -- all answers to a transaction, where the word belongs to word k of it
@@ -143,8 +143,8 @@ own_answers asked received a i k l is single =
     let f = λ (j : ℕ). device_answer received l.aimed (word j) in
     let g = λ (j : ℕ). device_answer (received ++ a ∷ []) l.aimed (word j) in
     let here : g k ≡ option_or (f k) (Some a) =
-        subst (λ (b : Bool). device_answer (received ++ a ∷ []) b (word k) ≡ option_or (device_answer received b (word k)) (Some a)) (sym is.aimed)
-          (first_more received (word k) a (answers_there asked a i k l is)) in
+    subst (λ (b : Bool). device_answer (received ++ a ∷ []) b (word k) ≡ option_or (device_answer received b (word k)) (Some a)) (sym is.aimed)
+    (first_more received (word k) a (answers_there asked a i k l is)) in
     map-map (device_answer (received ++ a ∷ []) l.aimed) word (range_with_len 0 l.txn.count)
     ∙ one_changed f g l.txn.count k a is.word (λ j below other. other_answer asked received a i j l is.at is.transaction below (λ there. other (single j there))) here
     ∙ ap (λ (answers : List (Option Access)). with_answer answers k a) (sym (map-map (device_answer received l.aimed) word (range_with_len 0 l.txn.count)))
@@ -173,25 +173,25 @@ table_more orders received rows a i k wanted old new issuable there old_at row i
       let told = place_told orders a.op a.size a.dst i k wanted issuable there in
       let goal : ℕ → Row → Type 0 = λ n x. IsRow (answer_width (get_or asked.lines n l)) (device_answers asked (received ++ a ∷ []) n (get_or asked.lines n l)) x in
       one_or_other j i (goal j (get_or (set rows i new) j r))
-        (λ same.
-          let here : i < length rows = let long = is.rows_of_lines in let within = there.transaction in omega (arith, long, within) in
-          let line : wanted ≡ get_or asked.lines i l = there.at ∙ get_or_default asked.lines i wanted l there.transaction in
-          let stands : get_or rows i r ≡ old = get_or_default rows i r old here ∙ sym old_at in
-          let kept : IsRow (answer_width wanted) (device_answers asked received i wanted) old =
-              subst (λ (x : Row). IsRow (answer_width wanted) (device_answers asked received i wanted) x) stands
-                (subst (λ (x : Line). IsRow (answer_width x) (device_answers asked received i x) (get_or rows i r)) (sym line) (is.each i l r there.transaction)) in
-          let answers = own_answers asked received a i k wanted there (λ m other. (place_told orders a.op a.size a.dst i m wanted issuable other).word ∙ sym told.word) in
-          let taken : IsRow (answer_width wanted) (device_answers asked (received ++ a ∷ []) i wanted) new =
-              subst (λ (xs : List (Option Access)). IsRow (answer_width wanted) xs new) (sym answers) (row (device_answers asked received i wanted) kept) in
-          let at_i : goal i (get_or (set rows i new) i r) =
-              subst (goal i) (sym (get_or-set_same rows i new r here))
-                (subst (λ (x : Line). IsRow (answer_width x) (device_answers asked (received ++ a ∷ []) i x) new) line taken) in
-          subst (λ (n : ℕ). goal n (get_or (set rows i new) n r)) (sym same) at_i)
-        (λ other.
-          let line = get_or asked.lines j l in
-          let at : line ≡ get_or asked.lines j line = get_or_default asked.lines j l line inside in
-          let answers = other_answers asked received a j line at inside (λ m placed.
-              other ((place_told orders a.op a.size a.dst j m line issuable placed).line ∙ sym told.line)) in
-          subst (goal j) (sym (get_or-set_other rows i j new r other))
-            (subst (λ (xs : List (Option Access)). IsRow (answer_width line) xs (get_or rows j r)) (sym answers) (is.each j l r inside)));
+      (λ same.
+      let here : i < length rows = let long = is.rows_of_lines in let within = there.transaction in omega (arith, long, within) in
+      let line : wanted ≡ get_or asked.lines i l = there.at ∙ get_or_default asked.lines i wanted l there.transaction in
+      let stands : get_or rows i r ≡ old = get_or_default rows i r old here ∙ sym old_at in
+      let kept : IsRow (answer_width wanted) (device_answers asked received i wanted) old =
+      subst (λ (x : Row). IsRow (answer_width wanted) (device_answers asked received i wanted) x) stands
+      (subst (λ (x : Line). IsRow (answer_width x) (device_answers asked received i x) (get_or rows i r)) (sym line) (is.each i l r there.transaction)) in
+      let answers = own_answers asked received a i k wanted there (λ m other. (place_told orders a.op a.size a.dst i m wanted issuable other).word ∙ sym told.word) in
+      let taken : IsRow (answer_width wanted) (device_answers asked (received ++ a ∷ []) i wanted) new =
+      subst (λ (xs : List (Option Access)). IsRow (answer_width wanted) xs new) (sym answers) (row (device_answers asked received i wanted) kept) in
+      let at_i : goal i (get_or (set rows i new) i r) =
+      subst (goal i) (sym (get_or-set_same rows i new r here))
+      (subst (λ (x : Line). IsRow (answer_width x) (device_answers asked (received ++ a ∷ []) i x) new) line taken) in
+      subst (λ (n : ℕ). goal n (get_or (set rows i new) n r)) (sym same) at_i)
+      (λ other.
+      let line = get_or asked.lines j l in
+      let at : line ≡ get_or asked.lines j line = get_or_default asked.lines j l line inside in
+      let answers = other_answers asked received a j line at inside (λ m placed.
+      other ((place_told orders a.op a.size a.dst j m line issuable placed).line ∙ sym told.line)) in
+      subst (goal j) (sym (get_or-set_other rows i j new r other))
+      (subst (λ (xs : List (Option Access)). IsRow (answer_width line) xs (get_or rows j r)) (sym answers) (is.each j l r inside)));
 }

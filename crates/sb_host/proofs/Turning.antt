@@ -131,7 +131,7 @@ module _ (ring ring_then : RingSide) (port middle port_then : PortSide) where
         cause = λ undone. (
           cause,
           ap (λ (o : Option Cause). first_cause (o ∷ found_then.waits ∷ found_then.empty ∷ []))
-            (ap (λ (f : Findings). f.full) full.found_full ∙ ap (λ (o : Option Cause). or_else o cause) (ap (λ (f : Findings). f.full) empty.found_empty)),
+              (ap (λ (f : Findings). f.full) full.found_full ∙ ap (λ (o : Option Cause). or_else o cause) (ap (λ (f : Findings). f.full) empty.found_empty)),
           ap (λ b. first_cause ((if b then Some cause else None) ∷ waits_for ∷ empty_cause ring_then ∷ [])) full.rest,
         );
         at_rest = record {
@@ -153,7 +153,7 @@ module _ (ring ring_then : RingSide) (port middle port_then : PortSide) where
       let cause = causes.Empty ring_then.plan.ring (length ring_then.received) ring_then.known in
       let found_is : found_then ≡ record no_findings { empty = Some cause } = clear.found_nothing ∙ empty.found_empty in
       let never : port_then.state.closing ≡ false → ⊥ = λ unclosed.
-          true≢false (sym (none.waits (sym (ap (λ (s : PortState). s.closing) clear.same) ∙ unclosed)) ∙ sym (ap owes clear.same) ∙ clear.ready) in record {
+      true≢false (sym (none.waits (sym (ap (λ (s : PortState). s.closing) clear.same) ∙ unclosed)) ∙ sym (ap owes clear.same) ∙ clear.ready) in record {
         unmoved = ap (λ (f : Findings). f.moved) found_is;
         same = nothing_went (as_before found found none) clear.same empty.same;
         cause = λ undone.
@@ -193,8 +193,8 @@ module _ (ring ring_then : RingSide) (port middle port_then : PortSide) where
       let none : HasOfferedNone port middle found_1 found_1 = record { same = issued.same; found_nothing = refl; waits = issued.waits } in
       let unmoved : found_1.moved ≡ false = ap (λ (f : Findings). f.moved) received.found_empty in
       let here : IsPortTurned false middle port_then found_1 found_then =
-          subst (λ (b : Bool). IsPortTurned b middle port_then found_1 found_then) unmoved
-            (subst (λ (f : Findings). IsPortTurned f.moved middle port_then f found_then) issued.found_nothing turned) in
+      subst (λ (b : Bool). IsPortTurned b middle port_then found_1 found_then) unmoved
+      (subst (λ (f : Findings). IsPortTurned f.moved middle port_then f found_then) issued.found_nothing turned) in
       ⊎_elim
       (λ (m : HasPortMoved middle port_then found_1 found_then). inl (gone_by_port found_1 found_then (as_before found_1 found_1 none) m received.same))
       (λ (rest : IsPortFull middle port_then found_1 found_then ⊎ IsPortClear false middle port_then found_1 found_then). ⊎_elim
@@ -214,5 +214,5 @@ module _ (ring ring_then : RingSide) (port middle port_then : PortSide) where
       → IsTurnOf found_then (port_then.state.shut && has_ended ring_then) answer → IsEndsTurn ring port answer ring_then port_then
   ends_turned popped offered found_1 found_2 found_then answer received issued turned kept kept_then told =
       let said = answered_by found_then before after done_then causes_then AtRest answer (came_of popped offered found_1 found_2 found_then received issued turned kept kept_then)
-          (subst (λ d. IsTurnOf found_then d answer) (sym (done_by_both port_then ring_then)) told) in
+      (subst (λ d. IsTurnOf found_then d answer) (sym (done_by_both port_then ring_then)) told) in
       record { answered = said.0; idle = said.1; one_item = one_popped popped found_1 received }

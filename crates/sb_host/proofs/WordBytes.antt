@@ -44,7 +44,7 @@ pub row_here : (asked : Asked) (received : List Access) (rows : List Row) (i : �
     → IsRow (answer_width l) (device_answers asked received i l) row
 row_here asked received rows i l row is at inside row_at =
     subst (λ (x : Row). IsRow (answer_width l) (device_answers asked received i l) x) (sym row_at)
-      (subst (λ (x : Line). IsRow (answer_width x) (device_answers asked received i x) (get_or rows i row)) (sym at) (is.each i l row inside))
+    (subst (λ (x : Line). IsRow (answer_width x) (device_answers asked received i x) (get_or rows i row)) (sym at) (is.each i l row inside))
 
 -- nothing is no more
 no_share : (size j : ℕ) (bytes : List ℕ) → length bytes ≡ 0 → length (share size j bytes) ≡ 0
@@ -57,19 +57,19 @@ bytes_by kind RespRd m j is whole below fits =
     let long : length m.bytes ≡ m.count * 2 ^ m.size = rw is at whole.carried in
     let full = length-share m.size j m.count m.bytes (omega (arith, long)) below in
     by_kind kind fits full where
-  by_kind : (kind : Kind) → is_answered_by (request_of kind) RespRd ≡ true → length (share m.size j m.bytes) ≡ 2 ^ m.size → length (share m.size j m.bytes) ≡ answer_bytes kind (2 ^ m.size)
-  by_kind Read fits full = full
-  by_kind Write fits full = absurd (cc)
-  by_kind Posted fits full = absurd (cc)
-  by_kind (Atomic type) fits full = full
+      by_kind : (kind : Kind) → is_answered_by (request_of kind) RespRd ≡ true → length (share m.size j m.bytes) ≡ 2 ^ m.size → length (share m.size j m.bytes) ≡ answer_bytes kind (2 ^ m.size)
+      by_kind Read fits full = full
+      by_kind Write fits full = absurd (cc)
+      by_kind Posted fits full = absurd (cc)
+      by_kind (Atomic type) fits full = full
 bytes_by kind RespWr m j is whole below fits =
     let none : length m.bytes ≡ 0 = rw is at whole.carried in
     by_kind kind fits (no_share m.size j m.bytes none) where
-  by_kind : (kind : Kind) → is_answered_by (request_of kind) RespWr ≡ true → length (share m.size j m.bytes) ≡ 0 → length (share m.size j m.bytes) ≡ answer_bytes kind (2 ^ m.size)
-  by_kind Read fits empty = absurd (cc)
-  by_kind Write fits empty = empty
-  by_kind Posted fits empty = absurd (cc)
-  by_kind (Atomic type) fits empty = absurd (cc)
+      by_kind : (kind : Kind) → is_answered_by (request_of kind) RespWr ≡ true → length (share m.size j m.bytes) ≡ 0 → length (share m.size j m.bytes) ≡ answer_bytes kind (2 ^ m.size)
+      by_kind Read fits empty = absurd (cc)
+      by_kind Write fits empty = empty
+      by_kind Posted fits empty = absurd (cc)
+      by_kind (Atomic type) fits empty = absurd (cc)
 bytes_by kind ReqRd m j is whole below fits = absurd (no_request kind fits) where
   no_request : (kind : Kind) → is_answered_by (request_of kind) ReqRd ≡ true → ⊥
   no_request Read h = cc

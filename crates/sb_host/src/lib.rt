@@ -14,7 +14,6 @@ mod row;
 mod script;
 mod serving;
 mod table;
-
 #[cfg(test)]
 mod tests;
 

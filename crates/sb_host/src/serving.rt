@@ -60,7 +60,11 @@ fn offer_next<T: TxEnd>(desk: &mut Desk, requests: &mut OutPort<T>)
 
 /// Passes over what is aimed at no device, offers the next packet where the port is ready, and tells the port to close
 /// where none is left. Says whether it offered a packet. Takes no memory.
-pub(crate) fn issue_next<T: TxEnd>(desk: &mut Desk, requests: &mut OutPort<T>, found: &mut Findings) -> bool
+pub(crate) fn issue_next<T: TxEnd>(
+    desk: &mut Desk,
+    requests: &mut OutPort<T>,
+    found: &mut Findings,
+) -> bool
     requires in_order { (ring : RingSide) × IsInOrder (asked_of desk.old.orders) desk.old.table.rows.items desk.old.cursor.next desk.old.cursor.part desk.old.ended (port_side T.TxEnd requests.old) ring }
     requires fit { IsFit (T.planned requests.old.tx) (state_of T.sent requests.old) }
     ensures issued { IsIssued (port_side T.TxEnd requests.old) (port_side T.TxEnd requests.new) found.old found.new result }

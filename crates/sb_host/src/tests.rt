@@ -148,6 +148,7 @@ fn take_all(table: &mut Table, orders: &Orders, answers: &[Packet])
 }
 
 const WAITING: TxnState = TxnState::Waiting;
+
 const LOST: TxnState = TxnState::Answered { code: Code::NetErr };
 
 #[test]
@@ -155,7 +156,10 @@ fn answers_come_in_any_order(rt: HostRuntime) -> Result<(), Fail> {
     let alloc = rt.alloc();
     let orders = orders(alloc)?;
     let mut table = Table::new(alloc, &orders)?;
-    assert_eq!(rt; states(&table, &orders, 0), [WAITING, WAITING, TxnState::Posted, WAITING]);
+    assert_eq!(rt;
+        states(&table, &orders, 0),
+        [WAITING, WAITING, TxnState::Posted, WAITING]
+    );
     // the second half of the read before the first, and each of them twice: the first counts
     let late = [
         bytes(32, 2, 5),
@@ -165,7 +169,10 @@ fn answers_come_in_any_order(rt: HostRuntime) -> Result<(), Fail> {
     ];
     take_all(&mut table, &orders, &late);
     let refused = TxnState::Answered { code: Code::DevErr };
-    assert_eq!(rt; states(&table, &orders, 0), [refused, WAITING, TxnState::Posted, WAITING]);
+    assert_eq!(rt;
+        states(&table, &orders, 0),
+        [refused, WAITING, TxnState::Posted, WAITING]
+    );
     let mut body = [4; 64];
     body[32..].copy_from_slice(&[5; 32]);
     assert_eq!(rt; table.body(&orders, 0, 0), body.as_slice());
@@ -189,12 +196,21 @@ fn other_words_are_dropped(rt: HostRuntime) -> Result<(), Fail> {
         bytes(64, 1, 1),
     ];
     take_all(&mut table, &orders, &strays);
-    assert_eq!(rt; states(&table, &orders, 0), [WAITING, WAITING, TxnState::Posted, WAITING]);
+    assert_eq!(rt;
+        states(&table, &orders, 0),
+        [WAITING, WAITING, TxnState::Posted, WAITING]
+    );
     let write = [written(2048, 1)];
     take_all(&mut table, &orders, &write);
     let answered = TxnState::Answered { code: Code::ExOk };
-    assert_eq!(rt; states(&table, &orders, 3), [WAITING, answered, TxnState::Posted, WAITING]);
-    assert_eq!(rt; states(&table, &orders, 4), [WAITING, answered, TxnState::Posted, LOST]);
+    assert_eq!(rt;
+        states(&table, &orders, 3),
+        [WAITING, answered, TxnState::Posted, WAITING]
+    );
+    assert_eq!(rt;
+        states(&table, &orders, 4),
+        [WAITING, answered, TxnState::Posted, LOST]
+    );
     assert_eq!(rt; table.body(&orders, 4, 3), [0; 16].as_slice());
     Ok(())
 }

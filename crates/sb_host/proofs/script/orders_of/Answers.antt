@@ -14,4 +14,4 @@ returns-clause-issuable c =
     let plan = c.index-plan.result.now in
     let at : plan ≡ get_or b.hosts.items c.args.number plan = rw c.from.ensures at c.index-plan.ensures in
     bundle_issuable b c.args.number plan c.in_ok-lines.lines.items c.requires.number at
-      (c.in_ok-lines.ensures.lines ∙ ap (λ (script : List Txn). map (line_in (network_of b)) script) c.as_slice.ensures)
+    (c.in_ok-lines.ensures.lines ∙ ap (λ (script : List Txn). map (line_in (network_of b)) script) c.as_slice.ensures)

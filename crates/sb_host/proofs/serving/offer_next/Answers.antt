@@ -12,4 +12,4 @@ offer-requires-clause-passes g c =
     let port = port_side g.T.TxEnd c.args.requests.now in
     let is = c.requires.in_order.1 in
     next_passes (asked_of d.orders) port.plan d.cursor.next d.cursor.part (offered_words port) (message_of c.issue-packet.result)
-      (packets_left (asked_of d.orders) c.issue-packet.new.self.next c.issue-packet.new.self.part) is.issuable is.made is.offered c.issue-packet.ensures.packet
+    (packets_left (asked_of d.orders) c.issue-packet.new.self.next c.issue-packet.new.self.part) is.issuable is.made is.offered c.issue-packet.ensures.packet

@@ -11,11 +11,11 @@ returns-in-Some-Packet-clause-in_order g c = λ port is.
     let d = c.args.desk.now in
     let ring = ring_side g.U.RxEnd c.args.answers.now in
     after_packet (asked_of d.orders) d.cursor.next d.cursor.part d.ended port ring (ring_side g.U.RxEnd c.pop_ring.new.ring) d.table.rows.items c.take.new.self.rows.items c.in-Some-Packet.answer
-      (c.in-Some-Packet.ensures.popped.received ∙ ap (λ (i : Item). ring.received ++ i ∷ []) c.in-Some-Packet.field-0-is) c.take.ensures.taken is
+    (c.in-Some-Packet.ensures.popped.received ∙ ap (λ (i : Item). ring.received ++ i ∷ []) c.in-Some-Packet.field-0-is) c.take.ensures.taken is
 
 pub returns-in-Some-Close-clause-in_order : goal.returns-in-Some-Close-clause-in_order
 returns-in-Some-Close-clause-in_order g c = λ port is.
     let d = c.args.desk.now in
     let ring = ring_side g.U.RxEnd c.args.answers.now in
     after_close (asked_of d.orders) d.cursor.next d.cursor.part d.ended port ring (ring_side g.U.RxEnd c.pop_ring.new.ring) d.table.rows.items
-      (c.in-Some-Close.ensures.popped.received ∙ ap (λ (i : Item). ring.received ++ i ∷ []) c.in-Some-Close.field-0-is) is
+    (c.in-Some-Close.ensures.popped.received ∙ ap (λ (i : Item). ring.received ++ i ∷ []) c.in-Some-Close.field-0-is) is

@@ -23,7 +23,7 @@ returns-clause-in_order g c =
     let port_then = port_side g.T.TxEnd c.turn_port.new.port in
     let ring_then = ring_side g.U.RxEnd c.receive-popped.new.answers in
     let is : IsInOrder (asked_of d.orders) d.table.rows.items d.cursor.next d.cursor.part d.ended middle ring_then =
-        c.issue_next-offered.ensures.in_order ring_then (c.receive-popped.ensures.in_order (port_side g.T.TxEnd c.args.requests.now) c.requires.in_order) in
+    c.issue_next-offered.ensures.in_order ring_then (c.receive-popped.ensures.in_order (port_side g.T.TxEnd c.args.requests.now) c.requires.in_order) in
     record {
       issuable = is.issuable;
       made = subst (λ (p : RingPlan). IsMadeFor p (asked_of d.orders)) (sym c.turn_port.ensures.kept.plan) is.made;

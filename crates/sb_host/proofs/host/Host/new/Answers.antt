@@ -30,16 +30,16 @@ returns-clause-whole g c =
     let number = c.args.number in
     let host : NetHost = get_or network.hosts number (host_of idle_plan) in
     let there : slice_get network.hosts number ≡ Some host =
-        let inside = c.requires.number in slice_get-get_or network.hosts number (host_of idle_plan) (let long = length-map c.args.bundle.now.hosts.items host_of in omega (arith, inside, long)) in
+    let inside = c.requires.number in slice_get-get_or network.hosts number (host_of idle_plan) (let long = length-map c.args.bundle.now.hosts.items host_of in omega (arith, inside, long)) in
     let asked = asked_of c.in_ok-orders.orders in
     let port = port_side g.F.Tx.TxEnd c.new-2.result in
     let ring = ring_side g.F.Rx.RxEnd c.args.leg.answers in
     let plan : port.plan ≡ g.F.Tx.TxEnd.planned c.args.leg.requests = ap g.F.Tx.TxEnd.planned c.new-2.ensures.end in
     let made : IsMadeFor port.plan asked =
-        subst (λ (p : RingPlan). IsMadeFor p asked) (sym plan)
-          (subst (λ (a : Asked). IsMadeFor (g.F.Tx.TxEnd.planned c.args.leg.requests) a) (sym (c.in_ok-orders.ensures.asked host there)) (subst (λ (p : RingPlan). IsMadeFor p (asked_by network host)) (sym c.requires.planned) (own_ring_made network number c.args.leg.link host (accepted c.args.bundle.now) there c.requires.own))) in
+    subst (λ (p : RingPlan). IsMadeFor p asked) (sym plan)
+    (subst (λ (a : Asked). IsMadeFor (g.F.Tx.TxEnd.planned c.args.leg.requests) a) (sym (c.in_ok-orders.ensures.asked host there)) (subst (λ (p : RingPlan). IsMadeFor p (asked_by network host)) (sym c.requires.planned) (own_ring_made network number c.args.leg.link host (accepted c.args.bundle.now) there c.requires.own))) in
     let state : port.state ≡ record { sent = []; waiting = nothing_waits port.plan.width; closing = false; shut = false; claimed = 0 } =
-        c.new-2.ensures.state ∙ ap (λ (p : RingPlan). record { sent = []; waiting = nothing_waits p.width; closing = false; shut = false; claimed = 0 }) (sym plan) in
+    c.new-2.ensures.state ∙ ap (λ (p : RingPlan). record { sent = []; waiting = nothing_waits p.width; closing = false; shut = false; claimed = 0 }) (sym plan) in
     record {
       port = port;
       ring = ring;

@@ -8,14 +8,16 @@ use Rattle.sb_host.proofs.RowAnswers.{row_taken}
 use Rattle.sb_host.proofs.row.Row.take.Goals as goal
 
 pub returns : goal.returns
-returns c = record { row = λ answers a is code bytes.
-    let body = c.args.self.now.body.items in
-    let place = c.args.word * length c.args.bytes.now in
-    let words : length c.args.self.now.answered.items ≡ length answers = ap length is.answered ∙ length-map answers is_some in
-    let word = c.requires.word in
-    let new : Row = record { answered = with_item c.args.self.now.answered c.args.word true; missing = c.args.self.now.missing - 1; code = c.max-self.result; body = c.overwrite.new.bytes } in
-    row_taken (length c.args.bytes.now) answers c.args.self.now new c.args.word a is (omega (arith, words, word)) (ap length bytes)
+returns c = record {
+  row = λ answers a is code bytes.
+      let body = c.args.self.now.body.items in
+      let place = c.args.word * length c.args.bytes.now in
+      let words : length c.args.self.now.answered.items ≡ length answers = ap length is.answered ∙ length-map answers is_some in
+      let word = c.requires.word in
+      let new : Row = record { answered = with_item c.args.self.now.answered c.args.word true; missing = c.args.self.now.missing - 1; code = c.max-self.result; body = c.overwrite.new.bytes } in
+      row_taken (length c.args.bytes.now) answers c.args.self.now new c.args.word a is (omega (arith, words, word)) (ap length bytes)
       (sym (rw c.if-index.false at c.index.ensures)) refl refl
       (c.max-self.ensures ∙ ap (max c.args.self.now.code) (sym code))
       (c.overwrite.ensures.written ∙ ap (λ (piece : List ℕ). take place body ++ piece ++ drop (place + length c.args.bytes.now) body) (sym bytes)
-        ∙ append_assoc (take place body) a.bytes (drop (place + length c.args.bytes.now) body)) }
+      ∙ append_assoc (take place body) a.bytes (drop (place + length c.args.bytes.now) body));
+}

@@ -25,5 +25,5 @@ pub returns : goal.returns
 returns c =
     let asked = asked_of c.args.orders.now in
     let all : c.loop-line.line-index ≡ length asked.lines =
-        let past = c.loop-line-test.false in let within = c.loop-line.auto.line-index-end in let long = ap length c.deref-line-items.ensures.value in omega (arith, past, within, long) in
+    let past = c.loop-line-test.false in let within = c.loop-line.auto.line-index-end in let long = ap length c.deref-line-items.ensures.value in omega (arith, past, within, long) in
     record { empty = empty_table asked c.loop-line.rows.items (c.loop-line.invariant.rows ∙ all) (λ i d r below. c.loop-line.invariant.each i d r (omega (arith, below, all))) }

@@ -28,21 +28,25 @@ pub take_word-requires-clause-table : goal.take_word-requires-clause-table
 take_word-requires-clause-table c = (_, c.loop-word.invariant.so_far c.requires.table.0 c.requires.table.1)
 
 pub loop-word-preserved : goal.loop-word-preserved
-loop-word-preserved c = record { so_far = λ received is.
-    let p = c.args.packet.now in
-    let k = c.loop-word.word in
-    let words = c.word_count-word-end.ensures.words in
-    let test = c.loop-word-test.true in
-    let more = word_more p k (omega (arith, words, test)) in
-    let joined : (received ++ take k (accesses_of p)) ++ access_at (message_of p) k ∷ [] ≡ received ++ take (k + 1) (accesses_of p) =
-        append_assoc received (take k (accesses_of p)) (access_at (message_of p) k ∷ []) ∙ ap (λ (rest : List Access). received ++ rest) (sym more) in
-    subst (λ (list : List Access). IsTable (asked_of c.args.orders.now) list c.take_word.new.self.rows.items) joined
-      (c.take_word.ensures.taken (received ++ take k (accesses_of p)) (c.loop-word.invariant.so_far received is)) }
+loop-word-preserved c = record {
+  so_far = λ received is.
+      let p = c.args.packet.now in
+      let k = c.loop-word.word in
+      let words = c.word_count-word-end.ensures.words in
+      let test = c.loop-word-test.true in
+      let more = word_more p k (omega (arith, words, test)) in
+      let joined : (received ++ take k (accesses_of p)) ++ access_at (message_of p) k ∷ [] ≡ received ++ take (k + 1) (accesses_of p) =
+      append_assoc received (take k (accesses_of p)) (access_at (message_of p) k ∷ []) ∙ ap (λ (rest : List Access). received ++ rest) (sym more) in
+      subst (λ (list : List Access). IsTable (asked_of c.args.orders.now) list c.take_word.new.self.rows.items) joined
+      (c.take_word.ensures.taken (received ++ take k (accesses_of p)) (c.loop-word.invariant.so_far received is));
+}
 
 pub returns : goal.returns
-returns c = record { taken = λ received is.
-    let p = c.args.packet.now in
-    let words = c.word_count-word-end.ensures.words in
-    let test = c.loop-word-test.false in
-    subst (λ (list : List Access). IsTable (asked_of c.args.orders.now) (received ++ list) c.loop-word.self.rows.items) (all_words p c.loop-word.word (omega (arith, words, test)))
-      (c.loop-word.invariant.so_far received is) }
+returns c = record {
+  taken = λ received is.
+      let p = c.args.packet.now in
+      let words = c.word_count-word-end.ensures.words in
+      let test = c.loop-word-test.false in
+      subst (λ (list : List Access). IsTable (asked_of c.args.orders.now) (received ++ list) c.loop-word.self.rows.items) (all_words p c.loop-word.word (omega (arith, words, test)))
+      (c.loop-word.invariant.so_far received is);
+}

@@ -16,11 +16,13 @@ place_of-requires-clause-aligned c =
     rw span (words_aligned p.dst c.args.word p.cmd.size p.dst_aligned)
 
 pub returns-in_default : goal.returns-in_default
-returns-in_default c = record { taken = λ received is.
-    let p = c.args.packet.now in
-    let span : c.from.result ≡ c.args.word * 2 ^ p.cmd.size = c.from.ensures ∙ c.words_span.ensures in
-    let none = rw span at c.in_default.ensures.none in
-    table_same (asked_of c.args.orders.now) received c.args.self.now.rows.items (access_at (message_of p) c.args.word) none is }
+returns-in_default c = record {
+  taken = λ received is.
+      let p = c.args.packet.now in
+      let span : c.from.result ≡ c.args.word * 2 ^ p.cmd.size = c.from.ensures ∙ c.words_span.ensures in
+      let none = rw span at c.in_default.ensures.none in
+      table_same (asked_of c.args.orders.now) received c.args.self.now.rows.items (access_at (message_of p) c.args.word) none is;
+}
 
 pub index_mut-row-requires : goal.index_mut-row-requires
 index_mut-row-requires c =
@@ -63,20 +65,22 @@ take-requires-clause-room c =
     let marks = marks_of_row asked received (answer_width l) i l row is in
     let body = bytes_of_row asked received (answer_width l) i l row is in
     let wide : length c.share.result.now ≡ answer_width l =
-        ap length c.share.ensures.share ∙ bytes_of_word l.txn.kind c.args.packet.now c.args.word c.requires.word place.opcode ∙ ap (λ (s : ℕ). answer_bytes l.txn.kind (2 ^ s)) (sym place.same_size) in
+    ap length c.share.ensures.share ∙ bytes_of_word l.txn.kind c.args.packet.now c.args.word c.requires.word place.opcode ∙ ap (λ (s : ℕ). answer_bytes l.txn.kind (2 ^ s)) (sym place.same_size) in
     body ∙ ap (λ (n : ℕ). n * answer_width l) (sym marks) ∙ ap (λ (n : ℕ). length row.answered.items * n) (sym wide)
 
 pub returns : goal.returns
-returns c = record { taken = λ received is.
-    let orders = c.args.orders.now in
-    let p = c.args.packet.now in
-    let a = access_at (message_of p) c.args.word in
-    let l = c.in-Some.ensures.found.0 in
-    let span : c.from.result ≡ c.args.word * 2 ^ p.cmd.size = c.from.ensures ∙ c.words_span.ensures in
-    let place : IsPlace (asked_of orders) a.op a.size a.dst c.in-Some.place.line c.in-Some.place.word l = rw span at c.in-Some.ensures.found.1 in
-    let wide : length c.share.result.now ≡ answer_width l =
-        ap length c.share.ensures.share ∙ bytes_of_word l.txn.kind p c.args.word c.requires.word place.opcode ∙ ap (λ (s : ℕ). answer_bytes l.txn.kind (2 ^ s)) (sym place.same_size) in
-    let row : (answers : List (Option Access)) → IsRow (answer_width l) answers c.index_mut-row.result.now → IsRow (answer_width l) (with_answer answers c.in-Some.place.word a) c.take.new.self = λ answers kept.
-        subst (λ (n : ℕ). IsRow n (with_answer answers c.in-Some.place.word a) c.take.new.self) wide
-          (c.take.ensures.row answers a (subst (λ (n : ℕ). IsRow n answers c.index_mut-row.result.now) (sym wide) kept) refl (sym c.share.ensures.share)) in
-    table_more orders received c.args.self.now.rows.items a c.in-Some.place.line c.in-Some.place.word l c.index_mut-row.result.now c.take.new.self c.requires.issuable place c.index_mut-row.ensures.value row is }
+returns c = record {
+  taken = λ received is.
+      let orders = c.args.orders.now in
+      let p = c.args.packet.now in
+      let a = access_at (message_of p) c.args.word in
+      let l = c.in-Some.ensures.found.0 in
+      let span : c.from.result ≡ c.args.word * 2 ^ p.cmd.size = c.from.ensures ∙ c.words_span.ensures in
+      let place : IsPlace (asked_of orders) a.op a.size a.dst c.in-Some.place.line c.in-Some.place.word l = rw span at c.in-Some.ensures.found.1 in
+      let wide : length c.share.result.now ≡ answer_width l =
+      ap length c.share.ensures.share ∙ bytes_of_word l.txn.kind p c.args.word c.requires.word place.opcode ∙ ap (λ (s : ℕ). answer_bytes l.txn.kind (2 ^ s)) (sym place.same_size) in
+      let row : (answers : List (Option Access)) → IsRow (answer_width l) answers c.index_mut-row.result.now → IsRow (answer_width l) (with_answer answers c.in-Some.place.word a) c.take.new.self = λ answers kept.
+      subst (λ (n : ℕ). IsRow n (with_answer answers c.in-Some.place.word a) c.take.new.self) wide
+      (c.take.ensures.row answers a (subst (λ (n : ℕ). IsRow n answers c.index_mut-row.result.now) (sym wide) kept) refl (sym c.share.ensures.share)) in
+      table_more orders received c.args.self.now.rows.items a c.in-Some.place.line c.in-Some.place.word l c.index_mut-row.result.now c.take.new.self c.requires.issuable place c.index_mut-row.ensures.value row is;
+}
