@@ -19,7 +19,7 @@ use Rattle.sb_host.specs.Asked.{accesses_from, asked_accesses, asked_by, line_in
 use Rattle.sb_host.specs.Hosts.{HostSide, IsHostTurn, IsKeptHost, IsWholeHost}
 use Rattle.sb_host.specs.Rows.{IsTable}
 use Rattle.sb_host.specs.Steps.{IsIdleHost}
-use Rattle.sb_host.proofs.Offering.{closes_behind_all, offers_in_order}
+use Rattle.sb_packet.specs.Prefixes.{IsPrefix}
 use Rattle.sb_net.specs.Flows.{aimed_script}
 use Rattle.sb_net.specs.HostSides.{IsHostBuiltFor, IsHostOf}
 use Rattle.sb_net.specs.Layouts.{HasScripts, Layout}
@@ -76,18 +76,25 @@ module _ (network : Network) where
 one_there : {X : Type 0} (o : Option X) (x y : X) → o ≡ Some x → o ≡ Some y → x ≡ y
 one_there o x y a b = let same : Some x ≡ Some y = sym a ∙ b in cc
 
-pub host_promise : (network : Network) (layout : Layout) (m : Moment) (host : NetHost) (h : HostSide) (port : PortSide) → HasScripts network → All (λ d. d.base % 4096 ≡ 0) network.devices →
+-- what the laws of hosts say: what a whole host offered begins what it asks for, and is all of it once its Close was sent
+abbrev pub HostsOffer : Type 0
+HostsOffer = (h : HostSide) (port : PortSide) → IsWholeHost h → h.requests ≡ Some port → IsPrefix (offered_words port) (asked_accesses h.asked)
+
+abbrev pub HostsOfferAll : Type 0
+HostsOfferAll = (h : HostSide) (port : PortSide) → IsWholeHost h → h.requests ≡ Some port → has_close port.state.sent ≡ true → offered_words port ≡ asked_accesses h.asked
+
+pub host_promise : HostsOffer → HostsOfferAll → (network : Network) (layout : Layout) (m : Moment) (host : NetHost) (h : HostSide) (port : PortSide) → HasScripts network → All (λ d. d.base % 4096 ≡ 0) network.devices →
     IsHostOf network layout host h → IsWholeHost h → h.requests ≡ Some port → HasPort m h.asks_by port → All (λ f. f.host ≡ host.id → IsHost network layout m f) layout.requests.flows
-host_promise network layout m host h port scripts pages of whole there has k f below mine =
+host_promise offer offer_all network layout m host h port scripts pages of whole there has k f below mine =
     let flow = get_or layout.requests.flows k f in
     let first : layout.requests.first flow ≡ h.asks_by = of.asks k f below mine in
     let script : asked_accesses h.asked ≡ aimed_script network flow.host = ap asked_accesses of.asked ∙ asked_script network host scripts pages of.listed ∙ ap (aimed_script network) (sym mine) in
     let offered : m.offered (layout.requests.first flow) ≡ offered_words port = ap m.offered first ∙ has.offered in
     let sent : m.sent (layout.requests.first flow) ≡ port.state.sent = ap m.sent first ∙ has.sent in
-    let begins = offers_in_order h port whole there in
+    let begins = offer h port whole there in
     record {
       in_order = record { rest = begins.rest; joined = ap (λ (l : List Access). l ++ begins.rest) offered ∙ begins.joined ∙ script };
-      closed = λ shut. offered ∙ closes_behind_all h port whole there (ap has_close (sym sent) ∙ shut) ∙ script;
+      closed = λ shut. offered ∙ offer_all h port whole there (ap has_close (sym sent) ∙ shut) ∙ script;
     }
 
 pub idle_host_sends : (stages : Stages) (s : RoundEnd) (r : ℕ) (port : PortSide) (ring : RingSide) → ShowsPort s r port → stages.leaves_host r ≡ true → IsFit port.plan port.state → IsIdleHost port ring → IsIdleSender stages s r

@@ -17,7 +17,7 @@ use Rattle.sb_net.specs.Moments.{Moment}
 use Rattle.sb_net.specs.NetworkLayouts.{answer_ring, flow_of, network_flows, network_layout, request_ring, ring_count}
 use Rattle.sb_net.specs.Routed.{IsRouted}
 use Rattle.sb_net.specs.Runs.{IsHost}
-use Rattle.sb_net.proofs.HostSides.{host_promise}
+use Rattle.sb_net.proofs.HostSides.{HostsOffer, HostsOfferAll, host_promise}
 use Rattle.sb_net.proofs.NoFaults.{AllPairs-at}
 use Rattle.sb_net.proofs.RoutedWays.{HostWay, all_host_ways, found_ways}
 
@@ -88,13 +88,13 @@ module _ (network : Network) (routed : IsRouted network) where
     }
 
   -- where each host stands so, each flow's host keeps its promise
-  pub all_promises : (m : Moment) (hosts : ℕ → HostSide) → ((n : ℕ) → n < length network.hosts → IsHostAt network m n (hosts n)) → All (IsHost network (network_layout network) m) (network_flows network)
-  all_promises m hosts stand = All-map (IsHost network (network_layout network) m) flow_of (network_ways network)
+  pub all_promises : HostsOffer → HostsOfferAll → (m : Moment) (hosts : ℕ → HostSide) → ((n : ℕ) → n < length network.hosts → IsHostAt network m n (hosts n)) → All (IsHost network (network_layout network) m) (network_flows network)
+  all_promises offer offer_all m hosts stand = All-map (IsHost network (network_layout network) m) flow_of (network_ways network)
       (λ k d below.
       let way = get_or (network_ways network) k d in
       let w = all_host_ways network k d below in
       let n = w.place in
       let s = stand n w.inside in
-      let of_all = host_promise network (network_layout network) m way.host (hosts n) s.whole.port routed.scripts routed.pages (belongs n way.host w.at (hosts n) s.built) s.whole s.whole.has_port (s.has s.whole.port s.whole.has_port) in
+      let of_all = host_promise offer offer_all network (network_layout network) m way.host (hosts n) s.whole.port routed.scripts routed.pages (belongs n way.host w.at (hosts n) s.built) s.whole s.whole.has_port (s.has s.whole.port s.whole.has_port) in
       let at = of_all k (flow_of d) (omega (arith, below, length-map (network_ways network) flow_of)) in
       subst (λ (f : NetFlow). f.host ≡ way.host.id → IsHost network (network_layout network) m f) (get_or-map flow_of (network_ways network) k d (flow_of d) below) at refl)

@@ -5,21 +5,19 @@ use Rattle.std.proofs.lemmas.List.Elements.{All-from_get_or}
 use Rattle.std.proofs.lemmas.List.Sums.{sum_by-cons}
 use Rattle.sb_packet.specs.Accesses.{Access}
 use Rattle.sb_packet.specs.Messages.{message_of}
-use Rattle.sb_packet.specs.Plans.{RingPlan}
+use Rattle.sb_packet.specs.Plans.{NetFlow, RingPlan, goes_through, message_flow}
 use Rattle.sb_packet.specs.Prefixes.{IsSubsequence}
 use Rattle.sb_packet.specs.Soundness.{IsSound}
-use Rattle.sb_packet.specs.Traffic.{IsCarriable, has_close, item_accesses, item_messages}
+use Rattle.sb_packet.specs.Traffic.{IsCarriable, IsPlanned, has_close, item_accesses, item_messages}
 use Rattle.sb_packet.specs.declared.item.Item.{Item}
 use Rattle.sb_packet.specs.declared.packet.Packet.{Packet}
 use Rattle.sb_port.specs.Ports.{IsFit, PortState, port_accesses}
-use Rattle.sb_router.specs.Forwarding.{AreSound, Forwards, IsLaid, Words, came_for, held_for, part, popped_for}
-use Rattle.sb_router.specs.Lanes.{InletState, LaneState, Route, came_at, held_at, held_words, inlet_at, no_inlet, no_outlet, offered_at, outlet_at}
+use Rattle.sb_router.specs.Forwarding.{AreSound, Forwards, IsLaid, Passes, Words, came_for, held_for, part, popped_for}
+use Rattle.sb_router.specs.Lanes.{InletState, LaneState, Route, came_at, held_at, held_words, inlet_at, next_place, no_inlet, no_outlet, offered_at, outlet_at}
 use Rattle.sb_router.specs.RouteOf.{route_of}
 use Rattle.sb_router.specs.Routers.{DirectionSide, ForwardsAll, IsWholeDirection}
 use Rattle.sb_router.specs.Steps.{IsSilent}
 use Rattle.sb_router.specs.Whole.{IsLast, IsWholeInlet, IsWholeLane, IsWholeOutlet}
-use Rattle.sb_router.proofs.ForwardSteps.{laid_then}
-use Rattle.sb_router.proofs.Shapes.{SameShape, passed_before}
 use Rattle.sb_net.specs.RouterEnds.{IsRestoredDirection}
 
 -- sums over lists that are alike at each place
@@ -39,8 +37,33 @@ module _ (before after : DirectionSide) (restored : IsRestoredDirection before a
   abbrev t : LaneState
   t = after.lane
 
-  shape : SameShape s t
-  shape = record { inlets = restored.inlet_count; outlets = restored.outlet_count; in_plans = λ i. (restored.inlets i).ring.plan; out_plans = λ o. (restored.outlets o).port.plan }
+  -- the plans of the rings stay
+  plan_in : (i : ℕ) → (inlet_at t i).ring.plan ≡ (inlet_at s i).ring.plan
+  plan_in i = (restored.inlets i).ring.plan
+
+  plan_out : (o : ℕ) → (outlet_at t o).port.plan ≡ (outlet_at s o).port.plan
+  plan_out o = (restored.outlets o).port.plan
+
+  -- a flow that passes now passed before
+  passed : (route : Route) (f : NetFlow) (i o : ℕ) → Passes route t f i o → Passes route s f i o
+  passed route f i o passes = record {
+    inlet = omega (arith, passes.inlet, restored.inlet_count);
+    outlet = omega (arith, passes.outlet, restored.outlet_count);
+    through = sym (ap (λ (plan : RingPlan). goes_through plan.flows f) (plan_in i)) ∙ passes.through;
+    route_to = passes.route_to;
+  }
+
+  -- the rings belong together as before
+  laid_again : (words : Words) (route : Route) → IsLaid words route s → IsLaid words route t
+  laid_again words route laid = record {
+    one_flow = λ i p g lt e. laid.one_flow i p g (omega (arith, lt, restored.inlet_count)) (sym (ap (λ (plan : RingPlan). message_flow plan.flows (message_of p)) (plan_in i)) ∙ e);
+    apart = λ f i j lt lt' a b. laid.apart f i j (omega (arith, lt, restored.inlet_count)) (omega (arith, lt', restored.inlet_count))
+        (sym (ap (λ (plan : RingPlan). goes_through plan.flows f) (plan_in i)) ∙ a) (sym (ap (λ (plan : RingPlan). goes_through plan.flows f) (plan_in j)) ∙ b);
+    leads_on = λ i o p lt planned next.
+        let there : IsPlanned (outlet_at s o).port.plan (message_of p) = laid.leads_on i o p (omega (arith, lt, restored.inlet_count)) (subst (λ (plan : RingPlan). IsPlanned plan (message_of p)) (plan_in i) planned)
+        (sym (ap (λ (plan : RingPlan). next_place route plan p) (plan_in i)) ∙ next) in
+        subst (λ (plan : RingPlan). IsPlanned plan (message_of p)) (sym (plan_out o)) there;
+  }
 
   -- a direction with the table of before
   same_table : (P : Route → Type 0) → P (route_of before.rows) → P (route_of after.rows)
@@ -106,16 +129,16 @@ module _ (before after : DirectionSide) (restored : IsRestoredDirection before a
       few = λ o. let old = h.few o in omega (arith, old, ap length (offered_same o), waits_same o, popped_same o);
       picks = λ f i o passes. subst (λ (l : List Access). IsSubsequence (part words f l ++ part words f (held_at t i)) (part words f (came_at t i))) (sym (offered_same o))
           (subst (λ (l : List Access). IsSubsequence (part words f (offered_at s o) ++ part words f l) (part words f (came_at t i))) (sym (held_same i))
-          (subst (λ (l : List Access). IsSubsequence (part words f (offered_at s o) ++ part words f (held_at s i)) (part words f l)) (sym (came_same i)) (h.picks f i o (passed_before shape passes))));
+          (subst (λ (l : List Access). IsSubsequence (part words f (offered_at s o) ++ part words f (held_at s i)) (part words f l)) (sym (came_same i)) (h.picks f i o (passed (route_of before.rows) f i o passes))));
       whole = λ f i o passes sound room.
           let budget : (outlet_at t o).port.plan.budget ≡ (outlet_at s o).port.plan.budget = ap (λ (plan : RingPlan). plan.budget) (restored.outlets o).port.plan in
-          ap (part words f) (came_same i) ∙ h.whole f i o (passed_before shape passes) (sound_before sound) (omega (arith, room, budget, popped_same o))
+          ap (part words f) (came_same i) ∙ h.whole f i o (passed (route_of before.rows) f i o passes) (sound_before sound) (omega (arith, room, budget, popped_same o))
           ∙ ap (λ (l : List Access). part words f l ++ part words f (held_at s i)) (sym (offered_same o))
           ∙ ap (λ (l : List Access). part words f (offered_at t o) ++ part words f l) (sym (held_same i));
     }
 
     pub restored_direction : ForwardsAll words before → ForwardsAll words after
     restored_direction all = record {
-      laid = same_table (λ route. IsLaid words route t) (laid_then shape all.laid);
+      laid = same_table (λ route. IsLaid words route t) (laid_again words (route_of before.rows) all.laid);
       forwards = same_table (λ route. Forwards words route t) (restored_forwards all.forwards);
     }

@@ -9,11 +9,10 @@ use Rattle.sb_packet.specs.Networks.{Network}
 use Rattle.sb_packet.specs.Plans.{NetFlow, RingPlan, goes_through}
 use Rattle.sb_packet.specs.Rings.{flow_table, ring_flows, ring_plan, ring_ways}
 use Rattle.sb_packet.specs.Ways.{NetWay}
-use Rattle.sb_router.specs.Forwarding.{Passes}
+use Rattle.sb_router.specs.Forwarding.{HasForwarded, Passes, Words}
 use Rattle.sb_router.specs.Lanes.{InletState, OutletState, inlet_at, no_inlet, no_outlet, outlet_at}
 use Rattle.sb_router.specs.RouteOf.{route_of}
-use Rattle.sb_router.specs.Routers.{DirectionSide}
-use Rattle.sb_router.proofs.Forwards.{has_forwarded}
+use Rattle.sb_router.specs.Routers.{DirectionSide, ForwardsAll}
 use Rattle.sb_net.specs.Courses.{Course}
 use Rattle.sb_net.specs.Flows.{is_among, is_same_flow}
 use Rattle.sb_net.specs.Moments.{Moment}
@@ -69,12 +68,16 @@ through_flow network ring ws fs f same flows host device among =
     let device : (way.device == f.device) ≡ true = grind (arith, nat_tests) in
     rw (host, device) refl) ws there)
 
+-- what the law of routers says of each flow that passes a direction
+abbrev pub RoutersHandOn : Type 0
+RoutersHandOn = (words : Words) (d : DirectionSide) (f : NetFlow) (i o : ℕ) → ForwardsAll words d → Passes (route_of d.rows) d.lane f i o → HasForwarded words d.lane f i o
+
 -- A router keeps its promise for a flow that goes over one of its rings that come in and over one of those that go out.
-pub one_step : (network : Network) (c : Course) (m : Moment) (ins outs : List ℕ) (d : DirectionSide) → IsRouterAt network c m ins outs d → IsRouterOf c outs d.lane → (f : NetFlow) (a b : ℕ) →
+pub one_step : RoutersHandOn → (network : Network) (c : Course) (m : Moment) (ins outs : List ℕ) (d : DirectionSide) → IsRouterAt network c m ins outs d → IsRouterOf c outs d.lane → (f : NetFlow) (a b : ℕ) →
     is_in a ins ≡ true → is_in b outs ≡ true → goes_through (ring_flows network a) f ≡ true → goes_through (ring_flows network b) f ≡ true → Forwards network c m f a b
-one_step network c m ins outs d at of f a b comes goes by_in by_out =
+one_step hand_on network c m ins outs d at of f a b comes goes by_in by_out =
     subst (λ (n : ℕ). Forwards network c m f n b) in_number (subst (Forwards network c m f (inlet_at d.lane i).number) out_number
-    (router_promise network c m outs (route_of d.rows) d.lane at.has of at.whole f i o passes (has_forwarded at.forwards.forwards f i o passes)))
+    (router_promise network c m outs (route_of d.rows) d.lane at.has of at.whole f i o passes (hand_on _ d f i o at.forwards passes)))
   where
     in_place : (i : ℕ) × (i < length ins) × (get_or ins i 0 ≡ a)
     in_place = place_in a ins comes

@@ -22,7 +22,7 @@ use Rattle.sb_net.proofs.ListPlaces.{or_left, or_right}
 use Rattle.sb_net.proofs.NetworkLaidOut.{FlowWay, answers_way, flow_ways, goes_back, goes_there, requests_way}
 use Rattle.sb_net.proofs.NetworkRouters.{answers_router, requests_router}
 use Rattle.sb_net.proofs.RingsOfWays.{in_answers, in_requests}
-use Rattle.sb_net.proofs.RouterSteps.{among_kept, one_step, passing_number, through_flow}
+use Rattle.sb_net.proofs.RouterSteps.{RoutersHandOn, among_kept, one_step, passing_number, through_flow}
 use Rattle.sb_net.proofs.WaysOfRouted.{ways_of_routed}
 
 -- a fact of neighbours, along a list
@@ -97,14 +97,14 @@ module _ (network : Network) (m : Moment) (router : ℕ → DirectionSide) (rout
   link_out : (r k : ℕ) → k < length network.links → router_before network k ≡ Some r → is_in k (links_out_of network (Some r)) ≡ true
   link_out r k there leaves = passing_number (λ n. is_some_number r (router_before network n)) (length network.links) k there (named_number r (router_before network k) leaves)
 
-  module _ (at : (r : ℕ) → r < length network.routers → IsRouterAt network (network_requests network) m (request_ins network r) (request_outs network r) (router r)) where
+  module _ (hand_on : RoutersHandOn) (at : (r : ℕ) → r < length network.routers → IsRouterAt network (network_requests network) m (request_ins network r) (request_outs network r) (router r)) where
     requests_step : (i : ℕ) (e : NetFlow) → i < length (network_flows network) → (w : FlowWay network (get_or (network_flows network) i e)) → (r k j : ℕ) → k < length network.links → j < length network.links →
         is_in k (w.head ∷ w.tail) ≡ true → is_in j (w.head ∷ w.tail) ≡ true → router_after network k ≡ Some r → router_before network j ≡ Some r →
         Forwards network (network_requests network) m (get_or (network_flows network) i e) (request_ring k) (request_ring j)
     requests_step i e below w r k j k_there j_there k_on j_on leads leaves =
         let f = get_or (network_flows network) i e in
         let here = at r (routed.there k r leads) in
-        one_step network (network_requests network) m (request_ins network r) (request_outs network r) (router r) here (requests_router network routed r (router r) here.built) f (request_ring k) (request_ring j)
+        one_step hand_on network (network_requests network) m (request_ins network r) (request_outs network r) (router r) here (requests_router network routed r (router r) here.built) f (request_ring k) (request_ring j)
         (in_requests k (links_into network (Some r)) ∙ link_in r k k_there leads) (in_requests j (links_out_of network (Some r)) ∙ link_out r j j_there leaves) (through k k_there k_on) (through j j_there j_on)
       where
         through : (n : ℕ) → n < length network.links → is_in n (w.head ∷ w.tail) ≡ true → goes_through (ring_flows network (request_ring n)) (get_or (network_flows network) i e) ≡ true
@@ -120,14 +120,14 @@ module _ (network : Network) (m : Moment) (router : ℕ → DirectionSide) (rout
         subst (Along P) (sym (requests_way network f w))
         (along_map P request_ring w.head w.tail (along_way network f.device (λ k j. P (request_ring k) (request_ring j)) (w.head ∷ w.tail) (requests_step i e below w) w.head w.tail w.way (λ n on. on)))
 
-  module _ (at : (r : ℕ) → r < length network.routers → IsRouterAt network (network_answers network) m (answer_ins network r) (answer_outs network r) (router r)) where
+  module _ (hand_on : RoutersHandOn) (at : (r : ℕ) → r < length network.routers → IsRouterAt network (network_answers network) m (answer_ins network r) (answer_outs network r) (router r)) where
     answers_step : (i : ℕ) (e : NetFlow) → i < length (network_flows network) → (w : FlowWay network (get_or (network_flows network) i e)) → (r k j : ℕ) → k < length network.links → j < length network.links →
         is_in k (w.head ∷ w.tail) ≡ true → is_in j (w.head ∷ w.tail) ≡ true → router_after network k ≡ Some r → router_before network j ≡ Some r →
         Forwards network (network_answers network) m (get_or (network_flows network) i e) (answer_ring j) (answer_ring k)
     answers_step i e below w r k j k_there j_there k_on j_on leads leaves =
         let f = get_or (network_flows network) i e in
         let here = at r (routed.there k r leads) in
-        one_step network (network_answers network) m (answer_ins network r) (answer_outs network r) (router r) here (answers_router network routed r (router r) here.built) f (answer_ring j) (answer_ring k)
+        one_step hand_on network (network_answers network) m (answer_ins network r) (answer_outs network r) (router r) here (answers_router network routed r (router r) here.built) f (answer_ring j) (answer_ring k)
         (in_answers j (links_out_of network (Some r)) ∙ link_out r j j_there leaves) (in_answers k (links_into network (Some r)) ∙ link_in r k k_there leads) (through j j_there j_on) (through k k_there k_on)
       where
         through : (n : ℕ) → n < length network.links → is_in n (w.head ∷ w.tail) ≡ true → goes_through (ring_flows network (answer_ring n)) (get_or (network_flows network) i e) ≡ true

@@ -32,6 +32,8 @@ ghost use Rattle.sb_net.specs.Stages.{Stages};
 ghost use Rattle.sb_net.specs.Standstills.{IsIdleReceiver, IsIdleSender, RoundEnd};
 ghost use Rattle.sb_net.specs.Wholes.{HasAllEnded};
 
+use sb_host::hosts_offer_their_scripts;
+
 /// What a host asks for are the words of its script that a device has, where devices have whole pages; and a whole host
 /// keeps a host's promise for each of its flows.
 pub fn hosts_keep_their_promise()
@@ -42,7 +44,9 @@ pub fn hosts_keep_their_promise()
         → HasScripts network → All (λ d. d.base % 4096 ≡ 0) network.devices
         → IsHostOf network layout host h → IsWholeHost h → h.requests ≡ Some port → HasPort m h.asks_by port
         → All (λ f. f.host ≡ host.id → IsHost network layout m f) layout.requests.flows }
-{}
+{
+    hosts_offer_their_scripts();
+}
 
 /// A host that did nothing in its turn is idle at both its rings. It has told its port to close, or its ring is full.
 pub fn idle_hosts_are_idle()
@@ -104,7 +108,9 @@ pub fn hosts_keep_promises_for_all_flows()
     ensures promises { (network : Network) (m : Moment) (host : ℕ → HostSide)
         → IsRouted network → ((n : ℕ) → n < length network.hosts → IsHostAt network m n (host n))
         → All (IsHost network (network_layout network) m) (network_flows network) }
-{}
+{
+    hosts_offer_their_scripts();
+}
 
 /// The ring from a host has room for all words that the host asks of devices: they are the words of the ring's flows.
 pub fn host_rings_have_room()

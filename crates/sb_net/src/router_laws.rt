@@ -23,6 +23,8 @@ ghost use Rattle.sb_net.specs.RouterSides.{HasLane, IsAtStage, IsIdleAtRings, Is
 ghost use Rattle.sb_net.specs.Stages.{Stages};
 ghost use Rattle.sb_net.specs.Standstills.{IsIdleReceiver, IsIdleSender, RoundEnd};
 
+use sb_router::routers_hand_on;
+
 /// A direction of a router that has handed on what came of a flow, less what it dropped, keeps a router's promise for it.
 pub fn routers_keep_their_promise()
     ensures flow { (network : Network) (c : Course) (m : Moment) (outs : List ℕ) (d : DirectionSide) (f : NetFlow) (i o : ℕ)
@@ -33,7 +35,9 @@ pub fn routers_keep_their_promise()
         → HasLane m d.lane → IsRouterOf c outs d.lane → IsWholeDirection d → Passes (route_of d.rows) d.lane f i o
         → ForwardsAll (course_words network c outs) d
         → Forwards network c m f (inlet_at d.lane i).number (outlet_at d.lane o).number }
-{}
+{
+    routers_hand_on();
+}
 
 /// A direction that did nothing in a turn is idle at each of its rings.
 pub fn idle_routers_are_idle()
@@ -88,7 +92,9 @@ pub fn routers_keep_promises_along_ways()
         → ((r : ℕ) → r < length network.routers
         → IsRouterAt network (network_answers network) m (answer_ins network r) (answer_outs network r) (router r))
         → KeepsAlongWays network (network_answers network) m }
-{}
+{
+    routers_hand_on();
+}
 
 /// Where the ends of a direction were taken out and put back, as for a meeting, it is whole and has forwarded as before.
 pub fn restored_routers_go_on()
