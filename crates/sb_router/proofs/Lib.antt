@@ -23,5 +23,7 @@ pub mod Legs
 pub mod FreshLanes
 pub mod Found
 pub mod Restored
+pub mod Results
+pub mod FullRows
 pub mod KeptSteps
 pub mod ForwardSteps

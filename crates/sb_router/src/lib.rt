@@ -19,3 +19,6 @@ pub use laws::{router_is_whole_again, routers_hand_on};
 pub use router::Router;
 pub use router_core::RouterCore;
 pub use routes::Routes;
+
+#[cfg(test)]
+mod tests;

@@ -1,6 +1,7 @@
 //! A router at its links.
 
-ghost use Rattle.std.specs.Prelude.{◌≡◌, true, false, All, map, IfOk};
+ghost use Rattle.std.specs.Prelude.{◌≡◌, ◌<◌, ℕ, true, false, All, Some, length, map, IfOk};
+ghost use Rattle.sb_packet.specs.Plans.{NetFlow};
 ghost use Rattle.std.specs.Option.{option_map};
 ghost use Rattle.sb_node.specs.Sides.{port_side, ring_side};
 ghost use Rattle.sb_flow.specs.NetworkOf.{network_of};
@@ -15,6 +16,7 @@ ghost use Rattle.sb_router.specs.Ways.{IsTableOf};
 use crate::ends::{ends_in, ends_out};
 use crate::lane::Lane;
 use crate::router_core::RouterCore;
+use crate::routes::Routes;
 use crate::table::routes;
 use sb_drive::Node;
 use sb_flow::{Bundle, Paths};
@@ -99,6 +101,31 @@ impl<F: Fabric> Router<F> {
         let from = links_in(alloc, ins.as_slice())?;
         let down = routes(alloc, bundle, paths, false, number, to.as_slice())?;
         let up = routes(alloc, bundle, paths, true, number, from.as_slice())?;
+        Router::with_routes(alloc, down, up, ins, outs)
+    }
+
+    // a router whose flows go by these tables
+    pub(crate) fn with_routes(
+        alloc: Global,
+        down: Routes,
+        up: Routes,
+        ins: Vec<InLeg<F>>,
+        outs: Vec<OutLeg<F>>,
+    ) -> Result<Router<F>, AllocError>
+        requires ins { All (λ leg. IsFreshPair F.Tx.TxEnd F.Rx.RxEnd leg.answers leg.requests) ins.items }
+        requires outs { All (λ leg. IsFreshPair F.Tx.TxEnd F.Rx.RxEnd leg.requests leg.answers) outs.items }
+        requires down { (f : NetFlow) (o : ℕ) → route_of down.rows.items f ≡ Some o → o < length outs.items }
+        requires up { (f : NetFlow) (o : ℕ) → route_of up.rows.items f ≡ Some o → o < length ins.items }
+        ensures whole { IfOk result (λ r. IsWholeRouter (router_side F.Tx.TxEnd F.Rx.RxEnd r)) }
+        ensures requests_in { IfOk result (λ r. (router_side F.Tx.TxEnd F.Rx.RxEnd r).requests.lane.inlets ≡ map (λ leg. fresh_inlet F.Rx.RxEnd leg.requests) ins.items) }
+        ensures requests_out { IfOk result (λ r. (router_side F.Tx.TxEnd F.Rx.RxEnd r).requests.lane.outlets ≡ map (λ leg. fresh_outlet F.Tx.TxEnd leg.requests) outs.items) }
+        ensures answers_in { IfOk result (λ r. (router_side F.Tx.TxEnd F.Rx.RxEnd r).answers.lane.inlets ≡ map (λ leg. fresh_inlet F.Rx.RxEnd leg.answers) outs.items) }
+        ensures answers_out { IfOk result (λ r. (router_side F.Tx.TxEnd F.Rx.RxEnd r).answers.lane.outlets ≡ map (λ leg. fresh_outlet F.Tx.TxEnd leg.answers) ins.items) }
+        ensures down { IfOk result (λ r. (router_side F.Tx.TxEnd F.Rx.RxEnd r).requests.rows ≡ down.rows.items) }
+        ensures up { IfOk result (λ r. (router_side F.Tx.TxEnd F.Rx.RxEnd r).answers.rows ≡ up.rows.items) }
+        ensures forwards_requests { IfOk result (λ r. (words : Words) → Forwards words (route_of (router_side F.Tx.TxEnd F.Rx.RxEnd r).requests.rows) (router_side F.Tx.TxEnd F.Rx.RxEnd r).requests.lane) }
+        ensures forwards_answers { IfOk result (λ r. (words : Words) → Forwards words (route_of (router_side F.Tx.TxEnd F.Rx.RxEnd r).answers.rows) (router_side F.Tx.TxEnd F.Rx.RxEnd r).answers.lane) }
+    {
         let before = ends_in(alloc, ins)?;
         let behind = ends_out(alloc, outs)?;
         Ok(Router {
