@@ -15,24 +15,13 @@ use crate::orders::Orders;
 use crate::outcome::{body_of, state_of};
 use crate::place::place_of;
 use crate::row::Row;
-use sb_packet::{Kind, Op, Packet, TxnState, carried, words_span};
+use sb_packet::{Kind, Packet, TxnState, carried, word_count, words_span};
 use std::alloc::{AllocError, Global};
 
 /// The answers to the transactions of a host, one row for each.
 #[derive(Drop)]
 pub struct Table {
     pub rows: Vec<Row>,
-}
-
-// the number of words that a packet speaks of
-fn word_count(packet: &Packet) -> u32
-    ensures words { result ≡ word_count_of packet.now.cmd }
-    ensures few { result ≤ 256 }
-{
-    match packet.cmd.op {
-        Op::ReqAtomic => 1,
-        _ => u32::from(packet.cmd.len) + 1,
-    }
 }
 
 // the bytes of a word of a packet, none where it carries none
@@ -125,7 +114,7 @@ impl Table {
         requires table { (received : List Access) × IsTable (asked_of orders.now) received self.old.rows.items }
         ensures taken { (received : List Access) → IsTable (asked_of orders.now) received self.old.rows.items → IsTable (asked_of orders.now) (received ++ accesses_of packet.now) self.new.rows.items }
     {
-        for word in 0..word_count(packet) {
+        for word in 0..word_count(&packet.cmd) {
             self.take_word(orders, packet, word);
         }
     }

@@ -3,7 +3,6 @@
 ghost use Rattle.std.specs.Prelude.{◌≡◌, ◌≤◌, true, false, not, [], ◌∷◌, ◌++◌, length, IfOk};
 ghost use Rattle.sb_packet.specs.Journals.{is_request};
 ghost use Rattle.sb_packet.specs.Messages.{message_of};
-ghost use Rattle.sb_packet.specs.Spans.{word_count_of};
 ghost use Rattle.sb_packet.specs.Traffic.{has_close, IsCarriable, item_accesses};
 ghost use Rattle.sb_link.specs.Moves.{held_items};
 ghost use Rattle.sb_link.specs.PlanOf.{plan_of};
@@ -13,7 +12,7 @@ use crate::ends::{RxEnd, TxEnd};
 use crate::fabric::Fabric;
 use crate::moves::move_item;
 use crate::plan::LinkPlan;
-use sb_packet::{Cmd, Item, Op, Packet, span};
+use sb_packet::{Item, Op, Packet, span, word_count};
 use std::alloc::{AllocError, Global};
 
 /// A ring with both ends and the fabric that made it. It sends only what may follow.
@@ -184,13 +183,4 @@ fn is_answer(op: Op) -> bool
     ensures answer { result ≡ not (is_request op) }
 {
     matches!(op, Op::RespRd | Op::RespWr)
-}
-
-fn word_count(cmd: &Cmd) -> u32
-    ensures words { result ≡ word_count_of cmd.now }
-{
-    match cmd.op {
-        Op::ReqAtomic => 1,
-        _ => u32::from(cmd.len) + 1,
-    }
 }

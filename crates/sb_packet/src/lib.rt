@@ -34,5 +34,5 @@ pub use sb_word::{Cmd, Op, WordFault};
 pub use script::Script;
 pub use sizes::{ADDRESS_END, BODY_BYTES, PAGE_BYTES};
 pub use slot::{from_slot, to_slot};
-pub use spans::{carried, span, words_span};
+pub use spans::{carried, span, word_count, words_span};
 pub use transaction::{Code, Kind, Txn, TxnState};

@@ -16,8 +16,8 @@ pub fn words_span(size: u8, count: u32) -> u32
     count << size
 }
 
-/// The number of words that a command speaks of.
-fn word_count(cmd: &Cmd) -> u32
+/// The number of words that a command speaks of, 1 to 256: one for an atomic, whose `LEN` names its operation.
+pub fn word_count(cmd: &Cmd) -> u32
     ensures words { result ≡ word_count_of cmd.now }
     ensures few { result ≤ 256 }
 {

@@ -19,7 +19,7 @@ use crate::outbox::Outbox;
 use crate::port_turn::PortTurn;
 use crate::sound::is_sound;
 use sb_link::{LinkPlan, Push, TxEnd};
-use sb_packet::{Item, Op, Packet, span};
+use sb_packet::{Item, Op, Packet, span, word_count};
 
 /// The port through which a node sends over a ring: what it is offered goes out in that order, and a Close behind it.
 #[derive(Drop)]
@@ -34,16 +34,6 @@ pub struct OutPort<T: TxEnd> {
     pub shut: bool,
     /// The number of words that were offered.
     pub claimed: u32,
-}
-
-// the number of words that a packet speaks of
-fn word_count(packet: &Packet) -> u32
-    ensures words { result ≡ word_count_of packet.now.cmd }
-{
-    match packet.cmd.op {
-        Op::ReqAtomic => 1,
-        _ => u32::from(packet.cmd.len) + 1,
-    }
 }
 
 // the packet is an answer
@@ -110,7 +100,7 @@ impl<T: TxEnd> OutPort<T> {
         if !is_planned(plan, packet) {
             return false;
         }
-        if self.claimed + word_count(packet) > plan.budget {
+        if self.claimed + word_count(&packet.cmd) > plan.budget {
             return false;
         }
         true
@@ -128,7 +118,7 @@ impl<T: TxEnd> OutPort<T> {
         ensures fit { IsFit (T.planned self.new.tx) (state_of T.sent self.new) }
     {
         self.outbox.offer(packet);
-        self.claimed += word_count(packet);
+        self.claimed += word_count(&packet.cmd);
     }
 
     // sends the first packet that is owed, where the ring has room
