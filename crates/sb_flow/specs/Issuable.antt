@@ -19,7 +19,8 @@ IsOneWordIfAtomic-prop Write count = Unit-prop
 IsOneWordIfAtomic-prop Posted count = Unit-prop
 IsOneWordIfAtomic-prop (Atomic type) count = hlevel (le_prop, Coded-set coded_ℕ)
 
-IsTransaction-prop : (t : Txn) → IsProp (IsTransaction t)
+-- a line can be issued
+pub IsTransaction-prop : (t : Txn) → IsProp (IsTransaction t)
 IsTransaction-prop t = hlevel (le_prop, Coded-set coded_ℕ, HasBody-prop t.kind (t.count * 2 ^ t.size) t.body, IsOneWordIfAtomic-prop t.kind t.count)
 
 -- all lines of a script can be issued

@@ -24,11 +24,13 @@ use Rattle.sb_flow.specs.Rows.{host_of}
 use Rattle.sb_flow.specs.declared.bundle.Bundle.{Bundle}
 use Rattle.sb_flow.specs.declared.host_plan.HostPlan.{HostPlan}
 use Rattle.sb_host.specs.declared.line.Line.{Line}
+use Rattle.sb_host.specs.declared.orders.Orders.{Orders}
 use Rattle.sb_host.specs.declared.row.Row.{Row}
 use Rattle.sb_host.specs.Asked.{Asked, accesses_from, line_accesses, line_in, line_message, packets_from, sent_accesses, sent_packets}
 use Rattle.sb_host.specs.Hosts.{IsInOrder}
 use Rattle.sb_host.specs.Issuing.{IsMadeFor, packets_left}
-use Rattle.sb_host.specs.Places.{AreIssuable}
+use Rattle.sb_host.specs.Lines.{AreTransactions}
+use Rattle.sb_host.specs.Places.{AreIssuable, asked_of}
 use Rattle.sb_host.specs.Rows.{IsTable}
 use Rattle.sb_host.proofs.TableSteps.{both_true}
 
@@ -47,6 +49,10 @@ words_of_packets asked i (l ∷ lines) =
     flat_map-append message_accesses (sent_packets asked i l) (packets_from asked (i + 1) lines)
     ∙ ap (λ (words : List Access). words ++ flat_map message_accesses (packets_from asked (i + 1) lines)) (words_of_line asked i l)
     ∙ ap (λ (words : List Access). sent_accesses asked i l ++ words) (words_of_packets asked (i + 1) lines)
+
+-- what orders ask for can be issued
+pub orders_issuable : (orders : Orders) → AreIssuable (asked_of orders)
+orders_issuable orders = record { id = orders.id_fits; qos = orders.qos_fits; prot = orders.prot_fits; few = orders.few; lines = orders.issuable }
 
 -- a host that has offered nothing and received nothing
 pub begins_in_order : (asked : Asked) (rows : List Row) (port : PortSide) (ring : RingSide) → AreIssuable asked → IsMadeFor port.plan asked
@@ -89,7 +95,7 @@ limits_of h e =
     let d = three.1 in
     record { id = grind (arith, nat_tests); qos = grind (arith, nat_tests); prot = grind (arith, nat_tests); few = grind (arith, nat_tests) }
 
-lines_issuable : (network : Network) (script : List Txn) → All IsTransaction script → All (λ l. IsTransaction l.txn) (map (line_in network) script)
+lines_issuable : (network : Network) (script : List Txn) → All IsTransaction script → AreTransactions (map (line_in network) script)
 lines_issuable network [] all = All-nil (λ l. IsTransaction l.txn)
 lines_issuable network (t ∷ script) all =
     All-cons (λ l. IsTransaction l.txn) (line_in network t) (map (line_in network) script) (All-head IsTransaction t script all) (lines_issuable network script (All-tail IsTransaction t script all))
@@ -107,5 +113,5 @@ bundle_issuable b h plan lines inside at is =
       qos = limits.qos;
       prot = limits.prot;
       few = let few = limits.few in let long = ap length is ∙ length-map plan.script (line_in network) in omega (arith, few, long);
-      lines = subst (All (λ l. IsTransaction l.txn)) (sym is) (lines_issuable network plan.script plan.lines);
+      lines = subst AreTransactions (sym is) (lines_issuable network plan.script plan.lines);
     }

@@ -16,7 +16,7 @@ use Rattle.sb_host.specs.declared.orders.Orders.{Orders}
 use Rattle.sb_host.specs.declared.row.Row.{Row}
 use Rattle.sb_host.specs.Asked.{Asked, line_message}
 use Rattle.sb_host.specs.Outcomes.{line_outcome, outcomes_so_far}
-use Rattle.sb_host.specs.Places.{AreIssuable, asked_of}
+use Rattle.sb_host.specs.Places.{asked_of}
 use Rattle.sb_host.specs.Rows.{IsRow, IsTable, answer_width, device_answer, device_answers, kept_outcome}
 use Rattle.sb_host.proofs.TableSteps.{one_or_other}
 use Rattle.sb_host.proofs.KeptOutcomes.{outcome_told}
@@ -79,11 +79,11 @@ outcome_at asked received next i none l inside at =
     ∙ ap (λ (x : Line). f (i, x)) (sym at)
 
 -- What a table's row tells is what has become of its transaction.
-pub outcome_kept : (orders : Orders) (received : List Access) (rows : List Row) (next i : ℕ) (none : Outcome) (l : Line) (row : Row) → AreIssuable (asked_of orders) → i < length orders.lines.items
+pub outcome_kept : (orders : Orders) (received : List Access) (rows : List Row) (next i : ℕ) (none : Outcome) (l : Line) (row : Row) → i < length orders.lines.items
     → l ≡ get_or orders.lines.items i l → row ≡ get_or rows i row → IsTable (asked_of orders) received rows
     → get_or (outcomes_so_far (asked_of orders) received next) i none ≡ kept_outcome l.txn.kind l.aimed (nat_lt i next) row
-outcome_kept orders received rows next i none l row issuable inside at row_at is =
+outcome_kept orders received rows next i none l row inside at row_at is =
     let asked = asked_of orders in
-    let t : IsTransaction l.txn = rw (sym at) at (All-get_or (λ (x : Line). IsTransaction x.txn) orders.lines.items i l inside issuable.lines) in
+    let t : IsTransaction l.txn = rw (sym at) at (All-get_or (λ (x : Line). IsTransaction x.txn) orders.lines.items i l inside orders.issuable) in
     outcome_at asked received next i none l inside at
     ∙ outcome_told asked received (nat_lt i next) i l row t.some (row_here asked received rows i l row is at inside row_at)

@@ -10,7 +10,7 @@ use Rattle.sb_packet.proofs.ReplyAddresses.{span_of_transaction}
 use Rattle.sb_packet.specs.declared.transaction.Txn.{Txn}
 use Rattle.sb_host.specs.declared.line.Line.{Line}
 use Rattle.sb_host.specs.declared.orders.Orders.{Orders}
-use Rattle.sb_host.specs.Places.{AreIssuable, IsPlace, asked_of}
+use Rattle.sb_host.specs.Places.{IsPlace, asked_of}
 
 some_bytes : (size : ℕ) → size ≤ 3 → 0 < 2 ^ size
 some_bytes zero h = omega arith
@@ -64,9 +64,9 @@ pub record IsTold (orders : Orders) (size address i k : ℕ) (l : Line) : Type 0
   pub line : i ≡ (address - orders.id * 2 ^ 40) / 2048
   pub word : k ≡ (address - orders.id * 2 ^ 40) % 2048 / 2 ^ size
 
-pub place_told : (orders : Orders) (op : Op) (size address i k : ℕ) (l : Line) → AreIssuable (asked_of orders) → IsPlace (asked_of orders) op size address i k l → IsTold orders size address i k l
-place_told orders op size address i k l issuable is =
-    let t : IsTransaction l.txn = rw (sym is.at) at (All-get_or (λ (x : Line). IsTransaction x.txn) orders.lines.items i l is.transaction issuable.lines) in
+pub place_told : (orders : Orders) (op : Op) (size address i k : ℕ) (l : Line) → IsPlace (asked_of orders) op size address i k l → IsTold orders size address i k l
+place_told orders op size address i k l is =
+    let t : IsTransaction l.txn = rw (sym is.at) at (All-get_or (λ (x : Line). IsTransaction x.txn) orders.lines.items i l is.transaction orders.issuable) in
     let within : k * 2 ^ l.txn.size < 2048 = begins_within l.txn k t is.word in
     let here : k * 2 ^ size < 2048 = rw is.same_size at within in
     let small : size ≤ 3 = rw is.same_size at t.size in

@@ -16,7 +16,7 @@ use Rattle.sb_host.specs.declared.orders.Orders.{Orders}
 use Rattle.sb_host.specs.declared.row.Row.{Row}
 use Rattle.sb_host.specs.Asked.{Asked, line_message}
 use Rattle.sb_host.specs.Outcomes.{first_answer, is_answer_to, is_answered_by}
-use Rattle.sb_host.specs.Places.{AreIssuable, IsPlace, asked_of}
+use Rattle.sb_host.specs.Places.{IsPlace, asked_of}
 use Rattle.sb_host.specs.Rows.{IsRow, IsTable, answer_width, device_answer, device_answers, with_answer}
 use Rattle.sb_host.proofs.RowAnswers.{with_first, with_second}
 use Rattle.sb_host.proofs.Placed.{place_told}
@@ -161,16 +161,16 @@ table_same asked received rows a nowhere is = record {
 }
 
 -- a word that answers word k of transaction i changes that one's row
-pub table_more : (orders : Orders) (received : List Access) (rows : List Row) (a : Access) (i k : ℕ) (wanted : Line) (old new : Row) → AreIssuable (asked_of orders)
+pub table_more : (orders : Orders) (received : List Access) (rows : List Row) (a : Access) (i k : ℕ) (wanted : Line) (old new : Row)
     → IsPlace (asked_of orders) a.op a.size a.dst i k wanted
     → old ≡ get_or rows i old
     → ((answers : List (Option Access)) → IsRow (answer_width wanted) answers old → IsRow (answer_width wanted) (with_answer answers k a) new)
     → IsTable (asked_of orders) received rows → IsTable (asked_of orders) (received ++ a ∷ []) (set rows i new)
-table_more orders received rows a i k wanted old new issuable there old_at row is = record {
+table_more orders received rows a i k wanted old new there old_at row is = record {
   rows_of_lines = length-set rows i new ∙ is.rows_of_lines;
   each = λ j l r inside.
       let asked = asked_of orders in
-      let told = place_told orders a.op a.size a.dst i k wanted issuable there in
+      let told = place_told orders a.op a.size a.dst i k wanted there in
       let goal : ℕ → Row → Type 0 = λ n x. IsRow (answer_width (get_or asked.lines n l)) (device_answers asked (received ++ a ∷ []) n (get_or asked.lines n l)) x in
       one_or_other j i (goal j (get_or (set rows i new) j r))
       (λ same.
@@ -180,7 +180,7 @@ table_more orders received rows a i k wanted old new issuable there old_at row i
       let kept : IsRow (answer_width wanted) (device_answers asked received i wanted) old =
       subst (λ (x : Row). IsRow (answer_width wanted) (device_answers asked received i wanted) x) stands
       (subst (λ (x : Line). IsRow (answer_width x) (device_answers asked received i x) (get_or rows i r)) (sym line) (is.each i l r there.transaction)) in
-      let answers = own_answers asked received a i k wanted there (λ m other. (place_told orders a.op a.size a.dst i m wanted issuable other).word ∙ sym told.word) in
+      let answers = own_answers asked received a i k wanted there (λ m other. (place_told orders a.op a.size a.dst i m wanted other).word ∙ sym told.word) in
       let taken : IsRow (answer_width wanted) (device_answers asked (received ++ a ∷ []) i wanted) new =
       subst (λ (xs : List (Option Access)). IsRow (answer_width wanted) xs new) (sym answers) (row (device_answers asked received i wanted) kept) in
       let at_i : goal i (get_or (set rows i new) i r) =
@@ -191,7 +191,7 @@ table_more orders received rows a i k wanted old new issuable there old_at row i
       let line = get_or asked.lines j l in
       let at : line ≡ get_or asked.lines j line = get_or_default asked.lines j l line inside in
       let answers = other_answers asked received a j line at inside (λ m placed.
-      other ((place_told orders a.op a.size a.dst j m line issuable placed).line ∙ sym told.line)) in
+      other ((place_told orders a.op a.size a.dst j m line placed).line ∙ sym told.line)) in
       subst (goal j) (sym (get_or-set_other rows i j new r other))
       (subst (λ (xs : List (Option Access)). IsRow (answer_width line) xs (get_or rows j r)) (sym answers) (is.each j l r inside)));
 }

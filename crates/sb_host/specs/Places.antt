@@ -1,10 +1,11 @@
 -- Which word of a host's script a received word answers.
-use Rattle.std.specs.Prelude.{ℕ, ◌≡◌, ◌<◌, ◌≤◌, ◌+◌, ◌*◌, ◌^◌, true, length, slice_index_or, All}
+use Rattle.std.specs.Prelude.{ℕ, ◌≡◌, ◌<◌, ◌≤◌, ◌+◌, ◌*◌, ◌^◌, true, length, slice_index_or}
 use Rattle.sb_word.specs.declared.command.Op.{Op}
-use Rattle.sb_packet.specs.Scripts.{IsTransaction, reply_address, request_of}
+use Rattle.sb_packet.specs.Scripts.{reply_address, request_of}
 use Rattle.sb_host.specs.declared.line.Line.{Line}
 use Rattle.sb_host.specs.declared.orders.Orders.{Orders}
 use Rattle.sb_host.specs.Asked.{Asked}
+use Rattle.sb_host.specs.Lines.{AreTransactions}
 use Rattle.sb_host.specs.Outcomes.{is_answered_by}
 
 -- what a host asks for, by its orders
@@ -17,7 +18,7 @@ pub record AreIssuable (asked : Asked) : Type 0 where
   pub qos : asked.qos ≤ 15
   pub prot : asked.prot ≤ 3
   pub few : length asked.lines ≤ 65536
-  pub lines : All (λ l. IsTransaction l.txn) asked.lines
+  pub lines : AreTransactions asked.lines
 
 -- A word with that opcode, size and address answers word k of transaction i, which is aimed at a device.
 pub record IsPlace (asked : Asked) (op : Op) (size address i k : ℕ) (line : Line) : Type 0 where

@@ -4,7 +4,7 @@ ghost use Rattle.std.specs.Prelude.{◌≡◌, ◌≤◌, ◌<◌, [], ◌∷◌
 ghost use Rattle.sb_packet.specs.Messages.{message_of};
 ghost use Rattle.sb_host.specs.declared.line.Line.{Line};
 ghost use Rattle.sb_host.specs.Issuing.{HasComeTo, HasPassedOver, packets_left};
-ghost use Rattle.sb_host.specs.Places.{AreIssuable, asked_of};
+ghost use Rattle.sb_host.specs.Places.{asked_of};
 
 use crate::orders::Orders;
 use sb_packet::{BODY_BYTES, Packet, packet_of, packets};
@@ -21,7 +21,6 @@ pub struct Cursor {
 impl Cursor {
     /// Passes over the transactions that are next and aimed at no device.
     pub(crate) fn pass_over(&mut self, orders: &Orders)
-        requires issuable { AreIssuable (asked_of orders.now) }
         requires come { HasComeTo (asked_of orders.now) self.old.next self.old.part }
         ensures passed { HasPassedOver (asked_of orders.now) self.old.next self.new.next }
         ensures part { self.new.part ≡ self.old.part }
@@ -36,7 +35,6 @@ impl Cursor {
 
     /// The next packet, of a transaction that is aimed at a device, and goes on behind it.
     pub(crate) fn issue(&mut self, orders: &Orders) -> Packet
-        requires issuable { AreIssuable (asked_of orders.now) }
         requires come { HasComeTo (asked_of orders.now) self.old.next self.old.part }
         requires some { self.old.next < length orders.now.lines.items }
         requires aimed { (d : Line) → (slice_index_or orders.now.lines.items self.old.next d).aimed ≡ true }

@@ -1,6 +1,6 @@
 //! A host at its link.
 
-ghost use Rattle.std.specs.Prelude.{◌≡◌, ◌==◌, ◌<◌, ◌*◌, ℕ, List, [], None, Some, IfOk, if◌then◌else◌, length, slice_get, slice_index_or};
+ghost use Rattle.std.specs.Prelude.{◌≡◌, ◌==◌, ◌<◌, ◌*◌, List, [], None, Some, IfOk, if◌then◌else◌, length, slice_get, slice_index_or};
 ghost use Rattle.std.specs.Option.{option_map};
 ghost use Rattle.sb_packet.specs.Accesses.{Access};
 ghost use Rattle.sb_packet.specs.Networks.{NetHost};
@@ -12,7 +12,6 @@ ghost use Rattle.sb_flow.specs.NetworkOf.{network_of};
 ghost use Rattle.sb_host.specs.Asked.{asked_by};
 ghost use Rattle.sb_host.specs.Hosts.{IsWholeHost};
 ghost use Rattle.sb_host.specs.Outcomes.{outcomes_so_far};
-ghost use Rattle.sb_host.specs.Places.{AreIssuable};
 ghost use Rattle.sb_host.specs.Rows.{IsTable};
 
 use crate::cursor::Cursor;
@@ -112,8 +111,6 @@ impl<F: Fabric> Host<F> {
 
     /// How far the transaction at that place of the script has come.
     pub fn state(&self, index: u32) -> TxnState
-        requires issuable { AreIssuable (host_side F.Tx.TxEnd F.Rx.RxEnd self.now).asked }
-        requires table { (received : List Access) × IsTable (host_side F.Tx.TxEnd F.Rx.RxEnd self.now).asked received (host_side F.Tx.TxEnd F.Rx.RxEnd self.now).rows }
         requires index { index < length (host_side F.Tx.TxEnd F.Rx.RxEnd self.now).asked.lines }
         ensures state { (received : List Access) (none : Outcome) → IsTable (host_side F.Tx.TxEnd F.Rx.RxEnd self.now).asked received (host_side F.Tx.TxEnd F.Rx.RxEnd self.now).rows
             → (slice_index_or (outcomes_so_far (host_side F.Tx.TxEnd F.Rx.RxEnd self.now).asked received (host_side F.Tx.TxEnd F.Rx.RxEnd self.now).next) index none).state ≡ result }
@@ -125,8 +122,6 @@ impl<F: Fabric> Host<F> {
 
     /// The bytes that were answered to it; none where it isn't answered.
     pub fn body(&self, index: u32) -> &[u8]
-        requires issuable { AreIssuable (host_side F.Tx.TxEnd F.Rx.RxEnd self.now).asked }
-        requires table { (received : List Access) × IsTable (host_side F.Tx.TxEnd F.Rx.RxEnd self.now).asked received (host_side F.Tx.TxEnd F.Rx.RxEnd self.now).rows }
         requires index { index < length (host_side F.Tx.TxEnd F.Rx.RxEnd self.now).asked.lines }
         ensures body { (received : List Access) (none : Outcome) → IsTable (host_side F.Tx.TxEnd F.Rx.RxEnd self.now).asked received (host_side F.Tx.TxEnd F.Rx.RxEnd self.now).rows
             → (slice_index_or (outcomes_so_far (host_side F.Tx.TxEnd F.Rx.RxEnd self.now).asked received (host_side F.Tx.TxEnd F.Rx.RxEnd self.now).next) index none).body ≡ result.now }

@@ -4,7 +4,7 @@ ghost use Rattle.std.specs.Prelude.{◌≡◌, ◌≤◌, ◌%◌, ◌*◌, ◌^
 ghost use Rattle.sb_packet.specs.Scripts.{request_of};
 ghost use Rattle.sb_host.specs.declared.line.Line.{Line};
 ghost use Rattle.sb_host.specs.Outcomes.{is_answered_by};
-ghost use Rattle.sb_host.specs.Places.{AreIssuable, IsPlace, asked_of};
+ghost use Rattle.sb_host.specs.Places.{IsPlace, asked_of};
 
 use crate::orders::Orders;
 use sb_packet::{Kind, Op};
@@ -40,7 +40,6 @@ fn first_address(id: u8) -> u64
 
 /// The word of a script that is answered by a word with that opcode and size, which came to that address.
 pub(crate) fn place_of(orders: &Orders, op: Op, size: u8, address: u64) -> Option<Place>
-    requires issuable { AreIssuable (asked_of orders.now) }
     requires size { size ≤ 3 }
     requires range { address ≤ 2 ^ 56 }
     requires aligned { address % 2 ^ size ≡ 0 }

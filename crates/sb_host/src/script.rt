@@ -4,7 +4,7 @@ ghost use Rattle.std.specs.Prelude.{◌≡◌, ◌<◌, IfOk, Some, is_some, len
 ghost use Rattle.sb_packet.specs.Networks.{NetHost, device_at};
 ghost use Rattle.sb_flow.specs.NetworkOf.{network_of};
 ghost use Rattle.sb_host.specs.Asked.{asked_by, line_in};
-ghost use Rattle.sb_host.specs.Places.{AreIssuable, asked_of};
+ghost use Rattle.sb_host.specs.Places.{asked_of};
 
 use crate::line::Line;
 use crate::orders::Orders;
@@ -65,7 +65,6 @@ fn lines_of(alloc: Global, bundle: &Bundle, script: &[Txn]) -> Result<Vec<Line>,
 pub(crate) fn orders_of(alloc: Global, bundle: &Bundle, number: u8) -> Result<Orders, AllocError>
     requires number { number < length bundle.now.hosts.items }
     ensures asked { IfOk result (λ o. (host : NetHost) → slice_get (network_of bundle.now).hosts number ≡ Some host → asked_of o ≡ asked_by (network_of bundle.now) host) }
-    ensures issuable { IfOk result (λ o. AreIssuable (asked_of o)) }
 {
     let plan = &bundle.hosts[usize::from(number)];
     let lines = lines_of(alloc, bundle, plan.script.as_slice())?;

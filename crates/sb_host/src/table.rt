@@ -4,7 +4,7 @@ ghost use Rattle.std.specs.Prelude.{◌≡◌, ◌≤◌, ◌<◌, ◌+◌, ◌*
 ghost use Rattle.sb_packet.specs.Accesses.{Access, access_at, accesses_of};
 ghost use Rattle.sb_packet.specs.Messages.{message_of};
 ghost use Rattle.sb_packet.specs.Spans.{word_count_of};
-ghost use Rattle.sb_host.specs.Places.{AreIssuable, asked_of};
+ghost use Rattle.sb_host.specs.Places.{asked_of};
 ghost use Rattle.sb_packet.specs.Outcomes.{Outcome};
 ghost use Rattle.sb_packet.specs.Scripts.{IsTransaction};
 ghost use Rattle.sb_host.specs.Outcomes.{outcomes_so_far};
@@ -62,7 +62,6 @@ impl Table {
     ///
     /// `AllocError` where there isn't enough memory.
     pub fn new(alloc: Global, orders: &Orders) -> Result<Table, AllocError>
-        requires issuable { AreIssuable (asked_of orders.now) }
         ensures empty { IfOk result (λ table. IsTable (asked_of orders.now) [] table.rows.items) }
     {
         let mut rows = Vec::with_capacity(alloc, orders.lines.len())?;
@@ -74,9 +73,8 @@ impl Table {
 
     /// How far a transaction has come, where the host has come to transaction `next`.
     pub fn state(&self, orders: &Orders, next: usize, index: usize) -> TxnState
-        requires issuable { AreIssuable (asked_of orders.now) }
         requires index { index < length orders.now.lines.items }
-        requires table { (received : List Access) × IsTable (asked_of orders.now) received self.now.rows.items }
+        requires rows { length self.now.rows.items ≡ length orders.now.lines.items }
         ensures state { (received : List Access) (none : Outcome) → IsTable (asked_of orders.now) received self.now.rows.items → (slice_index_or (outcomes_so_far (asked_of orders.now) received next) index none).state ≡ result }
     {
         state_of(&orders.lines[index], &self.rows[index], index < next)
@@ -84,9 +82,8 @@ impl Table {
 
     /// The bytes that were answered to it; none where it isn't answered.
     pub fn body(&self, orders: &Orders, next: usize, index: usize) -> &[u8]
-        requires issuable { AreIssuable (asked_of orders.now) }
         requires index { index < length orders.now.lines.items }
-        requires table { (received : List Access) × IsTable (asked_of orders.now) received self.now.rows.items }
+        requires rows { length self.now.rows.items ≡ length orders.now.lines.items }
         ensures body { (received : List Access) (none : Outcome) → IsTable (asked_of orders.now) received self.now.rows.items → (slice_index_or (outcomes_so_far (asked_of orders.now) received next) index none).body ≡ result.now }
     {
         body_of(&orders.lines[index], &self.rows[index], index < next)
@@ -94,9 +91,9 @@ impl Table {
 
     // one word of an answer is taken where it answers a word that misses its answer, and dropped elsewhere
     fn take_word(&mut self, orders: &Orders, packet: &Packet, word: u32)
-        requires issuable { AreIssuable (asked_of orders.now) }
         requires word { word < word_count_of packet.now.cmd }
         requires table { (received : List Access) × IsTable (asked_of orders.now) received self.old.rows.items }
+        ensures rows { length self.new.rows.items ≡ length self.old.rows.items }
         ensures taken { (received : List Access) → IsTable (asked_of orders.now) received self.old.rows.items → IsTable (asked_of orders.now) (received ++ access_at (message_of packet.now) word ∷ []) self.new.rows.items }
     {
         let size = packet.cmd.size;
@@ -110,8 +107,8 @@ impl Table {
 
     /// Takes each word of an answer that answers a word of a script which misses its answer, and drops the others.
     pub fn take(&mut self, orders: &Orders, packet: &Packet)
-        requires issuable { AreIssuable (asked_of orders.now) }
         requires table { (received : List Access) × IsTable (asked_of orders.now) received self.old.rows.items }
+        ensures rows { length self.new.rows.items ≡ length self.old.rows.items }
         ensures taken { (received : List Access) → IsTable (asked_of orders.now) received self.old.rows.items → IsTable (asked_of orders.now) (received ++ accesses_of packet.now) self.new.rows.items }
     {
         for word in 0..word_count(&packet.cmd) {

@@ -4,7 +4,7 @@ ghost use Rattle.std.specs.Prelude.{◌≡◌, ◌≤◌, ◌<◌, ◌+◌, ◌*
 ghost use Rattle.sb_packet.specs.Messages.{atomic_type_of};
 ghost use Rattle.sb_packet.specs.Accesses.{Access};
 ghost use Rattle.sb_packet.specs.Scripts.{IsTransaction};
-ghost use Rattle.sb_host.specs.Places.{AreIssuable, asked_of};
+ghost use Rattle.sb_host.specs.Places.{asked_of};
 ghost use Rattle.sb_host.specs.Rows.{IsTable};
 
 use crate::cursor::Cursor;
@@ -106,7 +106,6 @@ fn written(place: u64, tail: u8) -> Packet
 
 /// What host 1 asks for here: a read of 8 words, a write of 4, a posted write, and a read that is aimed at no device.
 fn orders(alloc: Global) -> Result<Orders, AllocError>
-    ensures issuable { IfOk result (λ o. AreIssuable (asked_of o)) }
     ensures lines { IfOk result (λ o. length o.lines.items ≡ 4) }
 {
     let mut lines = Vec::new(alloc);
@@ -124,9 +123,8 @@ fn orders(alloc: Global) -> Result<Orders, AllocError>
 
 /// How far each of the four transactions has come, where the host has come to transaction `next`.
 fn states(table: &Table, orders: &Orders, next: usize) -> [TxnState; 4]
-    requires issuable { AreIssuable (asked_of orders.now) }
     requires lines { length orders.now.lines.items ≡ 4 }
-    requires table { (received : List Access) × IsTable (asked_of orders.now) received table.now.rows.items }
+    requires rows { length table.now.rows.items ≡ 4 }
 {
     [
         table.state(orders, next, 0),
@@ -138,7 +136,6 @@ fn states(table: &Table, orders: &Orders, next: usize) -> [TxnState; 4]
 
 /// Takes these answers one after another.
 fn take_all(table: &mut Table, orders: &Orders, answers: &[Packet])
-    requires issuable { AreIssuable (asked_of orders.now) }
     requires table { (received : List Access) × IsTable (asked_of orders.now) received table.old.rows.items }
     ensures table { (received : List Access) × IsTable (asked_of orders.now) received table.new.rows.items }
 {

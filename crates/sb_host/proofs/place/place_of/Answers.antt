@@ -10,7 +10,7 @@ use Rattle.sb_host.proofs.place.place_of.Goals as goal
 
 pub returns-then-line-len-clause-none : goal.returns-then-line-len-clause-none
 returns-then-line-len-clause-none c i k l is =
-    let told = place_told c.args.orders.now c.args.op c.args.size c.args.address i k l c.requires.issuable is in
+    let told = place_told c.args.orders.now c.args.op c.args.size c.args.address i k l is in
     let from : c.in_ok-from.from ≡ c.args.address - c.args.orders.now.id * 2 ^ 40 = c.in_ok-from.ensures.1 ∙ ap (λ (n : ℕ). c.args.address - n) c.first_address.ensures.first in
     let line : i ≡ c.in_ok-from.from / 2048 = told.line ∙ ap (λ (n : ℕ). n / 2048) (sym from) in
     let outside = c.if-line-len.true in
@@ -20,7 +20,7 @@ returns-then-line-len-clause-none c i k l is =
 
 pub returns-then-not-wanted-clause-none : goal.returns-then-not-wanted-clause-none
 returns-then-not-wanted-clause-none c i k l is =
-    let told = place_told c.args.orders.now c.args.op c.args.size c.args.address i k l c.requires.issuable is in
+    let told = place_told c.args.orders.now c.args.op c.args.size c.args.address i k l is in
     let from : c.in_ok-from.from ≡ c.args.address - c.args.orders.now.id * 2 ^ 40 = c.in_ok-from.ensures.1 ∙ ap (λ (n : ℕ). c.args.address - n) c.first_address.ensures.first in
     let line : i ≡ c.in_ok-from.from / 2048 = told.line ∙ ap (λ (n : ℕ). n / 2048) (sym from) in
     let same : l ≡ c.index-wanted.result.now = same_at c.args.orders.now.lines.items i (c.in_ok-from.from / 2048) l c.index-wanted.result.now line is.transaction is.at c.index-wanted.ensures in
@@ -35,7 +35,7 @@ returns-then-not-wanted-clause-none c i k l is =
 
 pub returns-then-word-from-clause-none : goal.returns-then-word-from-clause-none
 returns-then-word-from-clause-none c i k l is =
-    let told = place_told c.args.orders.now c.args.op c.args.size c.args.address i k l c.requires.issuable is in
+    let told = place_told c.args.orders.now c.args.op c.args.size c.args.address i k l is in
     let from : c.in_ok-from.from ≡ c.args.address - c.args.orders.now.id * 2 ^ 40 = c.in_ok-from.ensures.1 ∙ ap (λ (n : ℕ). c.args.address - n) c.first_address.ensures.first in
     let line : i ≡ c.in_ok-from.from / 2048 = told.line ∙ ap (λ (n : ℕ). n / 2048) (sym from) in
     let same : l ≡ c.index-wanted.result.now = same_at c.args.orders.now.lines.items i (c.in_ok-from.from / 2048) l c.index-wanted.result.now line is.transaction is.at c.index-wanted.ensures in

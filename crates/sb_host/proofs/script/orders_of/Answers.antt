@@ -8,10 +8,11 @@ use Rattle.sb_host.specs.Asked.{line_in}
 use Rattle.sb_host.proofs.Beginning.{bundle_issuable}
 use Rattle.sb_host.proofs.script.orders_of.Goals as goal
 
-pub returns-clause-issuable : goal.returns-clause-issuable
-returns-clause-issuable c =
+pub invariant_of-result : goal.invariant_of-result
+invariant_of-result c =
     let b = c.args.bundle.now in
     let plan = c.index-plan.result.now in
     let at : plan ≡ get_or b.hosts.items c.args.number plan = rw c.from.ensures at c.index-plan.ensures in
-    bundle_issuable b c.args.number plan c.in_ok-lines.lines.items c.requires.number at
-    (c.in_ok-lines.ensures.lines ∙ ap (λ (script : List Txn). map (line_in (network_of b)) script) c.as_slice.ensures)
+    let is = bundle_issuable b c.args.number plan c.in_ok-lines.lines.items c.requires.number at
+    (c.in_ok-lines.ensures.lines ∙ ap (λ (script : List Txn). map (line_in (network_of b)) script) c.as_slice.ensures) in
+    record { id_fits = is.id; qos_fits = is.qos; prot_fits = is.prot; few = is.few; issuable = is.lines }

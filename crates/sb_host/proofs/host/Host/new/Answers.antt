@@ -15,7 +15,7 @@ use Rattle.sb_flow.proofs.Bundles.{accepted, idle_plan}
 use Rattle.sb_host.specs.Asked.{Asked, asked_by}
 use Rattle.sb_host.specs.Issuing.{IsMadeFor}
 use Rattle.sb_host.specs.Places.{asked_of}
-use Rattle.sb_host.proofs.Beginning.{begins_in_order}
+use Rattle.sb_host.proofs.Beginning.{begins_in_order, orders_issuable}
 use Rattle.sb_host.proofs.OwnRings.{own_ring_made, own_ring_wide}
 use Rattle.sb_host.proofs.host.Host.new.Goals as goal
 
@@ -48,5 +48,5 @@ returns-clause-whole g c =
       port_number = ap (λ (p : RingPlan). p.ring) plan ∙ sym (ap (λ (p : RingPlan). p.ring) c.plan.ensures.plan);
       ring_number = sym (ap (λ (p : RingPlan). p.ring) c.plan-2.ensures.plan);
       fit = subst (λ (p : RingPlan). IsFit p port.state) (sym plan) c.new-2.ensures.fit;
-      in_order = begins_in_order asked c.in_ok-table.table.rows.items port ring c.in_ok-orders.ensures.issuable made state c.requires.unreceived c.in_ok-table.ensures.empty;
+      in_order = begins_in_order asked c.in_ok-table.table.rows.items port ring (orders_issuable c.in_ok-orders.orders) made state c.requires.unreceived c.in_ok-table.ensures.empty;
     }

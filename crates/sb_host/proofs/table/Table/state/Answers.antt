@@ -7,6 +7,6 @@ use Rattle.sb_host.proofs.table.Table.state.Goals as goal
 pub returns : goal.returns
 returns c = record {
   state = λ received none is.
-      ap (λ (o : Outcome). o.state) (outcome_kept c.args.orders.now received c.args.self.now.rows.items c.args.next c.args.index none c.index.result.now c.index-2.result.now c.requires.issuable c.requires.index c.index.ensures c.index-2.ensures is)
+      ap (λ (o : Outcome). o.state) (outcome_kept c.args.orders.now received c.args.self.now.rows.items c.args.next c.args.index none c.index.result.now c.index-2.result.now c.requires.index c.index.ensures c.index-2.ensures is)
       ∙ sym c.state_of.ensures;
 }

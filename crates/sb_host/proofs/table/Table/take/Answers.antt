@@ -29,6 +29,7 @@ take_word-requires-clause-table c = (_, c.loop-word.invariant.so_far c.requires.
 
 pub loop-word-preserved : goal.loop-word-preserved
 loop-word-preserved c = record {
+  rows = c.take_word.ensures.rows ∙ c.loop-word.invariant.rows;
   so_far = λ received is.
       let p = c.args.packet.now in
       let k = c.loop-word.word in
@@ -43,6 +44,7 @@ loop-word-preserved c = record {
 
 pub returns : goal.returns
 returns c = record {
+  rows = c.loop-word.invariant.rows;
   taken = λ received is.
       let p = c.args.packet.now in
       let words = c.word_count-word-end.ensures.words in

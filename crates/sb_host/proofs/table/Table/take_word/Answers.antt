@@ -1,5 +1,6 @@
 -- A word that answers none is dropped, and one that answers a word goes to that one's row.
 use Rattle.std.proofs.Common.{◌≡◌, ◌*◌, ◌^◌, ℕ, arith, refl, sym, ap, ◌∙◌, subst, length, List, Option}
+use Rattle.std.proofs.lemmas.List.{length-set}
 use Rattle.sb_packet.specs.Accesses.{Access, access_at}
 use Rattle.sb_packet.specs.Messages.{message_of}
 use Rattle.sb_packet.proofs.Places.{words_aligned}
@@ -17,6 +18,7 @@ place_of-requires-clause-aligned c =
 
 pub returns-in_default : goal.returns-in_default
 returns-in_default c = record {
+  rows = refl;
   taken = λ received is.
       let p = c.args.packet.now in
       let span : c.from.result ≡ c.args.word * 2 ^ p.cmd.size = c.from.ensures ∙ c.words_span.ensures in
@@ -70,6 +72,7 @@ take-requires-clause-room c =
 
 pub returns : goal.returns
 returns c = record {
+  rows = length-set c.args.self.now.rows.items c.in-Some.place.line c.take.new.self;
   taken = λ received is.
       let orders = c.args.orders.now in
       let p = c.args.packet.now in
@@ -82,5 +85,5 @@ returns c = record {
       let row : (answers : List (Option Access)) → IsRow (answer_width l) answers c.index_mut-row.result.now → IsRow (answer_width l) (with_answer answers c.in-Some.place.word a) c.take.new.self = λ answers kept.
       subst (λ (n : ℕ). IsRow n (with_answer answers c.in-Some.place.word a) c.take.new.self) wide
       (c.take.ensures.row answers a (subst (λ (n : ℕ). IsRow n answers c.index_mut-row.result.now) (sym wide) kept) refl (sym c.share.ensures.share)) in
-      table_more orders received c.args.self.now.rows.items a c.in-Some.place.line c.in-Some.place.word l c.index_mut-row.result.now c.take.new.self c.requires.issuable place c.index_mut-row.ensures.value row is;
+      table_more orders received c.args.self.now.rows.items a c.in-Some.place.line c.in-Some.place.word l c.index_mut-row.result.now c.take.new.self place c.index_mut-row.ensures.value row is;
 }
