@@ -54,17 +54,18 @@ fn write(alloc: Global, kind: Kind, aimed: bool) -> Result<Line, AllocError>
     })
 }
 
-/// The command of an answer to host 1, of four words of 8 bytes.
-fn command(op: Op, tail: u8) -> Cmd
+/// The command of an answer to host 1, of four words of that size.
+fn command(op: Op, size: u8, tail: u8) -> Cmd
     requires plain { atomic_type_of op 3 ≡ 0 }
+    requires size { size ≤ 3 }
     requires tail { tail ≤ 3 }
     ensures op { result.op ≡ op }
-    ensures size { result.size ≡ 3 }
+    ensures size { result.size ≡ size }
     ensures len { result.len ≡ 3 }
 {
     Cmd {
         op,
-        size: 3,
+        size,
         len: 3,
         qos: 0,
         prot: 0,
@@ -83,7 +84,7 @@ fn bytes(place: u64, tail: u8, byte: u8) -> Packet
     requires tail { tail ≤ 3 }
 {
     Packet {
-        cmd: command(Op::RespRd, tail),
+        cmd: command(Op::RespRd, 3, tail),
         dst: REPLIES + place,
         src: 0x1000,
         body: [byte; 32],
@@ -97,7 +98,20 @@ fn written(place: u64, tail: u8) -> Packet
     requires tail { tail ≤ 3 }
 {
     Packet {
-        cmd: command(Op::RespWr, tail),
+        cmd: command(Op::RespWr, 3, tail),
+        dst: REPLIES + place,
+        src: 0x1000,
+        body: [0; 32],
+    }
+}
+
+/// The same of words of 4 bytes.
+fn shorter(place: u64) -> Packet
+    requires aligned { place % 8 ≡ 0 }
+    requires range { place ≤ 8192 }
+{
+    Packet {
+        cmd: command(Op::RespWr, 2, 1),
         dst: REPLIES + place,
         src: 0x1000,
         body: [0; 32],
@@ -142,6 +156,40 @@ fn take_all(table: &mut Table, orders: &Orders, answers: &[Packet])
     for answer in answers {
         table.take(orders, answer);
     }
+}
+
+/// What host 1 asks for there: a read of 256 words.
+fn long_orders(alloc: Global) -> Result<Orders, AllocError>
+    ensures lines { IfOk result (λ o. length o.lines.items ≡ 1) }
+{
+    let mut lines = Vec::new(alloc);
+    lines.push(read(alloc, 256, true))?;
+    Ok(Orders {
+        id: 1,
+        qos: 0,
+        prot: 0,
+        lines,
+    })
+}
+
+/// Some of the 64 packets that answer a read of 256 words, each with bytes of its own.
+fn long_answers(alloc: Global, from: u8, to: u8) -> Result<Vec<Packet>, AllocError>
+    requires to { to ≤ 64 }
+{
+    let mut answers = Vec::new(alloc);
+    for part in from..to {
+        answers.push(bytes(u64::from(part) * 32, 0, part))?;
+    }
+    Ok(answers)
+}
+
+/// The 2,048 bytes of these packets.
+fn long_body(alloc: Global) -> Result<Vec<u8>, AllocError> {
+    let mut body = Vec::new(alloc);
+    for part in 0..64u8 {
+        body.extend_from_slice(&[part; 32])?;
+    }
+    Ok(body)
 }
 
 const WAITING: TxnState = TxnState::Waiting;
@@ -191,6 +239,8 @@ fn other_words_are_dropped(rt: HostRuntime) -> Result<(), Fail> {
         bytes(6144, 1, 1),
         bytes(8192, 1, 1),
         bytes(64, 1, 1),
+        // of another size
+        shorter(2048),
     ];
     take_all(&mut table, &orders, &strays);
     assert_eq!(rt;
@@ -209,5 +259,22 @@ fn other_words_are_dropped(rt: HostRuntime) -> Result<(), Fail> {
         [WAITING, answered, TxnState::Posted, LOST]
     );
     assert_eq!(rt; table.body(&orders, 4, 3), [0; 16].as_slice());
+    Ok(())
+}
+
+#[test]
+fn long_reads_are_answered(rt: HostRuntime) -> Result<(), Fail> {
+    let alloc = rt.alloc();
+    let orders = long_orders(alloc)?;
+    let mut table = Table::new(alloc, &orders)?;
+    let later = long_answers(alloc, 1, 64)?;
+    take_all(&mut table, &orders, &later);
+    assert_eq!(rt; table.state(&orders, 1, 0), WAITING);
+    assert_eq!(rt; table.body(&orders, 1, 0).len(), 0);
+    let first = long_answers(alloc, 0, 1)?;
+    take_all(&mut table, &orders, &first);
+    let answered = TxnState::Answered { code: Code::Ok };
+    assert_eq!(rt; table.state(&orders, 1, 0), answered);
+    assert_eq!(rt; table.body(&orders, 1, 0), long_body(alloc)?.as_slice());
     Ok(())
 }
