@@ -16,3 +16,4 @@ pub mod OwnWays
 pub mod MadeRings
 pub mod OwnBudget
 pub mod OwnRings
+pub mod SmallNetwork

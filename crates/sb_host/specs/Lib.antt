@@ -7,3 +7,4 @@ pub mod Issuing
 pub mod Steps
 pub mod Hosts
 pub mod SideOf
+pub mod SmallNetwork

@@ -5,6 +5,8 @@ mod cursor;
 mod desk;
 mod host;
 mod host_core;
+#[cfg(test)]
+mod host_tests;
 mod laws;
 mod line;
 mod orders;
