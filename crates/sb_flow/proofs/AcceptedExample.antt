@@ -1,9 +1,7 @@
 -- The example network, with links of the width that there is now, is accepted; and each test finds the fault of a network that has it.
-use Rattle.std.proofs.Common.{◌≡◌, lit≤, refl, [], ◌∷◌, false, Some, None, map}
+use Rattle.std.proofs.Common.{◌≡◌, refl, [], ◌∷◌, false, Some, None, map}
 use Rattle.std.specs.Prelude.{All, codes}
-use Rattle.std.proofs.lemmas.List.Elements.{All-from_recursion}
-use Rattle.sb_packet.specs.Networks.{NetDevice, NetHost, NetLink, NetRouter, Network, at_host, at_router}
-use Rattle.sb_packet.specs.Scripts.{IsTransaction}
+use Rattle.sb_packet.specs.Networks.{NetDevice, NetLink, NetRouter, Network, at_host, at_router}
 use Rattle.sb_packet.specs.Ways.{network_ways}
 use Rattle.sb_packet.proofs.NetworkExample.{cpu0, cpu1, eight_links, four_devices, three_routers, wired}
 use Rattle.sb_flow.specs.Accepted.{IsAccepted}
@@ -13,61 +11,15 @@ use Rattle.sb_flow.specs.Limits.{is_limited, word_count}
 use Rattle.sb_flow.specs.Names.{names_what_is_there, repeated_id, repeated_link_name, repeated_name}
 use Rattle.sb_flow.specs.Ranges.{misplaced_device, overfull_device, overlapping_device}
 use Rattle.sb_flow.specs.Routes.{route_fault}
+use Rattle.sb_flow.proofs.TestedNetworks.{accepted_by_test}
 use Rattle.sb_flow.proofs.WayCourses.{all_courses}
 
 -- all links 32 bytes wide
 abbrev pub wide : Network
 wide = record wired { links = map (λ (l : NetLink). record l { width = 32 }) eight_links }
 
--- each line of both scripts can be issued
-cpu0_lines : All IsTransaction cpu0.script
-cpu0_lines = All-from_recursion IsTransaction cpu0.script (
-  record { size = lit≤ tt; some = lit≤ tt; most = lit≤ tt; atomic = tt; body = refl; aligned = refl; page = lit≤ tt; range = lit≤ tt },
-  (
-    record { size = lit≤ tt; some = lit≤ tt; most = lit≤ tt; atomic = tt; body = refl; aligned = refl; page = lit≤ tt; range = lit≤ tt },
-    (
-      record { size = lit≤ tt; some = lit≤ tt; most = lit≤ tt; atomic = tt; body = refl; aligned = refl; page = lit≤ tt; range = lit≤ tt },
-      (
-        record { size = lit≤ tt; some = lit≤ tt; most = lit≤ tt; atomic = tt; body = refl; aligned = refl; page = lit≤ tt; range = lit≤ tt },
-        (record { size = lit≤ tt; some = lit≤ tt; most = lit≤ tt; atomic = (lit≤ tt, refl); body = refl; aligned = refl; page = lit≤ tt; range = lit≤ tt }, tt),
-      ),
-    ),
-  ),
-)
-
-cpu1_lines : All IsTransaction cpu1.script
-cpu1_lines = All-from_recursion IsTransaction cpu1.script (
-  record { size = lit≤ tt; some = lit≤ tt; most = lit≤ tt; atomic = (lit≤ tt, refl); body = refl; aligned = refl; page = lit≤ tt; range = lit≤ tt },
-  (
-    record { size = lit≤ tt; some = lit≤ tt; most = lit≤ tt; atomic = tt; body = refl; aligned = refl; page = lit≤ tt; range = lit≤ tt },
-    (
-      record { size = lit≤ tt; some = lit≤ tt; most = lit≤ tt; atomic = tt; body = refl; aligned = refl; page = lit≤ tt; range = lit≤ tt },
-      (
-        record { size = lit≤ tt; some = lit≤ tt; most = lit≤ tt; atomic = tt; body = refl; aligned = refl; page = lit≤ tt; range = lit≤ tt },
-        (record { size = lit≤ tt; some = lit≤ tt; most = lit≤ tt; atomic = (lit≤ tt, refl); body = refl; aligned = refl; page = lit≤ tt; range = lit≤ tt }, tt),
-      ),
-    ),
-  ),
-)
-
 pub wide_is_accepted : IsAccepted wide
-wide_is_accepted = record {
-  limits = refl;
-  names = refl;
-  link_names = refl;
-  named = refl;
-  ids = refl;
-  placed = refl;
-  apart = refl;
-  images = refl;
-  widths = refl;
-  ends = refl;
-  forward = refl;
-  linked = refl;
-  lines = All-from_recursion (λ (h : NetHost). All IsTransaction h.script) (cpu0 ∷ cpu1 ∷ []) (cpu0_lines, (cpu1_lines, tt));
-  routes = refl;
-  words = lit≤ tt;
-}
+wide_is_accepted = accepted_by_test wide refl
 
 -- so its ways lead to their devices
 pub ways_of_wide : All (IsCourse wide) (network_ways wide)

@@ -25,4 +25,6 @@ pub mod AcceptedLinks
 pub mod WayCourses
 pub mod AcceptedExample
 pub mod SampleNetworks
+pub mod TestedNetworks
+pub mod RowNetworks
 pub mod RingLaws
