@@ -4,4 +4,10 @@
 #[cfg(test)]
 mod blanks;
 #[cfg(test)]
+mod line;
+#[cfg(test)]
+mod network;
+#[cfg(test)]
+mod sample;
+#[cfg(test)]
 mod solo;

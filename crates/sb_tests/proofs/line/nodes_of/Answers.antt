@@ -1,0 +1,92 @@
+-- The rings have the network's plans, and the nodes stand at them.
+use Rattle.std.proofs.Common.{◌≡◌, ℕ, [], ◌∷◌, ap, ◌∙◌}
+use Rattle.sb_link.specs.PlanOf.{plan_of}
+use Rattle.sb_packet.specs.Networks.{Network}
+use Rattle.sb_packet.specs.Plans.{RingPlan}
+use Rattle.sb_packet.specs.Rings.{ring_plan}
+use Rattle.sb_device.specs.SideOf.{device_side}
+use Rattle.sb_host.specs.SideOf.{host_side}
+use Rattle.sb_router.specs.SideOf.{router_side}
+use Rattle.sb_tests.proofs.NewLine.{new_line}
+use Rattle.sb_tests.proofs.NewRings.{one_more, ring_0, ring_1, ring_2, ring_3, sample_plan, wide_1, wide_2}
+use Rattle.sb_tests.specs.Samples.{sample}
+use Rattle.sb_tests.proofs.line.nodes_of.Goals as goal
+
+-- what the bundle plans for a ring is what the network does
+planned : (n : Network) (ring : ℕ) (plan : RingPlan) → n ≡ sample → plan ≡ ring_plan n ring → plan ≡ sample_plan ring
+planned n ring plan is plans = plans ∙ ap (λ (m : Network). ring_plan m ring) is
+
+pub link-requires-clause-down : goal.link-requires-clause-down
+link-requires-clause-down g c κs within =
+    ring_0 (g.F.Fabric.made c.args.fabric.now) (plan_of c.plan-near_down.result) c.requires.new (planned _ 0 _ c.requires.network c.plan-near_down.ensures)
+
+pub link-requires-clause-up : goal.link-requires-clause-up
+link-requires-clause-up g c κs within =
+    let down = planned _ 0 _ c.requires.network c.plan-near_down.ensures in
+    ring_1 _ (plan_of c.plan-near_up.result) (one_more (g.F.Fabric.made c.args.fabric.now) [] (plan_of c.plan-near_down.result) (sample_plan 0) c.requires.new down)
+    (planned _ 1 _ c.requires.network c.plan-near_up.ensures)
+
+pub link-requires-2-clause-down : goal.link-requires-2-clause-down
+link-requires-2-clause-down g c κs within =
+    let down = planned _ 0 _ c.requires.network c.plan-near_down.ensures in
+    let up = planned _ 1 _ c.requires.network c.plan-near_up.ensures in
+    let first = one_more (g.F.Fabric.made c.args.fabric.now) [] (plan_of c.plan-near_down.result) (sample_plan 0) c.requires.new down in
+    ring_2 (g.F.Fabric.made c.link.new.fabric) (plan_of c.plan-far_down.result) (c.in_ok-host_leg.ensures.made ∙ one_more _ (sample_plan 0 ∷ []) (plan_of c.plan-near_up.result) (sample_plan 1) first up)
+    (planned _ 2 _ c.requires.network c.plan-far_down.ensures)
+
+pub link-requires-2-clause-up : goal.link-requires-2-clause-up
+link-requires-2-clause-up g c κs within =
+    let down = planned _ 0 _ c.requires.network c.plan-near_down.ensures in
+    let up = planned _ 1 _ c.requires.network c.plan-near_up.ensures in
+    let further = planned _ 2 _ c.requires.network c.plan-far_down.ensures in
+    let first = one_more (g.F.Fabric.made c.args.fabric.now) [] (plan_of c.plan-near_down.result) (sample_plan 0) c.requires.new down in
+    let both = c.in_ok-host_leg.ensures.made ∙ one_more _ (sample_plan 0 ∷ []) (plan_of c.plan-near_up.result) (sample_plan 1) first up in
+    ring_3 _ (plan_of c.plan-far_up.result) (one_more (g.F.Fabric.made c.link.new.fabric) (sample_plan 0 ∷ sample_plan 1 ∷ []) (plan_of c.plan-far_down.result) (sample_plan 2) both further)
+    (planned _ 3 _ c.requires.network c.plan-far_up.ensures)
+
+pub host_at-requires-clause-planned : goal.host_at-requires-clause-planned
+host_at-requires-clause-planned g c κs within = c.in_ok-host_leg.ensures.requests_out ∙ planned _ 0 _ c.requires.network c.plan-near_down.ensures
+
+pub device_at-requires-clause-requests : goal.device_at-requires-clause-requests
+device_at-requires-clause-requests g c κs within = c.in_ok-leg_out.ensures.requests_in ∙ planned _ 2 _ c.requires.network c.plan-far_down.ensures
+
+pub device_at-requires-clause-answers : goal.device_at-requires-clause-answers
+device_at-requires-clause-answers g c κs within = c.in_ok-leg_out.ensures.answers_out ∙ planned _ 3 _ c.requires.network c.plan-far_up.ensures
+
+pub router_at-requires-clause-made : goal.router_at-requires-clause-made
+router_at-requires-clause-made g c κs within = c.in_ok-paths.ensures
+
+pub router_at-requires-clause-near : goal.router_at-requires-clause-near
+router_at-requires-clause-near g c κs within = record {
+  unsent = c.in_ok-host_leg.ensures.answers_unsent;
+  wide = wide_1 _ (c.in_ok-host_leg.ensures.answers_out ∙ planned _ 1 _ c.requires.network c.plan-near_up.ensures);
+  unreceived = c.in_ok-host_leg.ensures.requests_unreceived;
+}
+
+pub router_at-requires-clause-far : goal.router_at-requires-clause-far
+router_at-requires-clause-far g c κs within = record {
+  unsent = c.in_ok-leg_out.ensures.requests_unsent;
+  wide = wide_2 _ (c.in_ok-leg_out.ensures.requests_out ∙ planned _ 2 _ c.requires.network c.plan-far_down.ensures);
+  unreceived = c.in_ok-leg_out.ensures.answers_unreceived;
+}
+
+pub returns : goal.returns
+returns g c =
+    let near = c.in_ok-host_leg.ensures in
+    let far = c.in_ok-leg_out.ensures in
+    let near_down = planned _ 0 _ c.requires.network c.plan-near_down.ensures in
+    let near_up = planned _ 1 _ c.requires.network c.plan-near_up.ensures in
+    let far_down = planned _ 2 _ c.requires.network c.plan-far_down.ensures in
+    let far_up = planned _ 3 _ c.requires.network c.plan-far_up.ensures in
+    let host = c.in_ok-host.ensures in
+    let router = c.in_ok-router.ensures in
+    let device = c.in_ok-device.ensures in
+    record {
+      line = new_line g.F.Tx.TxEnd g.F.Rx.RxEnd c.in_ok-host_leg.host_leg.requests c.in_ok-host_leg.leg_in.requests c.in_ok-host_leg.leg_in.answers c.in_ok-host_leg.host_leg.answers
+          c.in_ok-leg_out.leg_out.requests c.in_ok-leg_out.device_leg.requests c.in_ok-leg_out.device_leg.answers c.in_ok-leg_out.leg_out.answers
+          (near.requests_out ∙ near_down) (near.requests_in ∙ near_down) (near.answers_out ∙ near_up) (near.answers_in ∙ near_up)
+          (far.requests_out ∙ far_down) (far.requests_in ∙ far_down) (far.answers_out ∙ far_up) (far.answers_in ∙ far_up)
+          near.requests_mark near.answers_mark far.requests_mark far.answers_mark
+          (host_side g.F.Tx.TxEnd g.F.Rx.RxEnd c.in_ok-host.host) (router_side g.F.Tx.TxEnd g.F.Rx.RxEnd c.in_ok-router.router) (device_side g.F.Tx.TxEnd g.F.Rx.RxEnd c.in_ok-device.device)
+          host.whole host.asked host.requests host.answers router.whole router.requests_in router.requests_out router.answers_in router.answers_out device.whole device.requests device.answers;
+    }
