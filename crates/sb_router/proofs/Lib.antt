@@ -24,6 +24,7 @@ pub mod FreshLanes
 pub mod Found
 pub mod Restored
 pub mod Results
-pub mod FullRows
 pub mod KeptSteps
 pub mod ForwardSteps
+pub mod Marks
+pub mod SampleNetwork

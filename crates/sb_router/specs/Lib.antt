@@ -20,3 +20,5 @@ pub mod Routers
 pub mod RouterOf
 pub mod SideOf
 pub mod Taking
+pub mod Samples
+pub mod Marks

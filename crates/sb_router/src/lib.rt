@@ -21,4 +21,6 @@ pub use router_core::RouterCore;
 pub use routes::Routes;
 
 #[cfg(test)]
+mod sample;
+#[cfg(test)]
 mod tests;

@@ -105,7 +105,7 @@ impl<F: Fabric> Router<F> {
     }
 
     // a router whose flows go by these tables
-    pub(crate) fn with_routes(
+    fn with_routes(
         alloc: Global,
         down: Routes,
         up: Routes,

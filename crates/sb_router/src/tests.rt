@@ -1,55 +1,36 @@
-//! A router between two hosts and a device, on one thread.
+//! A router between two hosts and two devices, on one thread.
 
-ghost use Rattle.std.specs.Prelude.{◌≡◌, ◌≤◌, ◌<◌, ◌∷◌, [], ℕ, Some, IfOk, IfSome};
-ghost use Rattle.sb_packet.specs.Plans.{NetFlow};
+ghost use Rattle.std.specs.Prelude.{◌≡◌, ◌≤◌, ◌<◌, ◌+◌, ◌*◌, All, IfOk, IsSome, Some, [], ◌∷◌};
+ghost use Rattle.sb_flow.specs.NetworkOf.{network_of};
+ghost use Rattle.sb_flow.specs.Tables.{paths_of};
+ghost use Rattle.sb_packet.specs.Rings.{ring_link, ring_plan};
 ghost use Rattle.sb_port.specs.Waiting.{IsWidth};
-ghost use Rattle.sb_link.specs.Ends.{IsNewRing};
 ghost use Rattle.sb_router.specs.Fresh.{IsFreshPair};
-ghost use Rattle.sb_router.specs.RouteOf.{route_of};
+ghost use Rattle.sb_router.specs.Marks.{port_mark};
 ghost use Rattle.sb_router.specs.Routers.{IsWholeRouter};
+ghost use Rattle.sb_router.specs.Samples.{crossing as crossing_network};
 ghost use Rattle.sb_router.specs.SideOf.{router_side};
 
 use crate::router::Router;
-use crate::routes::Routes;
+use crate::sample::crossing;
 use sb_drive::Node;
-use sb_link::{Fabric, Flows, LinkPlan, SerialFabric, Turn};
-use sb_packet::{Cmd, Op, Packet};
+use sb_flow::{Bundle, Paths};
+use sb_link::{Cause, Fabric, Pop, RxEnd, SerialFabric, Turn, TxEnd};
+use sb_packet::{Cmd, Item, Op, Packet};
 use sb_port::{InLeg, OutLeg, OutPort};
 use std::alloc::{AllocError, Global};
 use std::test::Fail;
 
-// one device of 4,096 bytes at 0, to which hosts 0 and 1 may go
-fn flows() -> Flows {
-    let mut bytes = [0; 32];
-    bytes[0] = 4096;
-    let mut through = [0; 32];
-    through[0] = 1;
-    through[1] = 1;
-    Flows {
-        count: 1,
-        base: [0; 32],
-        bytes,
-        through,
-    }
-}
-
-// the plan of a ring of 4 items, and of 8 words in all
-fn plan(ring: u16, up: bool) -> LinkPlan
-    ensures width { result.width ≡ 32 }
-{
-    LinkPlan {
-        ring,
-        up,
-        width: 32,
-        capacity: 4,
-        budget: 8,
-        flows: flows(),
-    }
+/// What a router answers in its turns, and what comes out of one of its rings after each.
+#[derive(Drop)]
+struct Seen {
+    turns: Vec<Turn>,
+    items: Vec<Option<Item>>,
 }
 
 // what goes with a packet of one word
 fn word(op: Op, host: u8) -> Cmd
-    requires host { host ≤ 1 }
+    requires host { host ≤ 31 }
     ensures op { result.op ≡ op }
     ensures size { result.size ≡ 3 }
     ensures len { result.len ≡ 0 }
@@ -69,133 +50,300 @@ fn word(op: Op, host: u8) -> Cmd
     }
 }
 
-// what a host asks of the word at 8
-fn request(op: Op, host: u8) -> Packet
-    requires host { host ≤ 1 }
+// a host reads the first word of a device
+fn request(host: u8, device: u8) -> Packet
+    requires host { host ≤ 31 }
+    requires device { device ≤ 1 }
 {
     Packet {
-        cmd: word(op, host),
-        dst: 8,
+        cmd: word(Op::ReqRd, host),
+        dst: (u64::from(device) + 1) * 4096,
         src: u64::from(host) << 40,
         body: [0; 32],
     }
 }
 
-// what the device answers
-fn answer(op: Op, host: u8) -> Packet
-    requires host { host ≤ 1 }
+// the device answers with a byte in front
+fn answer(host: u8, device: u8, byte: u8) -> Packet
+    requires host { host ≤ 31 }
+    requires device { device ≤ 1 }
 {
+    let mut body = [0; 32];
+    body[0] = byte;
     Packet {
-        cmd: word(op, host),
+        cmd: word(Op::RespRd, host),
         dst: u64::from(host) << 40,
-        src: 8,
-        body: [0; 32],
+        src: (u64::from(device) + 1) * 4096,
+        body,
     }
 }
 
-// sends a packet and a Close over a ring, and hands them over
-fn send<F: Fabric>(tx: F::Tx, rx: &mut F::Rx, packet: &Packet)
+// what a host asks comes out
+fn asked(host: u8, device: u8) -> Option<Item>
+    requires host { host ≤ 31 }
+    requires device { device ≤ 1 }
+{
+    Some(Item::Packet(request(host, device)))
+}
+
+// what a device answers comes out
+fn told(host: u8, device: u8, byte: u8) -> Option<Item>
+    requires host { host ≤ 31 }
+    requires device { device ≤ 1 }
+{
+    Some(Item::Packet(answer(host, device, byte)))
+}
+
+// sends packets and a Close over a ring, and hands them over
+fn send<F: Fabric>(tx: F::Tx, rx: &mut F::Rx, packets: &[Packet])
     requires unsent { F.Tx.sent tx ≡ [] }
     requires wide { IsWidth (F.Tx.planned tx).width }
     requires ring { F.Tx.mark tx ≡ F.Rx.mark rx.old }
     ensures received { F.Rx.received rx.new ≡ F.Rx.received rx.old }
 {
     let mut port = OutPort::new(tx);
-    if !port.passes(packet) {
-        return;
+    for packet in packets {
+        if port.ready() && port.passes(packet) {
+            port.offer(packet);
+        }
+        let _ = port.turn(false);
     }
-    port.offer(packet);
     port.close();
-    let _ = port.turn(false);
     let _ = port.turn(false);
     F::hand(port.end(), rx);
 }
 
-// where each flow goes, when each host's id has a row of its own
-fn routes(alloc: Global, first: usize, second: usize, count: usize) -> Result<Routes, AllocError>
-    requires first { first < count }
-    requires second { second < count }
-    ensures within { IfOk result (λ routes. (f : NetFlow) (o : ℕ) → route_of routes.rows.items f ≡ Some o → o < count) }
+// both ends of a ring of the network, of which the fabric has made those of lower numbers
+fn ring<F: Fabric>(
+    alloc: Global,
+    fabric: &mut F,
+    bundle: &Bundle,
+    paths: &Paths,
+    ring: u16,
+) -> Result<(F::Tx, F::Rx), AllocError>
+    requires made { paths.now ≡ paths_of (network_of bundle.now) }
+    requires network { network_of bundle.now ≡ crossing_network }
+    requires there { IsSome (ring_link crossing_network ring) }
+    requires wide { IsWidth (ring_plan crossing_network ring).width }
+    requires before { All (λ plan. plan.ring < ring) (F.made fabric.old) }
+    ensures after { IfOk result (λ ends. All (λ plan. plan.ring < ring + 1) (F.made fabric.new)) }
+    ensures ring { IfOk result (λ ends. (F.Tx.planned ends.0).ring ≡ ring) }
+    ensures wide { IfOk result (λ ends. IsWidth (F.Tx.planned ends.0).width) }
+    ensures unsent { IfOk result (λ ends. F.Tx.sent ends.0 ≡ []) }
+    ensures unreceived { IfOk result (λ ends. F.Rx.received ends.1 ≡ []) }
+    ensures marks { IfOk result (λ ends. F.Tx.mark ends.0 ≡ F.Rx.mark ends.1) }
 {
-    let rows = Vec::from_array(alloc, [[Some(first); 32], [Some(second); 32]])?;
-    Ok(Routes { rows })
+    let plan = paths.plan(bundle, ring);
+    fabric.make(alloc, &plan)
 }
 
-// the router between the legs of two hosts and a device
+// a link that leads to the router, over which packets and a Close were sent; and the end at which answers come out
+fn in_leg<F: Fabric>(
+    alloc: Global,
+    fabric: &mut F,
+    bundle: &Bundle,
+    paths: &Paths,
+    link: u8,
+    packets: &[Packet],
+) -> Result<(InLeg<F>, F::Rx), AllocError>
+    requires made { paths.now ≡ paths_of (network_of bundle.now) }
+    requires network { network_of bundle.now ≡ crossing_network }
+    requires link { link < 4 }
+    requires before { All (λ plan. plan.ring < 2 * link) (F.made fabric.old) }
+    ensures after { IfOk result (λ leg. All (λ plan. plan.ring < 2 * link + 2) (F.made fabric.new)) }
+    ensures fresh { IfOk result (λ leg. IsFreshPair F.Tx.TxEnd F.Rx.RxEnd leg.0.answers leg.0.requests) }
+    ensures ring { IfOk result (λ leg. (F.Tx.planned leg.0.answers).ring ≡ 2 * link + 1) }
+    ensures marks { IfOk result (λ leg. F.Tx.mark leg.0.answers ≡ F.Rx.mark leg.1) }
+    ensures link { IfOk result (λ leg. leg.0.link ≡ link) }
+{
+    let number = u16::from(link) * 2;
+    let (tx, mut requests) = ring(alloc, fabric, bundle, paths, number)?;
+    let (answers, far) = ring(alloc, fabric, bundle, paths, number + 1)?;
+    send::<F>(tx, &mut requests, packets);
+    let leg = InLeg {
+        link,
+        requests,
+        answers,
+    };
+    Ok((leg, far))
+}
+
+// a link that leads on from the router, over which answers and a Close were sent; and the end at which requests come out
+fn out_leg<F: Fabric>(
+    alloc: Global,
+    fabric: &mut F,
+    bundle: &Bundle,
+    paths: &Paths,
+    link: u8,
+    packets: &[Packet],
+) -> Result<(OutLeg<F>, F::Rx), AllocError>
+    requires made { paths.now ≡ paths_of (network_of bundle.now) }
+    requires network { network_of bundle.now ≡ crossing_network }
+    requires link { link < 4 }
+    requires before { All (λ plan. plan.ring < 2 * link) (F.made fabric.old) }
+    ensures after { IfOk result (λ leg. All (λ plan. plan.ring < 2 * link + 2) (F.made fabric.new)) }
+    ensures fresh { IfOk result (λ leg. IsFreshPair F.Tx.TxEnd F.Rx.RxEnd leg.0.requests leg.0.answers) }
+    ensures ring { IfOk result (λ leg. (F.Tx.planned leg.0.requests).ring ≡ 2 * link) }
+    ensures marks { IfOk result (λ leg. F.Tx.mark leg.0.requests ≡ F.Rx.mark leg.1) }
+    ensures link { IfOk result (λ leg. leg.0.link ≡ link) }
+{
+    let number = u16::from(link) * 2;
+    let (requests, far) = ring(alloc, fabric, bundle, paths, number)?;
+    let (tx, mut answers) = ring(alloc, fabric, bundle, paths, number + 1)?;
+    send::<F>(tx, &mut answers, packets);
+    let leg = OutLeg {
+        link,
+        requests,
+        answers,
+    };
+    Ok((leg, far))
+}
+
+// two of a kind
+fn pair<L: Drop>(alloc: Global, first: L, second: L) -> Result<Vec<L>, AllocError>
+    ensures items { IfOk result (λ both. both.items ≡ first ∷ second ∷ []) }
+{
+    let mut both = Vec::new(alloc);
+    both.push(first)?;
+    both.push(second)?;
+    Ok(both)
+}
+
+// the router between the legs of two hosts and two devices
 fn router<F: Fabric>(
     alloc: Global,
+    bundle: &Bundle,
+    paths: &Paths,
     first: InLeg<F>,
     second: InLeg<F>,
-    out: OutLeg<F>,
+    third: OutLeg<F>,
+    fourth: OutLeg<F>,
 ) -> Result<Router<F>, AllocError>
+    requires made { paths.now ≡ paths_of (network_of bundle.now) }
     requires first { IsFreshPair F.Tx.TxEnd F.Rx.RxEnd first.answers first.requests }
     requires second { IsFreshPair F.Tx.TxEnd F.Rx.RxEnd second.answers second.requests }
-    requires out { IsFreshPair F.Tx.TxEnd F.Rx.RxEnd out.requests out.answers }
+    requires third { IsFreshPair F.Tx.TxEnd F.Rx.RxEnd third.requests third.answers }
+    requires fourth { IsFreshPair F.Tx.TxEnd F.Rx.RxEnd fourth.requests fourth.answers }
+    requires first_ring { (F.Tx.planned first.answers).ring ≡ 1 }
+    requires second_ring { (F.Tx.planned second.answers).ring ≡ 3 }
+    requires third_ring { (F.Tx.planned third.requests).ring ≡ 4 }
+    requires fourth_ring { (F.Tx.planned fourth.requests).ring ≡ 6 }
     ensures whole { IfOk result (λ r. IsWholeRouter (router_side F.Tx.TxEnd F.Rx.RxEnd r)) }
+    ensures first { IfOk result (λ r. port_mark 1 (router_side F.Tx.TxEnd F.Rx.RxEnd r) ≡ Some (F.Tx.mark first.answers)) }
+    ensures second { IfOk result (λ r. port_mark 3 (router_side F.Tx.TxEnd F.Rx.RxEnd r) ≡ Some (F.Tx.mark second.answers)) }
+    ensures third { IfOk result (λ r. port_mark 4 (router_side F.Tx.TxEnd F.Rx.RxEnd r) ≡ Some (F.Tx.mark third.requests)) }
+    ensures fourth { IfOk result (λ r. port_mark 6 (router_side F.Tx.TxEnd F.Rx.RxEnd r) ≡ Some (F.Tx.mark fourth.requests)) }
 {
-    let down = routes(alloc, 0, 0, 1)?;
-    let up = routes(alloc, 0, 1, 2)?;
-    let mut outs = Vec::new(alloc);
-    outs.push(out)?;
-    let mut ins = Vec::new(alloc);
-    ins.push(first)?;
-    ins.push(second)?;
-    Router::with_routes(alloc, down, up, ins, outs)
+    let ins = pair(alloc, first, second)?;
+    let outs = pair(alloc, third, fourth)?;
+    let router = Router::new(alloc, 0, bundle, paths, ins, outs)?;
+    Ok(router)
 }
 
-// four turns of a router
-fn turns<F: Fabric>(router: &mut Router<F>) -> [Turn; 4]
+// takes out the next item
+fn pop<U: RxEnd>(far: &mut U) -> Option<Item>
+    ensures mark { U.mark far.new ≡ U.mark far.old }
+{
+    match far.try_pop() {
+        Pop::Item(item) => Some(item),
+        Pop::Empty { .. } => None,
+    }
+}
+
+// hands over what the router sent over a ring, and takes out the next item
+fn meet<F: Fabric>(router: &mut Router<F>, ring: u16, far: &mut F::Rx) -> Option<Item>
     requires whole { IsWholeRouter (router_side F.Tx.TxEnd F.Rx.RxEnd router.old) }
+    requires ring { port_mark ring (router_side F.Tx.TxEnd F.Rx.RxEnd router.old) ≡ Some (F.Rx.mark far.old) }
+    ensures whole { IsWholeRouter (router_side F.Tx.TxEnd F.Rx.RxEnd router.new) }
+    ensures ring { port_mark ring (router_side F.Tx.TxEnd F.Rx.RxEnd router.new) ≡ Some (F.Rx.mark far.new) }
 {
-    [
-        router.turn(0),
-        router.turn(1),
-        router.turn(2),
-        router.turn(3),
-    ]
+    let Some(mut port) = router.take_out(ring) else {
+        unreachable!();
+    };
+    F::hand(port.end(), far);
+    router.put_out(ring, port);
+    pop(far)
 }
 
-// how many words a port was offered, and whether it sent its Close
-fn words_of<F: Fabric>(router: &mut Router<F>, ring: u16) -> Option<(u32, bool)> {
-    let port = router.take_out(ring)?;
-    Some((port.claimed, port.closed()))
+// one turn of the router
+fn take_turn<F: Fabric>(router: &mut Router<F>, ring: u16, round: u32) -> Turn
+    requires whole { IsWholeRouter (router_side F.Tx.TxEnd F.Rx.RxEnd router.old) }
+    ensures whole { IsWholeRouter (router_side F.Tx.TxEnd F.Rx.RxEnd router.new) }
+    ensures ring { port_mark ring (router_side F.Tx.TxEnd F.Rx.RxEnd router.new) ≡ port_mark ring (router_side F.Tx.TxEnd F.Rx.RxEnd router.old) }
+{
+    router.turn(round)
 }
 
+// turns the router five times, and takes out what comes over a ring after each turn
+fn watch<F: Fabric>(
+    alloc: Global,
+    router: &mut Router<F>,
+    ring: u16,
+    far: &mut F::Rx,
+) -> Result<Seen, AllocError>
+    requires whole { IsWholeRouter (router_side F.Tx.TxEnd F.Rx.RxEnd router.old) }
+    requires ring { port_mark ring (router_side F.Tx.TxEnd F.Rx.RxEnd router.old) ≡ Some (F.Rx.mark far.old) }
+{
+    let mut turns = Vec::new(alloc);
+    let mut items = Vec::new(alloc);
+    for round in 0..5 {
+        turns.push(take_turn(router, ring, round))?;
+        items.push(meet(router, ring, far))?;
+    }
+    Ok(Seen { turns, items })
+}
+
+// makes the network's rings and its router, and watches one of the rings by which it sends
+fn see<F: Fabric>(alloc: Global, fabric: &mut F, ring: u16) -> Result<Seen, Fail>
+    requires none { F.made fabric.old ≡ [] }
+{
+    let bundle = crossing(alloc)?;
+    let paths = Paths::new(alloc, &bundle)?;
+    let first = [request(5, 0), request(5, 1), request(5, 0)];
+    let second = [request(2, 0)];
+    let third = [answer(5, 0, 1), answer(2, 0, 2)];
+    let fourth = [answer(5, 1, 3)];
+    let (first, mut to_first) = in_leg(alloc, fabric, &bundle, &paths, 0, &first)?;
+    let (second, mut to_second) = in_leg(alloc, fabric, &bundle, &paths, 1, &second)?;
+    let (third, mut to_third) = out_leg(alloc, fabric, &bundle, &paths, 2, &third)?;
+    let (fourth, mut to_fourth) = out_leg(alloc, fabric, &bundle, &paths, 3, &fourth)?;
+    let mut router = router::<F>(alloc, &bundle, &paths, first, second, third, fourth)?;
+    let seen = match ring {
+        1 => watch(alloc, &mut router, 1, &mut to_first)?,
+        3 => watch(alloc, &mut router, 3, &mut to_second)?,
+        4 => watch(alloc, &mut router, 4, &mut to_third)?,
+        _ => watch(alloc, &mut router, 6, &mut to_fourth)?,
+    };
+    Ok(seen)
+}
+
+/// The requests of both hosts for one device come at once: that of the ring of the lower number goes first, and the
+/// other waits until the port is ready. A second request of the first host at this device is beyond the ring's budget,
+/// and is dropped. So it is with the answers of both devices to one host, and a Close goes out once both rings of that
+/// direction gave theirs.
 #[test]
 fn each_flow_goes_its_way(rt: HostRuntime) -> Result<(), Fail> {
-    let alloc = rt.alloc();
-    let (tx_a, mut rx_a) = SerialFabric::new(alloc).make(alloc, &plan(0, false))?;
-    let (back_a, _end_a) = SerialFabric::new(alloc).make(alloc, &plan(1, true))?;
-    let (tx_b, mut rx_b) = SerialFabric::new(alloc).make(alloc, &plan(2, false))?;
-    let (back_b, _end_b) = SerialFabric::new(alloc).make(alloc, &plan(3, true))?;
-    let (on, _end_on) = SerialFabric::new(alloc).make(alloc, &plan(4, false))?;
-    let (tx_c, mut rx_c) = SerialFabric::new(alloc).make(alloc, &plan(5, true))?;
-    send::<SerialFabric>(tx_a, &mut rx_a, &request(Op::ReqRd, 0));
-    send::<SerialFabric>(tx_b, &mut rx_b, &request(Op::ReqWrPosted, 1));
-    send::<SerialFabric>(tx_c, &mut rx_c, &answer(Op::RespRd, 1));
-    let first = InLeg {
-        link: 0,
-        requests: rx_a,
-        answers: back_a,
-    };
-    let second = InLeg {
-        link: 1,
-        requests: rx_b,
-        answers: back_b,
-    };
-    let out = OutLeg {
-        link: 2,
-        requests: on,
-        answers: rx_c,
-    };
-    let mut router = router::<SerialFabric>(alloc, first, second, out)?;
-    let answers = turns(&mut router);
-    assert_eq!(rt;
-        answers.as_slice(),
-        [Turn::Moved, Turn::Moved, Turn::Moved, Turn::Done].as_slice()
-    );
-    assert_eq!(rt; words_of(&mut router, 4), Some((2, true)));
-    assert_eq!(rt; words_of(&mut router, 1), Some((0, true)));
-    assert_eq!(rt; words_of(&mut router, 3), Some((1, true)));
+    let none: Option<Item> = None;
+    let close = Some(Item::Close);
+    for (ring, items) in [
+        // requests for the first device, and for the second
+        (4, [asked(5, 0), asked(2, 0), none, close, none]),
+        (6, [none, asked(5, 1), none, close, none]),
+        // answers to the first host, and to the second
+        (1, [told(5, 0, 1), told(5, 1, 3), close, none, none]),
+        (3, [none, told(2, 0, 2), close, none, none]),
+    ] {
+        let mut fabric = SerialFabric::new(rt.alloc());
+        let seen = see(rt.alloc(), &mut fabric, ring)?;
+        assert!(rt; seen.items.as_slice() == items.as_slice(), "ring {ring}");
+        let turns = [
+            Turn::Moved,
+            Turn::Moved,
+            Turn::Moved,
+            Turn::Moved,
+            Turn::Done,
+        ];
+        assert_eq!(rt; seen.turns.as_slice(), turns.as_slice(), "ring {ring}");
+    }
     Ok(())
 }
