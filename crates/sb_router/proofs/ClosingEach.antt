@@ -1,9 +1,9 @@
 -- Telling one port after another to close.
-use Rattle.std.proofs.Common.{◌≡◌, ◌⊎◌, inl, inr, ℕ, ◌<◌, ◌≤◌, ◌+◌, Bool, true, false, List, length, set, get_or, All, refl, sym, ap, ◌∙◌, subst, arith}
+use Rattle.std.proofs.Common.{◌≡◌, inl, inr, ℕ, ◌<◌, ◌≤◌, ◌+◌, true, false, List, length, set, get_or, All, refl, sym, ap, ◌∙◌, subst, arith}
 use Rattle.std.proofs.lemmas.List.{get_or-set_same}
 use Rattle.sb_node.specs.Sides.{PortSide, port_moves}
 use Rattle.sb_router.specs.Lanes.{InletState, LaneState, OutletState, Route, no_outlet, outlet_at}
-use Rattle.sb_router.specs.Steps.{IsSilent, Step, Steps, tells, none, further}
+use Rattle.sb_router.specs.Steps.{IsSilent, Steps, tells, none, further}
 use Rattle.sb_router.specs.Moves.{IsToldMoved}
 use Rattle.sb_router.specs.Ports.{IsToldAt}
 use Rattle.sb_router.specs.Turning.{HasClosed}

@@ -1,22 +1,21 @@
 -- The words of a direction, step by step.
-use Rattle.std.proofs.Common.{◌≡◌, ◌⊎◌, inl, inr, ℕ, ◌<◌, ◌≤◌, ◌+◌, Bool, true, List, [], ◌++◌, length, set, get_or, All, Option, Some, refl, sym, ap, ◌∙◌, subst, arith}
+use Rattle.std.proofs.Common.{◌≡◌, inl, inr, ℕ, ◌<◌, List, [], ◌++◌, length, set, get_or, Option, sym, ap, ◌∙◌, subst, arith}
 use Rattle.std.specs.Prelude.{filter, sum_by}
-use Rattle.std.proofs.lemmas.List.{append-nil, get_or_default, length-set}
+use Rattle.std.proofs.lemmas.List.{append-nil}
 use Rattle.std.proofs.lemmas.List.Elements.{All-get_or}
 use Rattle.std.proofs.lemmas.List.Sums.{sum_by-set}
 use Rattle.sb_packet.specs.Accesses.{Access}
 use Rattle.sb_packet.specs.Messages.{message_of}
-use Rattle.sb_packet.specs.Plans.{NetFlow, RingPlan, goes_through, message_flow}
+use Rattle.sb_packet.specs.Plans.{RingPlan, goes_through, message_flow}
 use Rattle.sb_packet.specs.Prefixes.{IsSubsequence}
-use Rattle.sb_packet.specs.Soundness.{IsSound}
-use Rattle.sb_packet.specs.Traffic.{IsPlanned, item_accesses, item_messages}
+use Rattle.sb_packet.specs.Traffic.{IsPlanned, item_accesses}
 use Rattle.sb_packet.specs.declared.packet.Packet.{Packet}
 use Rattle.sb_packet.specs.declared.item.Item.{Item}
 use Rattle.sb_node.specs.Sides.{PortSide, offered_words, received_words}
 use Rattle.sb_router.specs.Lanes.{InletState, LaneState, OutletState, Route, came_at, held_at, held_words, inlet_at, no_inlet, no_outlet, offered_at, outlet_at, next_place}
-use Rattle.sb_router.specs.Steps.{IsUnmoved, Step, Steps, receives, looks, drops, offers, turns, tells, none, further}
+use Rattle.sb_router.specs.Steps.{Step, Steps, receives, looks, drops, offers, turns, tells, none, further}
 use Rattle.sb_router.specs.Whole.{IsWholeInlet, IsWholeLane}
-use Rattle.sb_router.specs.Forwarding.{Words, Passes, AreSound, Forwards, IsLaid, came_for, held_for, part, popped_for}
+use Rattle.sb_router.specs.Forwarding.{Words, Forwards, IsLaid, came_for, held_for, part, popped_for}
 use Rattle.sb_router.proofs.Places.{set_cases}
 use Rattle.sb_router.proofs.Shapes.{SameShape, inlets_shape, outlets_shape, passed_before, step_shape}
 use Rattle.sb_router.proofs.Forwards.{receiving, sound_before}

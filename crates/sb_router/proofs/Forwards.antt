@@ -1,26 +1,24 @@
 -- What holds of the words of a direction at any time, and stays so while items are received.
-use Rattle.std.proofs.Common.{◌≡◌, ◌⊎◌, inl, inr, ℕ, ◌<◌, ◌≤◌, ◌+◌, List, [], ◌∷◌, ◌++◌, length, set, get_or, All, Option, Some, None, refl, sym, ap, ◌∙◌, subst, arith, length-append}
+use Rattle.std.proofs.Common.{◌≡◌, inl, inr, ℕ, ◌<◌, ◌+◌, List, [], ◌∷◌, ◌++◌, length, set, get_or, All, refl, sym, ap, ◌∙◌, subst, arith, length-append}
 use Rattle.std.specs.Prelude.{filter, sum_by}
 use Rattle.std.proofs.lemmas.List.{append-nil, get_or_default, length-set}
-use Rattle.std.proofs.lemmas.List.Elements.{filter-append, All-get_or, All-from_recursion, recursion_from_All}
+use Rattle.std.proofs.lemmas.List.Elements.{filter-append, All-from_recursion, recursion_from_All}
 use Rattle.std.proofs.lemmas.List.Sums.{sum_by-set}
 use Rattle.std.proofs.lemmas.Grind.{flat_map-append}
 use Rattle.std.specs.List.{AllByRecursion}
-use Rattle.sb_packet.specs.Accesses.{Access, accesses_of, accesses_of_item}
-use Rattle.sb_packet.specs.Messages.{Message, message_of}
-use Rattle.sb_packet.specs.Plans.{NetFlow, RingPlan}
+use Rattle.sb_packet.specs.Accesses.{Access, accesses_of_item}
+use Rattle.sb_packet.specs.Plans.{NetFlow}
 use Rattle.sb_packet.specs.Prefixes.{IsSubsequence}
 use Rattle.sb_packet.specs.Soundness.{IsSound}
 use Rattle.sb_packet.specs.Traffic.{item_accesses, item_messages}
-use Rattle.sb_packet.specs.declared.packet.Packet.{Packet}
 use Rattle.sb_packet.specs.declared.item.Item.{Item}
 use Rattle.sb_packet.specs.declared.item.Item.TheVariants as items
-use Rattle.sb_node.specs.Sides.{offered_words, received_words}
-use Rattle.sb_router.specs.Lanes.{InletState, LaneState, OutletState, Route, came_at, held_at, held_words, inlet_at, no_inlet, no_outlet, offered_at, outlet_at, next_place}
-use Rattle.sb_router.specs.Steps.{IsReceived, IsUnmoved, held_of}
+use Rattle.sb_node.specs.Sides.{received_words}
+use Rattle.sb_router.specs.Lanes.{InletState, LaneState, Route, came_at, held_at, held_words, inlet_at, no_inlet, offered_at}
+use Rattle.sb_router.specs.Steps.{IsReceived, held_of}
 use Rattle.sb_router.specs.Forwarding.{Words, Passes, AreSound, Forwards, HasForwarded, came_for, held_for, part, popped_for}
 use Rattle.sb_router.proofs.Places.{set_cases}
-use Rattle.sb_router.proofs.Shapes.{SameShape, inlets_shape, passed_before}
+use Rattle.sb_router.proofs.Shapes.{inlets_shape, passed_before}
 use Rattle.sb_router.proofs.Subsequences.{all_came, more_came, without_end}
 
 pub has_forwarded : {words : Words} {route : Route} {s : LaneState} → Forwards words route s → (f : NetFlow) (i o : ℕ) → Passes route s f i o → HasForwarded words s f i o

@@ -1,5 +1,5 @@
 -- Places of what is seen through a function, and empty places.
-use Rattle.std.proofs.Common.{◌≡◌, ℕ, ◌+◌, Bool, true, false, is_some, List, [], ◌∷◌, map, Option, Some, None, cond, refl, ap}
+use Rattle.std.proofs.Common.{◌≡◌, ℕ, ◌+◌, Bool, false, is_some, List, [], ◌∷◌, map, Option, Some, None, cond, refl, ap}
 use Rattle.std.specs.List.{position_from}
 
 -- a place in a list seen through a function

@@ -1,6 +1,6 @@
 -- A direction at whose rings nothing happened yet.
-use Rattle.std.proofs.Common.{◌≡◌, ℕ, ◌<◌, ◌≤◌, ◌+◌, true, false, List, [], ◌∷◌, ◌++◌, length, map, get_or, All, Option, Some, None, refl, sym, ap, ◌∙◌, subst, arith, zero, suc}
-use Rattle.std.specs.Prelude.{filter, sum_by}
+use Rattle.std.proofs.Common.{◌≡◌, ℕ, ◌<◌, false, List, [], ◌∷◌, ◌++◌, length, map, get_or, All, Some, refl, sym, ap, ◌∙◌, subst, arith, zero, suc}
+use Rattle.std.specs.Prelude.{sum_by}
 use Rattle.std.proofs.lemmas.List.{length-map}
 use Rattle.std.proofs.lemmas.List.Elements.{All-cons, All-nil}
 use Rattle.std.proofs.lemmas.List.Sums.{sum_by-cons}
@@ -10,9 +10,9 @@ use Rattle.sb_packet.specs.Accesses.{Access}
 use Rattle.sb_packet.specs.Plans.{NetFlow}
 use Rattle.sb_packet.specs.Prefixes.{IsSubsequence, none}
 use Rattle.sb_node.specs.Sides.{offered_words, received_words}
-use Rattle.sb_router.specs.Lanes.{InletState, LaneState, OutletState, Route, came_at, held_at, held_words, inlet_at, no_inlet, no_outlet, offered_at, outlet_at}
+use Rattle.sb_router.specs.Lanes.{InletState, LaneState, OutletState, Route, held_words, no_inlet, no_outlet}
 use Rattle.sb_router.specs.Fresh.{fresh_inlet, fresh_outlet}
-use Rattle.sb_router.specs.Forwarding.{Forwards, Words, came_for, held_for, part, popped_for}
+use Rattle.sb_router.specs.Forwarding.{Forwards, Words, held_for, part}
 use Rattle.sb_router.specs.Whole.{IsWholeInlet, IsWholeLane, IsWholeOutlet}
 use Rattle.sb_router.proofs.SameLane.{same_lane}
 

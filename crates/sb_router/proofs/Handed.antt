@@ -1,5 +1,5 @@
 -- A packet that was handed to a port, and isn't held any longer.
-use Rattle.std.proofs.Common.{◌≡◌, ◌⊎◌, inl, inr, ℕ, List, Option, Some, set, sym, refl, ap, ◌∙◌, subst, length}
+use Rattle.std.proofs.Common.{◌≡◌, ◌⊎◌, inl, inr, ℕ, Some, set, sym, refl, ap, ◌∙◌, subst, length}
 use Rattle.std.proofs.lemmas.List.{set-get_or}
 use Rattle.sb_packet.specs.Messages.{message_of}
 use Rattle.sb_packet.specs.Traffic.{MayPass}

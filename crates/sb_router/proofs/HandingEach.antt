@@ -1,7 +1,6 @@
 -- Handing on what is held of one ring after another.
-use Rattle.std.proofs.Common.{◌≡◌, ◌⊎◌, inl, inr, ℕ, ◌<◌, ◌≤◌, ◌+◌, ◌||◌, Bool, true, false, List, length, set, get_or, Option, Some, refl, sym, ap, ◌∙◌, subst, arith}
-use Rattle.sb_packet.specs.declared.packet.Packet.{Packet}
-use Rattle.sb_router.specs.Lanes.{InletState, LaneState, OutletState, Route, inlet_at, no_inlet, outlet_at}
+use Rattle.std.proofs.Common.{◌≡◌, inl, inr, ℕ, ◌<◌, ◌≤◌, ◌+◌, ◌||◌, Bool, true, false, length, set, get_or, refl, sym, ap, ◌∙◌, subst, arith}
+use Rattle.sb_router.specs.Lanes.{InletState, LaneState, Route, inlet_at, no_inlet}
 use Rattle.sb_router.specs.Steps.{Step, Steps, drops, offers, none, further, emptied}
 use Rattle.sb_router.specs.Handing.{Drops, IsHanded, IsWaiting, Offers}
 use Rattle.sb_router.specs.Moves.{IsToldMoved}

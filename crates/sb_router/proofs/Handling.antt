@@ -1,8 +1,7 @@
 -- The words of a direction while packets that are held are offered or dropped.
-use Rattle.std.proofs.Common.{◌≡◌, ◌⊎◌, inl, inr, ℕ, ◌<◌, ◌≤◌, ◌+◌, Bool, true, false, List, [], ◌∷◌, ◌++◌, length, set, get_or, All, Option, Some, None, refl, sym, ap, ◌∙◌, subst, arith, length-append}
+use Rattle.std.proofs.Common.{◌≡◌, inl, inr, ℕ, ◌<◌, ◌≤◌, ◌+◌, true, false, List, [], ◌∷◌, ◌++◌, length, set, get_or, All, Option, Some, None, refl, sym, ap, ◌∙◌, subst, arith, length-append}
 use Rattle.std.specs.Prelude.{filter, sum_by}
 use Rattle.std.specs.Option.{option_map_or}
-use Rattle.std.specs.List.{range_with_len}
 use Rattle.std.proofs.lemmas.List.{append-nil, get_or_push, get_or-set_same, length-set}
 use Rattle.std.proofs.lemmas.List.Elements.{filter-append, All-get_or}
 use Rattle.std.proofs.lemmas.List.FromFn.{length-map-range_with_len}
@@ -20,7 +19,7 @@ use Rattle.sb_port.proofs.Items.{item_messages-packet}
 use Rattle.sb_node.specs.Sides.{offered_words, received_words}
 use Rattle.sb_router.specs.Lanes.{InletState, LaneState, OutletState, Route, came_at, held_at, held_words, inlet_at, no_inlet, no_outlet, offered_at, outlet_at, next_place}
 use Rattle.sb_router.specs.Steps.{IsGiven, IsRefused, emptied}
-use Rattle.sb_router.specs.Whole.{IsLast, IsWholeInlet}
+use Rattle.sb_router.specs.Whole.{IsWholeInlet}
 use Rattle.sb_router.specs.Forwarding.{Words, Passes, AreSound, Forwards, IsLaid, IsOneFlow, came_for, held_for, part, popped_for}
 use Rattle.sb_router.proofs.Places.{set_cases}
 use Rattle.sb_router.proofs.NextPlaces.{next_flow}

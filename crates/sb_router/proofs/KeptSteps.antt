@@ -1,9 +1,8 @@
 -- Nothing is taken back, step by step.
-use Rattle.std.proofs.Common.{◌≡◌, ◌⊎◌, inl, inr, ℕ, ◌<◌, true, List, [], length, set, get_or, refl, sym, ap, ◌∙◌, subst, arith}
+use Rattle.std.proofs.Common.{inl, inr, ℕ, ◌<◌, true, length, set, get_or, refl, sym, subst, arith}
 use Rattle.std.proofs.lemmas.List.{length-set}
-use Rattle.sb_packet.specs.Prefixes.{IsPrefix}
 use Rattle.sb_node.specs.Sides.{PortSide}
-use Rattle.sb_node.specs.Kept.{IsKeptPort, begins_itself, kept_port_same, kept_port_then, kept_ring_same, kept_ring_then}
+use Rattle.sb_node.specs.Kept.{IsKeptPort, begins_itself, kept_ring_same}
 use Rattle.sb_router.specs.Lanes.{InletState, LaneState, OutletState, Route, inlet_at, no_inlet, no_outlet, outlet_at}
 use Rattle.sb_router.specs.Steps.{Step, Steps, receives, looks, drops, offers, turns, tells, none, further, emptied}
 use Rattle.sb_router.specs.Kept.{IsKeptInlet, IsKeptLane, IsKeptOutlet, kept_inlet_same, kept_lane_same, kept_lane_then, kept_outlet_same}

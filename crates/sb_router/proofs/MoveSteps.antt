@@ -1,6 +1,5 @@
 -- How much goes through with each step.
-use Rattle.std.proofs.Common.{◌≡◌, ◌⊎◌, inl, inr, ℕ, ◌<◌, ◌≤◌, ◌+◌, ◌||◌, Bool, true, false, List, [], ◌∷◌, ◌++◌, length, set, get_or, Option, Some, None, refl, sym, ap, ◌∙◌, subst, arith, length-append}
-use Rattle.std.specs.Prelude.{sum_by}
+use Rattle.std.proofs.Common.{◌≡◌, ℕ, ◌<◌, ◌≤◌, ◌+◌, ◌||◌, Bool, true, false, List, [], ◌∷◌, length, set, Some, refl, ap, ◌∙◌, arith, length-append}
 use Rattle.std.proofs.lemmas.List.Sums.{sum_by-set}
 use Rattle.sb_packet.specs.Prefixes.{IsPrefix}
 use Rattle.sb_packet.specs.declared.packet.Packet.{Packet}
@@ -8,7 +7,7 @@ use Rattle.sb_packet.specs.declared.item.Item.{Item}
 use Rattle.sb_node.specs.Kept.{IsKeptPort}
 use Rattle.sb_node.specs.Sides.{PortSide, port_moves}
 use Rattle.sb_router.specs.Lanes.{InletState, LaneState, OutletState, inlet_at, no_inlet, no_outlet, outlet_at}
-use Rattle.sb_router.specs.Steps.{IsReceived, IsTold, IsUnmoved, emptied}
+use Rattle.sb_router.specs.Steps.{IsReceived, IsUnmoved, emptied}
 use Rattle.sb_router.specs.Moves.{IsToldMoved, free_count, inlet_moves, lane_moves}
 
 -- nothing went through

@@ -1,22 +1,20 @@
 -- Popping one ring after another.
-use Rattle.std.proofs.Common.{◌≡◌, ◌≢◌, ◌⊎◌, inl, inr, ℕ, ◌<◌, ◌≤◌, ◌+◌, ◌||◌, Bool, true, false, cond, is_some, List, [], ◌∷◌, ◌++◌, length, map, take, set, get_or, All, Option, Some, None, refl, sym, ap, ◌∙◌, subst, arith, length-append}
+use Rattle.std.proofs.Common.{◌≡◌, ◌≢◌, ◌⊎◌, inl, inr, ℕ, ◌<◌, ◌≤◌, ◌+◌, ◌||◌, Bool, true, false, cond, is_some, List, [], ◌∷◌, length, map, take, set, get_or, Option, Some, None, refl, sym, ap, ◌∙◌, subst, arith, length-append}
 use Rattle.std.proofs.lemmas.List.{get_or_default, get_or-set_same, map_push, take_all}
 use Rattle.std.proofs.lemmas.Grind.{take-set_at}
 use Rattle.sb_link.specs.declared.answers.Cause.{Cause}
 use Rattle.sb_link.specs.declared.answers.Cause.TheVariants as causes
 use Rattle.sb_packet.specs.declared.packet.Packet.{Packet}
-use Rattle.sb_packet.specs.declared.item.Item.{Item}
 use Rattle.sb_node.specs.declared.findings.Findings.{Findings}
 use Rattle.sb_node.specs.Kept.{kept_ring_same}
-use Rattle.sb_router.specs.Lanes.{InletState, LaneState, OutletState, Route, inlet_at, no_inlet, outlet_at}
-use Rattle.sb_router.specs.Steps.{IsReceived, IsUnmoved, Step, Steps, receives, looks, none, further}
+use Rattle.sb_router.specs.Lanes.{InletState, LaneState, Route, inlet_at, no_inlet}
+use Rattle.sb_router.specs.Steps.{IsUnmoved, Step, Steps, receives, looks, none, further}
 use Rattle.sb_router.specs.Causes.{found_in_both, lower, lowest, nothing_found}
 use Rattle.sb_router.specs.Moves.{IsToldMoved}
-use Rattle.sb_router.specs.Popping.{IsFoundEmpty, IsLeft, IsPopped, IsPoppedAt, IsTaken}
+use Rattle.sb_router.specs.Popping.{IsPopped, IsPoppedAt}
 use Rattle.sb_router.specs.Turning.{HasPopped, IsSeen, OneItemEach, pop_cause}
 use Rattle.sb_router.proofs.Cases.{le_cases, or_false}
 use Rattle.sb_router.proofs.Places.{set_cases}
-use Rattle.sb_router.proofs.Shapes.{steps_shape}
 use Rattle.sb_router.proofs.Lowest.{lowest_more}
 use Rattle.sb_router.proofs.MoveSteps.{inlet_more, inlet_received, inlet_same, inlet_unmoved, moved_none, moved_then}
 

@@ -1,5 +1,5 @@
 -- A direction whose ring's end or port was taken out is whole again once it is put back as it was.
-use Rattle.std.proofs.Common.{◌≡◌, ℕ, ◌<◌, true, false, List, length, set, get_or, All, Option, Some, None, refl, sym, ap, ◌∙◌, subst, arith}
+use Rattle.std.proofs.Common.{◌≡◌, ℕ, ◌<◌, true, false, List, length, set, Some, None, refl, sym, ap, ◌∙◌, subst, arith}
 use Rattle.std.proofs.lemmas.List.{get_or-set_same, length-set, set-set}
 use Rattle.std.proofs.lemmas.List.Elements.{All-get_or, All-set}
 use Rattle.sb_packet.specs.Messages.{message_of}
@@ -8,13 +8,12 @@ use Rattle.sb_packet.specs.Traffic.{IsCarriable, has_close}
 use Rattle.sb_port.specs.Ports.{IsFit, PortState, port_accesses}
 use Rattle.sb_node.specs.Kept.{IsRestoredPort, IsRestoredRing}
 use Rattle.sb_node.specs.Sides.{PortSide, RingSide}
-use Rattle.sb_router.specs.Lanes.{InletState, LaneState, OutletState, Route, inlet_at, no_inlet, no_outlet, no_port, no_ring, outlet_at}
+use Rattle.sb_router.specs.Lanes.{InletState, OutletState, inlet_at, no_inlet, no_outlet, no_port, no_ring, outlet_at}
 use Rattle.sb_router.specs.Steps.{IsSilent}
 use Rattle.sb_router.specs.Forwarding.{Words}
-use Rattle.sb_router.specs.RouteOf.{route_of}
 use Rattle.sb_router.specs.Routers.{DirectionSide, ForwardsAll, IsWholeDirection}
 use Rattle.sb_router.specs.Taking.{with_port, with_ring}
-use Rattle.sb_router.specs.Whole.{IsWholeInlet, IsWholeLane, IsWholeOutlet}
+use Rattle.sb_router.specs.Whole.{IsWholeInlet, IsWholeOutlet}
 use Rattle.sb_router.proofs.ForwardSteps.{acting, laid_then, looking}
 use Rattle.sb_router.proofs.Shapes.{inlets_shape, outlets_shape}
 use Rattle.sb_router.proofs.WholeSteps.{told_before}

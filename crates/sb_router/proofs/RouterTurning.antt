@@ -1,12 +1,12 @@
 -- What is found in the turns of both directions is what a router answers by.
-use Rattle.std.proofs.Common.{◌≡◌, ◌≢◌, ◌||◌, ◌&&◌, ℕ, Bool, true, false, List, [], ◌∷◌, ◌++◌, map, All, Option, None, refl, sym, ap, ◌∙◌, subst}
+use Rattle.std.proofs.Common.{◌≡◌, ◌≢◌, ◌&&◌, ℕ, Bool, false, List, [], ◌∷◌, ◌++◌, map, All, Option, None, sym, ap, ◌∙◌, subst}
 use Rattle.std.specs.List.{list_all}
 use Rattle.sb_link.specs.declared.answers.Turn.{Turn}
 use Rattle.sb_node.specs.declared.findings.Findings.{Findings}
 use Rattle.sb_node.specs.Found.{IsTurnOf}
 use Rattle.sb_node.specs.Sides.{is_done}
 use Rattle.sb_node.specs.Turns.{first_cause}
-use Rattle.sb_router.specs.Lanes.{InletState, LaneState, OutletState}
+use Rattle.sb_router.specs.Lanes.{LaneState}
 use Rattle.sb_router.specs.Causes.{found_in_both}
 use Rattle.sb_router.specs.RouteOf.{route_of}
 use Rattle.sb_router.specs.Turning.{IsLaneTurn}

@@ -1,5 +1,5 @@
 -- One turn of a router, of the turns of its two directions.
-use Rattle.std.proofs.Common.{◌≡◌, ◌≢◌, ◌⊎◌, inl, inr, ℕ, ◌<◌, ◌≤◌, ◌+◌, ◌||◌, ◌&&◌, not, Bool, true, false, cond, is_some, List, [], ◌∷◌, ◌++◌, length, map, get_or, All, Option, Some, None, refl, sym, ap, ◌∙◌, subst, arith, nat_le, zero, suc}
+use Rattle.std.proofs.Common.{◌≡◌, ◌≢◌, ℕ, ◌<◌, ◌+◌, ◌||◌, ◌&&◌, not, Bool, true, false, cond, is_some, List, [], ◌∷◌, ◌++◌, length, map, get_or, All, Option, Some, None, refl, sym, ap, ◌∙◌, subst, arith, nat_le, zero, suc}
 use Rattle.std.specs.List.{AllByRecursion, list_all}
 use Rattle.std.proofs.lemmas.List.{get_or_default}
 use Rattle.std.proofs.lemmas.List.Elements.{All-get_or, recursion_from_All}
@@ -9,21 +9,19 @@ use Rattle.sb_link.specs.declared.answers.Cause.TheVariants as causes
 use Rattle.sb_link.specs.declared.answers.Turn.{Turn}
 use Rattle.sb_link.specs.declared.answers.Turn.TheVariants.{Moved, Idle, Done}
 use Rattle.sb_packet.specs.declared.packet.Packet.{Packet}
-use Rattle.sb_port.specs.Ports.{PortState, owes}
 use Rattle.sb_port.specs.Waiting.{some_owed}
 use Rattle.sb_node.specs.declared.findings.Findings.{Findings}
 use Rattle.sb_node.specs.Found.{IsTurnOf}
-use Rattle.sb_node.specs.Sides.{PortSide, RingSide, has_ended, has_rest, is_done}
+use Rattle.sb_node.specs.Sides.{PortSide, has_ended, has_rest, is_done}
 use Rattle.sb_node.specs.Turns.{IsAnswered, empty_cause, first_cause, full_cause}
 use Rattle.sb_router.specs.Lanes.{InletState, LaneState, OutletState, Route, inlet_at, no_inlet, no_outlet, outlet_at}
 use Rattle.sb_router.specs.Steps.{IsSilent}
 use Rattle.sb_router.specs.Causes.{found_in_both, lower, lowest, ring_of_cause}
-use Rattle.sb_router.specs.Moves.{IsToldMoved, lane_moves}
+use Rattle.sb_router.specs.Moves.{lane_moves}
 use Rattle.sb_router.specs.Turning.{IsIdleLane, IsLaneTurn}
 use Rattle.sb_router.specs.Whole.{IsWholeInlet, IsWholeLane}
-use Rattle.sb_router.specs.Forwarding.{Words}
 use Rattle.sb_router.specs.RouteOf.{route_of}
-use Rattle.sb_router.specs.Routers.{DirectionSide, ForwardsAll, IsKeptDirection, IsRouterTurn, RouterSide, router_moves, router_ports, router_rings}
+use Rattle.sb_router.specs.Routers.{IsKeptDirection, IsRouterTurn, RouterSide, router_moves, router_ports, router_rings}
 use Rattle.sb_router.proofs.Cases.{or_false}
 use Rattle.sb_router.proofs.ForwardSteps.{forwards_steps, laid_steps}
 use Rattle.sb_router.proofs.KeptSteps.{kept_steps}

@@ -1,11 +1,11 @@
 -- What no step changes: how many rings there are, and their plans.
-use Rattle.std.proofs.Common.{◌≡◌, ◌⊎◌, inl, inr, ℕ, ◌<◌, List, length, set, get_or, refl, sym, ap, ◌∙◌, subst, arith}
+use Rattle.std.proofs.Common.{◌≡◌, inl, inr, ℕ, ◌<◌, length, set, get_or, refl, sym, ap, ◌∙◌, arith}
 use Rattle.std.proofs.lemmas.List.{length-set}
 use Rattle.sb_packet.specs.Plans.{NetFlow, RingPlan, goes_through}
 use Rattle.sb_node.specs.Sides.{PortSide}
-use Rattle.sb_router.specs.Lanes.{InletState, LaneState, OutletState, Route, inlet_at, no_inlet, no_outlet, outlet_at, next_place}
+use Rattle.sb_router.specs.Lanes.{InletState, LaneState, OutletState, Route, inlet_at, no_inlet, no_outlet, outlet_at}
 use Rattle.sb_router.specs.Steps.{Step, Steps, receives, looks, drops, offers, turns, tells, none, further, emptied}
-use Rattle.sb_router.specs.Forwarding.{Words, Passes, IsLaid}
+use Rattle.sb_router.specs.Forwarding.{Passes}
 use Rattle.sb_router.proofs.Places.{set_cases}
 
 pub record SameShape (s t : LaneState) : Type 0 where

@@ -1,15 +1,15 @@
 -- Turning one port after another.
-use Rattle.std.proofs.Common.{◌≡◌, ◌⊎◌, inl, inr, ℕ, ◌<◌, ◌≤◌, ◌+◌, ◌||◌, Bool, true, false, cond, List, [], ◌∷◌, ◌++◌, length, map, take, set, get_or, Option, Some, None, refl, sym, ap, ◌∙◌, subst, arith}
+use Rattle.std.proofs.Common.{◌≡◌, inl, inr, ℕ, ◌<◌, ◌≤◌, ◌+◌, Bool, true, false, cond, List, length, map, take, set, get_or, Option, Some, None, refl, sym, ap, ◌∙◌, subst, arith}
 use Rattle.std.proofs.lemmas.List.{get_or-set_same, map_push, take_all}
 use Rattle.std.proofs.lemmas.Grind.{take-set_at}
 use Rattle.sb_link.specs.declared.answers.Cause.{Cause}
 use Rattle.sb_link.specs.declared.answers.Cause.TheVariants as causes
 use Rattle.sb_port.specs.Ports.{PortState, let_go, port_accesses}
 use Rattle.sb_node.specs.declared.findings.Findings.{Findings}
-use Rattle.sb_node.specs.Sides.{PortSide, has_rest, is_full, port_moves}
+use Rattle.sb_node.specs.Sides.{PortSide, has_rest, port_moves}
 use Rattle.sb_node.specs.Steps.{IsPortTurned}
 use Rattle.sb_node.specs.Turns.{full_cause}
-use Rattle.sb_router.specs.Lanes.{InletState, LaneState, OutletState, Route, no_outlet, outlet_at}
+use Rattle.sb_router.specs.Lanes.{LaneState, OutletState, Route, no_outlet, outlet_at}
 use Rattle.sb_router.specs.Steps.{Steps, turns, none, further}
 use Rattle.sb_router.specs.Causes.{found_in_both, lower, lowest, nothing_found}
 use Rattle.sb_router.specs.Moves.{IsToldMoved}

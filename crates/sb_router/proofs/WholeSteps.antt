@@ -1,18 +1,18 @@
 -- A direction stays whole, step by step.
-use Rattle.std.proofs.Common.{◌≡◌, ◌⊎◌, inl, inr, ℕ, ◌<◌, Bool, true, false, List, [], ◌∷◌, ◌++◌, length, set, get_or, All, Option, Some, None, refl, sym, ap, ◌∙◌, subst, arith}
+use Rattle.std.proofs.Common.{◌≡◌, inl, inr, ℕ, ◌<◌, true, false, List, [], ◌∷◌, ◌++◌, length, set, get_or, All, Some, sym, ap, ◌∙◌, subst, arith}
 use Rattle.std.proofs.lemmas.List.{length-set}
 use Rattle.std.proofs.lemmas.List.Elements.{All-get_or, All-set}
 use Rattle.sb_packet.specs.Messages.{message_of}
 use Rattle.sb_packet.specs.Plans.{RingPlan}
-use Rattle.sb_packet.specs.Traffic.{IsCarriable, MayFollow, has_close, is_close}
+use Rattle.sb_packet.specs.Traffic.{IsCarriable, has_close, is_close}
 use Rattle.sb_packet.specs.declared.packet.Packet.{Packet}
 use Rattle.sb_packet.specs.declared.item.Item.{Item}
 use Rattle.sb_packet.specs.declared.item.Item.TheVariants as items
 use Rattle.sb_port.proofs.Items.{has_close-close, has_close-packet}
 use Rattle.sb_node.specs.Sides.{PortSide}
 use Rattle.sb_router.specs.Lanes.{InletState, LaneState, OutletState, Route, inlet_at, no_inlet, no_outlet, outlet_at}
-use Rattle.sb_router.specs.Steps.{IsGiven, IsReceived, IsSilent, IsTold, IsTurned, IsUnmoved, Step, Steps, receives, looks, drops, offers, turns, tells, none, further, emptied, held_of}
-use Rattle.sb_router.specs.Whole.{IsLast, IsWholeInlet, IsWholeLane, IsWholeOutlet}
+use Rattle.sb_router.specs.Steps.{IsReceived, IsSilent, IsUnmoved, Step, Steps, receives, looks, drops, offers, turns, tells, none, further, emptied, held_of}
+use Rattle.sb_router.specs.Whole.{IsWholeInlet, IsWholeLane, IsWholeOutlet}
 use Rattle.sb_router.proofs.Places.{set_cases}
 
 -- the last item says whether a Close was given, where none was before

@@ -1,5 +1,5 @@
 -- Of some causes the one at the ring of the lowest number.
-use Rattle.std.specs.Prelude.{ℕ, Bool, false, ◌||◌, nat_le, List, [], ◌∷◌, Option, None, Some, if◌then◌else◌}
+use Rattle.std.specs.Prelude.{ℕ, false, ◌||◌, nat_le, List, [], ◌∷◌, Option, None, Some, if◌then◌else◌}
 use Rattle.sb_link.specs.declared.answers.Cause.{Cause}
 use Rattle.sb_link.specs.declared.answers.Cause.TheVariants.{Empty, Full, Window, Later, Broken}
 use Rattle.sb_node.specs.declared.findings.Findings.{Findings}

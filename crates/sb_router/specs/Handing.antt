@@ -1,5 +1,5 @@
 -- What becomes of the packets that are held.
-use Rattle.std.specs.Prelude.{◌≡◌, ◌<◌, ◌⊎◌, ℕ, Bool, true, false, Option, None, Some, set}
+use Rattle.std.specs.Prelude.{◌≡◌, ◌⊎◌, ℕ, Bool, true, false, Some, set}
 use Rattle.sb_packet.specs.declared.packet.Packet.{Packet}
 use Rattle.sb_port.specs.Ports.{owes}
 use Rattle.sb_router.specs.Lanes.{LaneState, OutletState, Route, inlet_at, next_place, outlet_at}

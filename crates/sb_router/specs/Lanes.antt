@@ -1,5 +1,5 @@
 -- One direction of a router as plain data: the rings that come in, and the rings that go out.
-use Rattle.std.specs.Prelude.{◌≡◌, ℕ, Bool, true, false, List, [], length, All, Option, None, Some, slice_index_or}
+use Rattle.std.specs.Prelude.{ℕ, Bool, false, List, [], Option, None, Some, slice_index_or}
 use Rattle.std.specs.Option.{option_and_then}
 use Rattle.sb_packet.specs.Accesses.{Access, accesses_of}
 use Rattle.sb_packet.specs.Messages.{message_of}

@@ -1,5 +1,5 @@
 -- What one pop of an incoming ring does, and what it finds.
-use Rattle.std.specs.Prelude.{◌≡◌, ◌≢◌, ◌⊎◌, ℕ, Bool, true, false, length, Option, None, Some, set}
+use Rattle.std.specs.Prelude.{◌≡◌, ◌≢◌, ◌⊎◌, ℕ, true, false, length, None, Some, set}
 use Rattle.sb_link.specs.declared.answers.Cause.TheVariants as causes
 use Rattle.sb_packet.specs.declared.item.Item.{Item}
 use Rattle.sb_node.specs.Sides.{is_drained}

@@ -1,5 +1,5 @@
 -- What one direction of a router does, step by step.
-use Rattle.std.specs.Prelude.{◌≡◌, ◌<◌, ℕ, Bool, true, false, List, [], ◌∷◌, ◌++◌, length, All, Option, None, Some, set}
+use Rattle.std.specs.Prelude.{◌≡◌, ◌<◌, ℕ, true, false, [], ◌∷◌, ◌++◌, length, All, Option, None, Some, set}
 use Rattle.sb_packet.specs.Accesses.{accesses_of}
 use Rattle.sb_packet.specs.Messages.{message_of}
 use Rattle.sb_packet.specs.Traffic.{MayFollow, MayPass, is_close}
@@ -7,7 +7,7 @@ use Rattle.sb_packet.specs.declared.packet.Packet.{Packet}
 use Rattle.sb_packet.specs.declared.item.Item.{Item}
 use Rattle.sb_packet.specs.declared.item.Item.TheVariants as items
 use Rattle.sb_port.specs.Ports.{IsFit}
-use Rattle.sb_node.specs.Sides.{PortSide, offered_words, port_moves}
+use Rattle.sb_node.specs.Sides.{offered_words}
 use Rattle.sb_node.specs.Kept.{IsKeptPort, IsKeptRing}
 use Rattle.sb_router.specs.Lanes.{InletState, OutletState, LaneState, Route, inlet_at, outlet_at, next_place}
 

@@ -1,8 +1,8 @@
 -- Taking the ends of a router's rings out, and putting them back.
-use Rattle.std.specs.Prelude.{◌≡◌, ◌<◌, ℕ, Bool, true, false, ◌==◌, List, length, Option, None, Some, set, if◌then◌else◌}
+use Rattle.std.specs.Prelude.{◌≡◌, ℕ, true, false, ◌==◌, Option, None, Some, set, if◌then◌else◌}
 use Rattle.std.specs.List.{position_from}
 use Rattle.sb_node.specs.Sides.{PortSide, RingSide}
-use Rattle.sb_router.specs.Lanes.{InletState, LaneState, OutletState, inlet_at, no_port, no_ring, outlet_at}
+use Rattle.sb_router.specs.Lanes.{inlet_at, no_port, no_ring, outlet_at}
 use Rattle.sb_router.specs.Routers.{DirectionSide, RouterSide}
 
 -- the place of the ring of a number among those that come in, and among those that go out

@@ -1,5 +1,5 @@
 -- When a direction of a router is whole: it holds all its ends, and knows the truth about them.
-use Rattle.std.specs.Prelude.{◌≡◌, ◌<◌, ℕ, true, List, [], ◌∷◌, ◌++◌, length, All, Option, Some}
+use Rattle.std.specs.Prelude.{◌≡◌, ◌<◌, ℕ, true, List, [], ◌∷◌, ◌++◌, length, All, Some}
 use Rattle.sb_packet.specs.Messages.{message_of}
 use Rattle.sb_packet.specs.Traffic.{IsCarriable, has_close}
 use Rattle.sb_packet.specs.declared.packet.Packet.{Packet}

@@ -1,5 +1,5 @@
 -- ends_in: one leg after another.
-use Rattle.std.proofs.Common.{◌≡◌, ℕ, ◌<◌, ◌∷◌, ◌++◌, All, length, map, sym, ap, ◌∙◌, subst, arith}
+use Rattle.std.proofs.Common.{◌≡◌, ◌<◌, length, map, arith}
 use Rattle.std.proofs.lemmas.Bool.Decides.{nat_tests}
 use Rattle.sb_router.specs.Fresh.{IsFreshPair, fresh_inlet, fresh_outlet}
 use Rattle.sb_router.specs.InletOf.{inlet_of}

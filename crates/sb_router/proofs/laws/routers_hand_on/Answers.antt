@@ -1,5 +1,5 @@
 -- routers_hand_on: by what holds of the words of a direction, and of its ports.
-use Rattle.std.proofs.Common.{◌≡◌, sym, ◌∙◌}
+use Rattle.std.proofs.Common.{◌∙◌}
 use Rattle.std.proofs.lemmas.List.Elements.{All-get_or}
 use Rattle.sb_router.specs.Lanes.{no_outlet}
 use Rattle.sb_router.specs.Whole.{IsWholeOutlet}

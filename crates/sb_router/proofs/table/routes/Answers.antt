@@ -1,5 +1,5 @@
 -- routes: one row after another.
-use Rattle.std.proofs.Common.{◌≡◌, ℕ, ◌<◌, ◌+◌, ◌∙◌, Option, Some, None, List, [], ◌∷◌, ◌++◌, get_or, arith, refl, length, length-append, subst, sym, ap}
+use Rattle.std.proofs.Common.{ℕ, ◌+◌, ◌∙◌, Option, None, List, [], ◌∷◌, get_or, length, length-append, sym, ap}
 use Rattle.sb_flow.specs.NetworkOf.{network_of}
 use Rattle.sb_router.specs.Ways.{place_on}
 use Rattle.sb_router.proofs.Tables.{rows_more, rows_within}

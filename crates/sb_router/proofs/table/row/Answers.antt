@@ -1,5 +1,5 @@
 -- row: one place after another.
-use Rattle.std.proofs.Common.{◌≡◌, ℕ, ◌<◌, ◌∙◌, Option, arith, refl, length, set, subst, sym, ap}
+use Rattle.std.proofs.Common.{ℕ, ◌<◌, ◌∙◌, Option, arith, refl, length, sym, ap}
 use Rattle.std.proofs.lemmas.List.{length-set}
 use Rattle.sb_flow.specs.NetworkOf.{network_of}
 use Rattle.sb_router.specs.Ways.{place_on}

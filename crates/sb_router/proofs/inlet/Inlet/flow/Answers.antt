@@ -1,5 +1,5 @@
 -- flow: the flows are those of the ring's plan.
-use Rattle.std.proofs.Common.{◌≡◌, ap, ◌∙◌, sym, Option}
+use Rattle.std.proofs.Common.{ap, ◌∙◌, sym}
 use Rattle.sb_packet.specs.Messages.{message_of}
 use Rattle.sb_packet.specs.Plans.{RingPlan, message_flow}
 use Rattle.sb_router.specs.InletOf.{ring_there}

@@ -1,5 +1,5 @@
 -- close_at: the port at the place is told, and no other one.
-use Rattle.std.proofs.Common.{◌≡◌, sym, ap, subst, List, map, set, arith}
+use Rattle.std.proofs.Common.{sym, ap, subst, List, arith}
 use Rattle.std.proofs.lemmas.List.{map-set}
 use Rattle.sb_router.specs.Lanes.{LaneState, OutletState, no_outlet}
 use Rattle.sb_router.specs.LaneOf.{lane_of}

@@ -1,13 +1,12 @@
 -- close_each: each port was told once the place is behind the last one, or none.
-use Rattle.std.proofs.Common.{◌≡◌, sym, refl, ap, ◌∙◌, ◌+◌, subst, arith, length, map, true, false, All}
+use Rattle.std.proofs.Common.{sym, refl, ◌∙◌, subst, arith}
 use Rattle.std.proofs.lemmas.List.{length-map}
-use Rattle.sb_router.specs.Lanes.{LaneState, Route}
+use Rattle.sb_router.specs.Lanes.{LaneState}
 use Rattle.sb_router.specs.LaneOf.{lane_of, lane_route}
 use Rattle.sb_router.specs.OutletOf.{outlet_of}
 use Rattle.sb_router.specs.RouteOf.{route_of}
-use Rattle.sb_router.specs.Steps.{IsSilent}
 use Rattle.sb_router.specs.Whole.{IsWholeLane}
-use Rattle.sb_router.proofs.ClosingEach.{TellsSoFar, tells_all, tells_more, tells_none, tells_not}
+use Rattle.sb_router.proofs.ClosingEach.{tells_all, tells_more, tells_none, tells_not}
 use Rattle.sb_router.proofs.Shapes.{steps_shape}
 use Rattle.sb_router.proofs.WholeSteps.{whole_steps}
 use Rattle.sb_router.proofs.lane.Lane.close_each.Goals as goal

@@ -1,5 +1,5 @@
 -- empty_at: nothing is held at the place, and all else stays.
-use Rattle.std.proofs.Common.{◌≡◌, sym, ap, ◌∙◌, List, map, set, arith, None}
+use Rattle.std.proofs.Common.{sym, ap, ◌∙◌, map, set, arith, None}
 use Rattle.std.proofs.lemmas.List.{map-set}
 use Rattle.sb_router.specs.Lanes.{InletState, no_inlet}
 use Rattle.sb_router.specs.Steps.{emptied}

@@ -1,8 +1,8 @@
 -- hand_at: what is held goes to the port that the route names, or is dropped where there is none, or where it doesn't pass.
-use Rattle.std.proofs.Common.{◌≡◌, ◌⊎◌, inl, inr, ℕ, ◌<◌, sym, ap, ◌∙◌, subst, List, map, set, get_or, arith, length, Some, Option}
+use Rattle.std.proofs.Common.{◌≡◌, inr, sym, ap, ◌∙◌, map, set, get_or, arith, length, Some}
 use Rattle.std.proofs.lemmas.List.{length-map}
 use Rattle.sb_packet.specs.declared.packet.Packet.{Packet}
-use Rattle.sb_router.specs.Lanes.{InletState, LaneState, OutletState, no_inlet, inlet_at, outlet_at}
+use Rattle.sb_router.specs.Lanes.{InletState, LaneState, no_inlet, inlet_at}
 use Rattle.sb_router.specs.Steps.{emptied}
 use Rattle.sb_router.specs.InletOf.{inlet_of}
 use Rattle.sb_router.specs.OutletOf.{outlet_of}

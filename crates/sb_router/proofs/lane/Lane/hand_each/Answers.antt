@@ -1,5 +1,5 @@
 -- hand_each: what is held of each ring was handed on once the place is behind the last one.
-use Rattle.std.proofs.Common.{◌≡◌, sym, refl, ap, ◌∙◌, ◌+◌, subst, arith, length, map}
+use Rattle.std.proofs.Common.{sym, refl, ◌∙◌, subst, arith}
 use Rattle.std.proofs.lemmas.List.{length-map}
 use Rattle.sb_router.specs.Lanes.{LaneState, Route}
 use Rattle.sb_router.specs.LaneOf.{lane_of, lane_route}
@@ -7,7 +7,7 @@ use Rattle.sb_router.specs.InletOf.{inlet_of}
 use Rattle.sb_router.specs.RouteOf.{route_of}
 use Rattle.sb_router.specs.Handing.{IsHanded}
 use Rattle.sb_router.specs.Whole.{IsWholeLane}
-use Rattle.sb_router.proofs.HandingEach.{HandsSoFar, hands_all, hands_more, hands_none}
+use Rattle.sb_router.proofs.HandingEach.{hands_all, hands_more, hands_none}
 use Rattle.sb_router.proofs.Shapes.{steps_shape}
 use Rattle.sb_router.proofs.WholeSteps.{whole_steps}
 use Rattle.sb_router.proofs.lane.Lane.hand_each.Goals as goal

@@ -1,13 +1,11 @@
 -- hand_to_at: the port at the place is offered the packet, and no other one.
-use Rattle.std.proofs.Common.{◌≡◌, sym, ap, ◌∙◌, subst, List, map, set, arith, false}
+use Rattle.std.proofs.Common.{sym, ap, subst, List, arith}
 use Rattle.std.proofs.lemmas.List.{map-set}
-use Rattle.sb_port.specs.Ports.{owes}
 use Rattle.sb_router.specs.Lanes.{LaneState, OutletState, no_outlet}
 use Rattle.sb_router.specs.LaneOf.{lane_of}
 use Rattle.sb_router.specs.OutletOf.{outlet_of}
 use Rattle.sb_router.specs.Sending.{IsHandedTo}
-use Rattle.sb_router.specs.Whole.{IsWholeOutlet}
-use Rattle.sb_router.proofs.Places.{at_place, of_place}
+use Rattle.sb_router.proofs.Places.{at_place}
 use Rattle.sb_router.proofs.lane.Lane.hand_to_at.Goals as goal
 
 pub returns-clause-handed : goal.returns-clause-handed

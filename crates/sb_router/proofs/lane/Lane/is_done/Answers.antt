@@ -1,5 +1,5 @@
 -- is_done: what is found of each port and of each ring.
-use Rattle.std.proofs.Common.{◌≡◌, Bool, ◌&&◌, sym, ap, ◌∙◌, map}
+use Rattle.std.proofs.Common.{Bool, ◌&&◌, sym, ap, ◌∙◌, map}
 use Rattle.std.specs.List.{list_all}
 use Rattle.std.proofs.lemmas.List.Folds.{list_all-map}
 use Rattle.sb_router.specs.Lanes.{InletState, OutletState}

@@ -1,10 +1,9 @@
 -- is_ready_at: the port at the place is whole, and it is asked.
-use Rattle.std.proofs.Common.{◌≡◌, sym, ap, ◌∙◌, arith, not}
-use Rattle.sb_port.specs.Ports.{owes}
-use Rattle.sb_router.specs.Lanes.{OutletState, no_outlet}
+use Rattle.std.proofs.Common.{arith}
+use Rattle.sb_router.specs.Lanes.{no_outlet}
 use Rattle.sb_router.specs.OutletOf.{outlet_of}
 use Rattle.sb_router.specs.Whole.{IsWholeOutlet}
-use Rattle.sb_router.proofs.Places.{at_place, of_place}
+use Rattle.sb_router.proofs.Places.{of_place}
 use Rattle.sb_router.proofs.lane.Lane.is_ready_at.Goals as goal
 
 pub is_ready-requires : goal.is_ready-requires

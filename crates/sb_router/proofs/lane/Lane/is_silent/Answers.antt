@@ -1,5 +1,5 @@
 -- is_silent: what is found of each ring is so.
-use Rattle.std.proofs.Common.{◌≡◌, sym, ap, ◌∙◌, map, ◌&&◌, is_none}
+use Rattle.std.proofs.Common.{sym, ap, ◌∙◌, map, ◌&&◌, is_none}
 use Rattle.std.specs.List.{list_all}
 use Rattle.std.proofs.lemmas.List.Folds.{list_all-map}
 use Rattle.sb_router.specs.InletOf.{inlet_of}

@@ -1,11 +1,9 @@
 -- next: the flow is told by the plan of the ring at the place.
-use Rattle.std.proofs.Common.{◌≡◌, sym, ap, ◌∙◌, subst, arith}
-use Rattle.sb_packet.specs.Messages.{message_of}
-use Rattle.sb_packet.specs.Plans.{message_flow}
-use Rattle.sb_router.specs.Lanes.{InletState, no_inlet, next_place}
+use Rattle.std.proofs.Common.{arith}
+use Rattle.sb_router.specs.Lanes.{no_inlet}
 use Rattle.sb_router.specs.InletOf.{inlet_of}
 use Rattle.sb_router.specs.Whole.{IsWholeInlet}
-use Rattle.sb_router.proofs.Places.{at_place, of_place}
+use Rattle.sb_router.proofs.Places.{of_place}
 use Rattle.sb_router.proofs.lane.Lane.next.Goals as goal
 
 pub flow-requires : goal.flow-requires

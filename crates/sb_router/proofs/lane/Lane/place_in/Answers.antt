@@ -1,5 +1,5 @@
 -- place_in: the place of the ring's number.
-use Rattle.std.proofs.Common.{◌≡◌, ◌==◌, sym, ap, ◌∙◌}
+use Rattle.std.proofs.Common.{◌==◌, sym, ap, ◌∙◌}
 use Rattle.std.specs.List.{position_from}
 use Rattle.sb_router.specs.Lanes.{InletState}
 use Rattle.sb_router.specs.InletOf.{inlet_of}

@@ -1,5 +1,5 @@
 -- place_out: the place of the ring's number.
-use Rattle.std.proofs.Common.{◌≡◌, ◌==◌, sym, ap, ◌∙◌}
+use Rattle.std.proofs.Common.{◌==◌, sym, ap, ◌∙◌}
 use Rattle.std.specs.List.{position_from}
 use Rattle.sb_router.specs.Lanes.{OutletState}
 use Rattle.sb_router.specs.OutletOf.{outlet_of}

@@ -1,5 +1,5 @@
 -- pop_at: the ring at the place is popped, and no other one.
-use Rattle.std.proofs.Common.{◌≡◌, sym, ap, subst, List, map, set, arith}
+use Rattle.std.proofs.Common.{sym, ap, subst, List, arith}
 use Rattle.std.proofs.lemmas.List.{map-set}
 use Rattle.sb_router.specs.Lanes.{InletState, LaneState, no_inlet}
 use Rattle.sb_router.specs.InletOf.{inlet_of}

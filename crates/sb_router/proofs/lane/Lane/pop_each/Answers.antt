@@ -1,5 +1,5 @@
 -- pop_each: each ring was popped once the place is behind the last one.
-use Rattle.std.proofs.Common.{◌≡◌, sym, refl, ap, ◌∙◌, ◌+◌, subst, arith, length, map}
+use Rattle.std.proofs.Common.{sym, refl, ◌∙◌, ◌+◌, subst, arith}
 use Rattle.std.proofs.lemmas.List.{length-map}
 use Rattle.sb_node.specs.declared.findings.Findings.{Findings}
 use Rattle.sb_router.specs.Lanes.{LaneState, Route}

@@ -1,14 +1,10 @@
 -- take_out: nothing stands at the place, and all else stays.
-use Rattle.std.proofs.Common.{◌≡◌, List, Some, None, map, set, sym, ap, ◌∙◌, arith, true, false}
+use Rattle.std.proofs.Common.{List, None, map, set, sym, ap, ◌∙◌, arith, false}
 use Rattle.std.proofs.lemmas.List.{map-set}
-use Rattle.sb_router.specs.Lanes.{InletState, OutletState, no_inlet, no_outlet, no_port, no_ring}
-use Rattle.sb_router.specs.LaneOf.{lane_of}
-use Rattle.sb_router.specs.InletOf.{inlet_of}
+use Rattle.sb_router.specs.Lanes.{OutletState, no_outlet, no_port}
 use Rattle.sb_router.specs.OutletOf.{outlet_of}
 use Rattle.sb_router.specs.Routers.{DirectionSide}
 use Rattle.sb_router.specs.RouterOf.{direction_of}
-use Rattle.sb_node.specs.Sides.{port_side, ring_side}
-use Rattle.sb_router.proofs.Found.{nothing_there}
 use Rattle.sb_router.proofs.Places.{at_place}
 use Rattle.sb_router.proofs.lane.Lane.take_out.Goals as goal
 

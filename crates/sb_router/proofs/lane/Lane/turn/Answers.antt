@@ -1,5 +1,5 @@
 -- turn: one part after another.
-use Rattle.std.proofs.Common.{◌≡◌, sym, ap, ◌∙◌, subst}
+use Rattle.std.proofs.Common.{sym, ◌∙◌, subst}
 use Rattle.sb_router.specs.Lanes.{LaneState}
 use Rattle.sb_router.specs.LaneOf.{lane_of}
 use Rattle.sb_router.specs.RouteOf.{route_of}

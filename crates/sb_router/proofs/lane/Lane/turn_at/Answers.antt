@@ -1,5 +1,5 @@
 -- turn_at: the port at the place is turned, and no other one.
-use Rattle.std.proofs.Common.{◌≡◌, sym, ap, subst, List, map, set, arith, false}
+use Rattle.std.proofs.Common.{sym, ap, subst, List, arith, false}
 use Rattle.std.proofs.lemmas.List.{map-set}
 use Rattle.sb_node.specs.Steps.{IsPortTurned}
 use Rattle.sb_router.specs.Causes.{nothing_found}

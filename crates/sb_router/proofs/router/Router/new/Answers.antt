@@ -1,8 +1,7 @@
 -- new: the tables are those of the links that the legs are of.
-use Rattle.std.proofs.Common.{◌≡◌, ℕ, ◌<◌, true, false, List, length, map, sym, ap, ◌∙◌, subst}
+use Rattle.std.proofs.Common.{ℕ, ◌<◌, true, false, List, length, map, sym, ap, ◌∙◌, subst}
 use Rattle.std.proofs.lemmas.List.{length-map}
 use Rattle.sb_flow.specs.NetworkOf.{network_of}
-use Rattle.sb_router.specs.SideOf.{router_side}
 use Rattle.sb_router.specs.Ways.{IsTableOf}
 use Rattle.sb_router.proofs.Results.{ok_then}
 use Rattle.sb_router.proofs.router.Router.new.Goals as goal

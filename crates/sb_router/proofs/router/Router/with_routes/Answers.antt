@@ -1,5 +1,4 @@
 -- with_routes: both directions begin with the ends of the legs, at which nothing happened yet.
-use Rattle.std.proofs.Common.{◌≡◌, ℕ, ◌<◌, Option, Some}
 use Rattle.sb_router.specs.Lanes.{LaneState}
 use Rattle.sb_router.specs.LaneOf.{lane_of}
 use Rattle.sb_router.specs.RouteOf.{route_of}

@@ -1,15 +1,9 @@
 -- turn: both directions took their turns.
-use Rattle.std.proofs.Common.{◌≡◌, Bool, ◌&&◌, sym, ap, ◌∙◌, subst, map}
-use Rattle.sb_link.specs.declared.answers.Turn.{Turn}
-use Rattle.sb_node.specs.declared.findings.Findings.{Findings}
-use Rattle.sb_node.specs.Found.{IsTurnOf}
-use Rattle.sb_node.specs.Turns.{first_cause}
-use Rattle.sb_router.specs.Lanes.{LaneState}
-use Rattle.sb_router.specs.Causes.{found_in_both}
+use Rattle.std.proofs.Common.{sym, subst}
 use Rattle.sb_router.specs.LaneOf.{lane_of}
-use Rattle.sb_router.specs.Routers.{DirectionSide, IsKeptDirection, IsRouterTurn, IsWholeDirection, RouterSide}
+use Rattle.sb_router.specs.Routers.{IsKeptDirection, IsRouterTurn, IsWholeDirection}
 use Rattle.sb_router.specs.RouterOf.{core_side, direction_of}
-use Rattle.sb_router.proofs.RouterTurns.{done_both, has_cause, kept_direction, router_turn}
+use Rattle.sb_router.proofs.RouterTurns.{kept_direction, router_turn}
 use Rattle.sb_router.proofs.RouterTurning.{found_done, some_cause}
 use Rattle.sb_router.proofs.router_core.RouterCore.turn.Goals as goal
 
