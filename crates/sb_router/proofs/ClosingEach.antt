@@ -1,14 +1,12 @@
 -- Telling one port after another to close.
-use Rattle.std.proofs.Common.{◌≡◌, inl, inr, ℕ, ◌<◌, ◌≤◌, ◌+◌, true, false, List, length, set, get_or, All, refl, sym, ap, ◌∙◌, subst, arith}
-use Rattle.std.proofs.lemmas.List.{get_or-set_same}
+use Rattle.std.proofs.Common.{◌≡◌, ℕ, ◌<◌, ◌≤◌, ◌+◌, true, false, List, length, set, All, refl, sym, ap, subst, arith}
 use Rattle.sb_node.specs.Sides.{PortSide, port_moves}
 use Rattle.sb_router.specs.Lanes.{InletState, LaneState, OutletState, Route, no_outlet, outlet_at}
 use Rattle.sb_router.specs.Steps.{IsSilent, Steps, tells, none, further}
 use Rattle.sb_router.specs.Moves.{IsToldMoved}
 use Rattle.sb_router.specs.Ports.{IsToldAt}
 use Rattle.sb_router.specs.Turning.{HasClosed}
-use Rattle.sb_router.proofs.Cases.{le_cases}
-use Rattle.sb_router.proofs.Places.{set_cases}
+use Rattle.sb_router.proofs.Places.{so_far}
 use Rattle.sb_router.proofs.MoveSteps.{moved_none, moved_then, outlet_same}
 
 -- The ports before a place were told.
@@ -22,7 +20,7 @@ pub tells_none : (route : Route) (s : LaneState) → TellsSoFar route s s 0
 tells_none route s = record { steps = none; inlets = refl; moved = moved_none s; told = λ o lt. absurd (omega arith) }
 
 pub tells_more : {route : Route} {s now then : LaneState} {place : ℕ} → TellsSoFar route s now place → All IsSilent s.inlets → place < length now.outlets → IsToldAt place now then → TellsSoFar route s then (place + 1)
-tells_more {route} {s} {now} {then} {place} h silent lt at = subst (λ (t : LaneState). TellsSoFar route s t (place + 1)) (sym at.state) so_far
+tells_more {route} {s} {now} {then} {place} h silent lt at = subst (λ (t : LaneState). TellsSoFar route s t (place + 1)) (sym at.state) told_more
   where
     y : OutletState
     y = at.port
@@ -33,18 +31,12 @@ tells_more {route} {s} {now} {then} {place} h silent lt at = subst (λ (t : Lane
     same_moves : port_moves y.port ≡ port_moves (outlet_at now place).port
     same_moves = ap port_moves at.told.told
 
-    so_far : TellsSoFar route s (record now { outlets = set now.outlets place y }) (place + 1)
-    so_far = record {
+    told_more : TellsSoFar route s (record now { outlets = set now.outlets place y }) (place + 1)
+    told_more = record {
       steps = further h.steps (tells place y lt (subst (λ (l : List InletState). All IsSilent l) (sym h.inlets) silent) at.told);
       inlets = h.inlets;
       moved = moved_then false false h.moved (outlet_same now place y lt same_moves);
-      told = λ o below. elim (set_cases now.outlets place o y no_outlet lt) [
-        | inl w ↦ ap (λ (z : OutletState). z.port.state.closing) w.1 ∙ closing
-        | inr w ↦ elim (le_cases o place below) [
-          | inl before ↦ ap (λ (z : OutletState). z.port.state.closing) w ∙ h.told o before
-          | inr same ↦ ap (λ (k : ℕ). (get_or (set now.outlets place y) k no_outlet).port.state.closing) same ∙ ap (λ (z : OutletState). z.port.state.closing) (get_or-set_same now.outlets place y no_outlet lt) ∙ closing
-        ]
-      ];
+      told = so_far now.outlets place y no_outlet lt (λ _ z. z.port.state.closing ≡ true) closing h.told;
     }
 
 pub tells_all : {route : Route} {s now : LaneState} {place : ℕ} → TellsSoFar route s now place → All IsSilent s.inlets → length now.outlets ≤ place → HasClosed route s now

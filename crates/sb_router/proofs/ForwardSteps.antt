@@ -1,5 +1,5 @@
 -- The words of a direction, step by step.
-use Rattle.std.proofs.Common.{◌≡◌, inl, inr, ℕ, ◌<◌, List, [], ◌++◌, length, set, get_or, Option, sym, ap, ◌∙◌, subst, arith}
+use Rattle.std.proofs.Common.{◌≡◌, ℕ, ◌<◌, List, [], ◌++◌, length, set, get_or, Option, sym, ap, ◌∙◌, subst, arith}
 use Rattle.std.specs.Prelude.{filter, sum_by}
 use Rattle.std.proofs.lemmas.List.{append-nil}
 use Rattle.std.proofs.lemmas.List.Elements.{All-get_or}
@@ -16,7 +16,7 @@ use Rattle.sb_router.specs.Lanes.{InletState, LaneState, OutletState, Route, cam
 use Rattle.sb_router.specs.Steps.{Step, Steps, receives, looks, drops, offers, turns, tells, none, further}
 use Rattle.sb_router.specs.Whole.{IsWholeInlet, IsWholeLane}
 use Rattle.sb_router.specs.Forwarding.{Words, Forwards, IsLaid, came_for, held_for, part, popped_for}
-use Rattle.sb_router.proofs.Places.{set_cases}
+use Rattle.sb_router.proofs.Places.{same_at_each}
 use Rattle.sb_router.proofs.Shapes.{SameShape, inlets_shape, outlets_shape, passed_before, step_shape}
 use Rattle.sb_router.proofs.Forwards.{receiving, sound_before}
 use Rattle.sb_router.proofs.Handling.{dropping, offering}
@@ -36,10 +36,7 @@ laid_then {words} {route} {s} {t} shape laid = record {
 
 -- what was offered at the place of a list in which one was set that was offered nothing more
 offered_same : (s : LaneState) (o : ℕ) (y : OutletState) → o < length s.outlets → offered_words y.port ≡ offered_at s o → (q : ℕ) → offered_words (get_or (set s.outlets o y) q no_outlet).port ≡ offered_at s q
-offered_same s o y lt e q = elim (set_cases s.outlets o q y no_outlet lt) [
-  | inl w ↦ ap (λ (z : OutletState). offered_words z.port) w.1 ∙ e ∙ ap (λ (k : ℕ). offered_at s k) (sym w.0)
-  | inr w ↦ ap (λ (z : OutletState). offered_words z.port) w
-]
+offered_same s o y lt e = same_at_each s.outlets o y no_outlet lt (λ (z : OutletState). offered_words z.port) e
 
 module _ {words : Words} {route : Route} (s : LaneState) (h : Forwards words route s) where
   -- a port did something, but was offered nothing
@@ -60,16 +57,10 @@ module _ {words : Words} {route : Route} (s : LaneState) (h : Forwards words rou
     looked = record s { inlets = set s.inlets i x }
 
     came_same : (j : ℕ) → came_at looked j ≡ came_at s j
-    came_same j = elim (set_cases s.inlets i j x no_inlet lt) [
-      | inl w ↦ ap (λ (z : InletState). received_words z.ring) w.1 ∙ ap item_accesses same_received ∙ ap (λ (k : ℕ). came_at s k) (sym w.0)
-      | inr w ↦ ap (λ (z : InletState). received_words z.ring) w
-    ]
+    came_same = same_at_each s.inlets i x no_inlet lt (λ (z : InletState). received_words z.ring) (ap item_accesses same_received)
 
     held_same : (j : ℕ) → held_at looked j ≡ held_at s j
-    held_same j = elim (set_cases s.inlets i j x no_inlet lt) [
-      | inl w ↦ ap (λ (z : InletState). held_words z.held) w.1 ∙ ap held_words same_held ∙ ap (λ (k : ℕ). held_at s k) (sym w.0)
-      | inr w ↦ ap (λ (z : InletState). held_words z.held) w
-    ]
+    held_same = same_at_each s.inlets i x no_inlet lt (λ (z : InletState). held_words z.held) (ap held_words same_held)
 
     came_sum : (o : ℕ) → popped_for words looked o ≡ popped_for words s o
     came_sum o = let sum = sum_by-set (came_for words o) s.inlets i x no_inlet lt in

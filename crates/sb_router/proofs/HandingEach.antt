@@ -1,5 +1,5 @@
 -- Handing on what is held of one ring after another.
-use Rattle.std.proofs.Common.{◌≡◌, inl, inr, ℕ, ◌<◌, ◌≤◌, ◌+◌, ◌||◌, Bool, true, false, length, set, get_or, refl, sym, ap, ◌∙◌, subst, arith}
+use Rattle.std.proofs.Common.{◌≡◌, inl, inr, ℕ, ◌<◌, ◌≤◌, ◌+◌, ◌||◌, Bool, true, false, length, set, get_or, refl, sym, ◌∙◌, subst, arith}
 use Rattle.sb_router.specs.Lanes.{InletState, LaneState, Route, inlet_at, no_inlet}
 use Rattle.sb_router.specs.Steps.{Step, Steps, drops, offers, none, further, emptied}
 use Rattle.sb_router.specs.Handing.{Drops, IsHanded, IsWaiting, Offers}
@@ -8,15 +8,12 @@ use Rattle.sb_router.specs.Turning.{HasHanded}
 use Rattle.sb_router.specs.Whole.{IsWholeLane}
 use Rattle.sb_router.proofs.Cases.{le_cases, or_false}
 use Rattle.sb_router.proofs.NextPlaces.{next_within}
-use Rattle.sb_router.proofs.Places.{set_cases}
+use Rattle.sb_router.proofs.Places.{same_at_each}
 use Rattle.sb_router.proofs.MoveSteps.{both_more, inlet_emptied, inlet_more, moved_none, moved_then}
 
 -- What was held of a ring, and isn't any longer, changes no ring.
 pub emptied_ring : (s : LaneState) (i : ℕ) → i < length s.inlets → (j : ℕ) → (get_or (set s.inlets i (emptied (inlet_at s i))) j no_inlet).ring ≡ (inlet_at s j).ring
-emptied_ring s i lt j = elim (set_cases s.inlets i j (emptied (inlet_at s i)) no_inlet lt) [
-  | inl w ↦ ap (λ (x : InletState). x.ring) w.1 ∙ ap (λ (k : ℕ). (inlet_at s k).ring) (sym w.0)
-  | inr w ↦ ap (λ (x : InletState). x.ring) w
-]
+emptied_ring s i lt = same_at_each s.inlets i (emptied (inlet_at s i)) no_inlet lt (λ (x : InletState). x.ring) refl
 
 -- a packet was handed on, or dropped
 record IsOneHanding (route : Route) (s t : LaneState) : Type 0 where

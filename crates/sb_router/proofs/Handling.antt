@@ -21,7 +21,7 @@ use Rattle.sb_router.specs.Lanes.{InletState, LaneState, OutletState, Route, cam
 use Rattle.sb_router.specs.Steps.{IsGiven, IsRefused, emptied}
 use Rattle.sb_router.specs.Whole.{IsWholeInlet}
 use Rattle.sb_router.specs.Forwarding.{Words, Passes, AreSound, Forwards, IsLaid, IsOneFlow, came_for, held_for, part, popped_for}
-use Rattle.sb_router.proofs.Places.{set_cases}
+use Rattle.sb_router.proofs.Places.{same_at_each, set_cases}
 use Rattle.sb_router.proofs.NextPlaces.{next_flow}
 use Rattle.sb_router.proofs.Shapes.{SameShape, inlets_shape, outlet_set, passed_before}
 use Rattle.sb_router.proofs.Subsequences.{without_end}
@@ -61,10 +61,7 @@ module _ {words : Words} {route : Route} (s : LaneState) (laid : IsLaid words ro
   its_count = length-map-range_with_len (access_at (message_of p)) 0 (message_of p).count
 
   came_same : (j : ℕ) → (get_or rest j no_inlet).ring ≡ (inlet_at s j).ring
-  came_same j = elim (set_cases s.inlets i j (emptied (inlet_at s i)) no_inlet lt) [
-    | inl q ↦ ap (λ (y : InletState). y.ring) q.1 ∙ ap (λ (k : ℕ). (inlet_at s k).ring) (sym q.0)
-    | inr q ↦ ap (λ (y : InletState). y.ring) q
-  ]
+  came_same = same_at_each s.inlets i (emptied (inlet_at s i)) no_inlet lt (λ (y : InletState). y.ring) refl
 
   came_sum : (o : ℕ) → sum_by (came_for words o) rest ≡ popped_for words s o
   came_sum o = let sum = sum_by-set (came_for words o) s.inlets i (emptied (inlet_at s i)) no_inlet lt in

@@ -1,12 +1,12 @@
 -- Nothing is taken back, step by step.
-use Rattle.std.proofs.Common.{inl, inr, ℕ, ◌<◌, true, length, set, get_or, refl, sym, subst, arith}
+use Rattle.std.proofs.Common.{ℕ, ◌<◌, true, length, set, get_or, refl, sym, subst, arith}
 use Rattle.std.proofs.lemmas.List.{length-set}
 use Rattle.sb_node.specs.Sides.{PortSide}
 use Rattle.sb_node.specs.Kept.{IsKeptPort, begins_itself, kept_ring_same}
 use Rattle.sb_router.specs.Lanes.{InletState, LaneState, OutletState, Route, inlet_at, no_inlet, no_outlet, outlet_at}
 use Rattle.sb_router.specs.Steps.{Step, Steps, receives, looks, drops, offers, turns, tells, none, further, emptied}
 use Rattle.sb_router.specs.Kept.{IsKeptInlet, IsKeptLane, IsKeptOutlet, kept_inlet_same, kept_lane_same, kept_lane_then, kept_outlet_same}
-use Rattle.sb_router.proofs.Places.{set_cases}
+use Rattle.sb_router.proofs.Places.{at_each}
 
 -- a port that was told to close is as it was
 pub kept_told : (before : PortSide) → IsKeptPort before (record before { state = record before.state { closing = true } })
@@ -21,16 +21,10 @@ kept_told before = record {
 }
 
 kept_inlet_set : (s : LaneState) (i : ℕ) (x : InletState) → i < length s.inlets → IsKeptInlet (inlet_at s i) x → (j : ℕ) → IsKeptInlet (inlet_at s j) (get_or (set s.inlets i x) j no_inlet)
-kept_inlet_set s i x lt is j = elim (set_cases s.inlets i j x no_inlet lt) [
-  | inl w ↦ let at : IsKeptInlet (inlet_at s j) x = subst (λ (k : ℕ). IsKeptInlet (inlet_at s k) x) (sym w.0) is in subst (λ (y : InletState). IsKeptInlet (inlet_at s j) y) (sym w.1) at
-  | inr w ↦ subst (λ (y : InletState). IsKeptInlet (inlet_at s j) y) (sym w) (kept_inlet_same (inlet_at s j))
-]
+kept_inlet_set s i x lt is = at_each s.inlets i x no_inlet lt (λ j y. IsKeptInlet (inlet_at s j) y) is (λ j. kept_inlet_same (inlet_at s j))
 
 kept_outlet_set : (s : LaneState) (o : ℕ) (y : OutletState) → o < length s.outlets → IsKeptOutlet (outlet_at s o) y → (q : ℕ) → IsKeptOutlet (outlet_at s q) (get_or (set s.outlets o y) q no_outlet)
-kept_outlet_set s o y lt is q = elim (set_cases s.outlets o q y no_outlet lt) [
-  | inl w ↦ let at : IsKeptOutlet (outlet_at s q) y = subst (λ (k : ℕ). IsKeptOutlet (outlet_at s k) y) (sym w.0) is in subst (λ (z : OutletState). IsKeptOutlet (outlet_at s q) z) (sym w.1) at
-  | inr w ↦ subst (λ (z : OutletState). IsKeptOutlet (outlet_at s q) z) (sym w) (kept_outlet_same (outlet_at s q))
-]
+kept_outlet_set s o y lt is = at_each s.outlets o y no_outlet lt (λ q z. IsKeptOutlet (outlet_at s q) z) is (λ q. kept_outlet_same (outlet_at s q))
 
 kept_inlets : (s : LaneState) (i : ℕ) (x : InletState) → i < length s.inlets → IsKeptInlet (inlet_at s i) x → IsKeptLane s (record s { inlets = set s.inlets i x })
 kept_inlets s i x lt is = record { inlet_count = length-set s.inlets i x; outlet_count = refl; inlets = kept_inlet_set s i x lt is; outlets = λ o. kept_outlet_same (outlet_at s o) }

@@ -1,6 +1,8 @@
 -- Of the causes of a list and one more, the one at the lowest ring.
-use Rattle.std.proofs.Common.{◌≡◌, Bool, true, false, cond, nat_le, List, [], ◌∷◌, ◌++◌, Option, Some, None, refl, sym, ap, ◌∙◌, arith}
+use Rattle.std.proofs.Common.{◌≡◌, ◌<◌, ◌+◌, ℕ, Bool, true, false, cond, nat_le, length, map, set, take, List, [], ◌∷◌, ◌++◌, Option, Some, None, refl, sym, ap, ◌∙◌, arith}
 use Rattle.std.proofs.lemmas.Bool.Decides.{nat_tests}
+use Rattle.std.proofs.lemmas.Grind.{take-set_at}
+use Rattle.std.proofs.lemmas.List.{map_push}
 use Rattle.sb_link.specs.declared.answers.Cause.{Cause}
 use Rattle.sb_router.specs.Causes.{lower, lowest, ring_of_cause}
 
@@ -34,3 +36,10 @@ lowest_more (first ∷ rest) cause = ap (lower first) (lowest_more rest cause) �
 pub lowest_append : (xs ys : List (Option Cause)) → lowest (xs ++ ys) ≡ lower (lowest xs) (lowest ys)
 lowest_append [] ys = refl
 lowest_append (first ∷ rest) ys = ap (lower first) (lowest_append rest ys) ∙ sym (lower_then first (lowest rest) (lowest ys))
+
+-- the lowest cause of a list in which one more place was set
+pub lowest_next : {X : Type 0} (cause : X → Option Cause) (xs : List X) (i : ℕ) (y : X) (found one : Option Cause) → i < length xs → found ≡ lowest (map cause (take i xs)) → one ≡ cause y
+    → lower found one ≡ lowest (map cause (take (i + 1) (set xs i y)))
+lowest_next {X} cause xs i y found one lt before here =
+    ap (λ c. lower c one) before ∙ ap (lower (lowest (map cause (take i xs)))) here
+    ∙ sym (ap (λ (l : List X). lowest (map cause l)) (take-set_at xs i (i + 1) y refl lt) ∙ ap lowest (map_push cause (take i xs) y) ∙ lowest_more (map cause (take i xs)) (cause y))

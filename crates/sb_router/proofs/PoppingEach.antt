@@ -1,21 +1,19 @@
 -- Popping one ring after another.
-use Rattle.std.proofs.Common.{◌≡◌, ◌≢◌, ◌⊎◌, inl, inr, ℕ, ◌<◌, ◌≤◌, ◌+◌, ◌||◌, Bool, true, false, cond, is_some, List, [], ◌∷◌, length, map, take, set, get_or, Option, Some, None, refl, sym, ap, ◌∙◌, subst, arith, length-append}
-use Rattle.std.proofs.lemmas.List.{get_or_default, get_or-set_same, map_push, take_all}
-use Rattle.std.proofs.lemmas.Grind.{take-set_at}
-use Rattle.sb_link.specs.declared.answers.Cause.{Cause}
+use Rattle.std.proofs.Common.{◌≡◌, ◌≢◌, ◌⊎◌, inl, inr, ℕ, ◌<◌, ◌≤◌, ◌+◌, ◌||◌, Bool, true, false, cond, is_some, List, [], ◌∷◌, length, map, take, set, Option, Some, None, refl, sym, ap, ◌∙◌, subst, arith, length-append}
+use Rattle.std.proofs.lemmas.List.{get_or_default, take_all}
 use Rattle.sb_link.specs.declared.answers.Cause.TheVariants as causes
 use Rattle.sb_packet.specs.declared.packet.Packet.{Packet}
 use Rattle.sb_node.specs.declared.findings.Findings.{Findings}
 use Rattle.sb_node.specs.Kept.{kept_ring_same}
 use Rattle.sb_router.specs.Lanes.{InletState, LaneState, Route, inlet_at, no_inlet}
 use Rattle.sb_router.specs.Steps.{IsUnmoved, Step, Steps, receives, looks, none, further}
-use Rattle.sb_router.specs.Causes.{found_in_both, lower, lowest, nothing_found}
+use Rattle.sb_router.specs.Causes.{found_in_both, lowest, nothing_found}
 use Rattle.sb_router.specs.Moves.{IsToldMoved}
 use Rattle.sb_router.specs.Popping.{IsPopped, IsPoppedAt}
 use Rattle.sb_router.specs.Turning.{HasPopped, IsSeen, OneItemEach, pop_cause}
-use Rattle.sb_router.proofs.Cases.{le_cases, or_false}
-use Rattle.sb_router.proofs.Places.{set_cases}
-use Rattle.sb_router.proofs.Lowest.{lowest_more}
+use Rattle.sb_router.proofs.Cases.{or_false}
+use Rattle.sb_router.proofs.Places.{ahead_same, at_each, so_far}
+use Rattle.sb_router.proofs.Lowest.{lowest_next}
 use Rattle.sb_router.proofs.MoveSteps.{inlet_more, inlet_received, inlet_same, inlet_unmoved, moved_none, moved_then}
 
 -- What one pop shows of a ring, by what was found.
@@ -104,7 +102,7 @@ pops_none route s = record {
 pub pops_more : {route : Route} {s now then : LaneState} {found one : Findings} {place : ℕ} → PopsSoFar route s now found place → place < length now.inlets → IsPoppedAt place now then one
     → PopsSoFar route s then (found_in_both found one) (place + 1)
 pops_more {route} {s} {now} {then} {found} {one} {place} h lt at =
-    subst (λ (t : LaneState). PopsSoFar route s t (found_in_both found one) (place + 1)) (sym at.state) so_far
+    subst (λ (t : LaneState). PopsSoFar route s t (found_in_both found one) (place + 1)) (sym at.state) popped_more
   where
     x : InletState
     x = at.inlet
@@ -115,35 +113,16 @@ pops_more {route} {s} {now} {then} {found} {one} {place} h lt at =
     popped : IsOnePop route now t place x one
     popped = one_pop now place x one lt at.popped
 
-    so_far : PopsSoFar route s t (found_in_both found one) (place + 1)
-    so_far = record {
+    popped_more : PopsSoFar route s t (found_in_both found one) (place + 1)
+    popped_more = record {
       steps = further h.steps popped.step;
       outlets = h.outlets;
       moved = moved_then found.moved one.moved h.moved popped.moved;
-      one_item = λ j. elim (set_cases now.inlets place j x no_inlet lt) [
-        | inl w ↦
-            let ahead = ap (λ (y : InletState). length y.ring.received) (h.ahead place (omega arith)) in
-            let new = ap (λ (y : InletState). length y.ring.received) w.1 in
-            let old = ap (λ (k : ℕ). length (inlet_at s k).ring.received) w.0 in
-            let one_item = popped.one_item in omega (arith, ahead, new, old, one_item)
-        | inr w ↦ let same = ap (λ (y : InletState). length y.ring.received) w in let old = h.one_item j in omega (arith, same, old)
-      ];
-      ahead = λ j le. elim (set_cases now.inlets place j x no_inlet lt) [
-        | inl w ↦ absurd (omega (arith, w.0, le))
-        | inr w ↦ w ∙ h.ahead j (omega (arith, le))
-      ];
-      seen = λ e j below. let two = or_false found.moved one.moved e in elim (set_cases now.inlets place j x no_inlet lt) [
-        | inl w ↦ subst IsSeen (sym w.1) (popped.seen two.1)
-        | inr w ↦ subst IsSeen (sym w) (elim (le_cases j place below) [
-          | inl before ↦ h.seen two.0 j before
-          | inr same ↦ let here : inlet_at now j ≡ x = sym w ∙ ap (λ (k : ℕ). get_or (set now.inlets place x) k no_inlet) same ∙ get_or-set_same now.inlets place x no_inlet lt in
-              subst IsSeen (sym here) (popped.seen two.1)
-        ])
-      ];
-      empty = λ e. let two = or_false found.moved one.moved e in
-          ap (λ (c : Option Cause). lower c one.empty) (h.empty two.0) ∙ ap (lower (lowest (map pop_cause (take place now.inlets)))) (popped.cause two.1)
-          ∙ sym (ap (λ (l : List InletState). lowest (map pop_cause l)) (take-set_at now.inlets place (place + 1) x refl lt)
-          ∙ ap lowest (map_push pop_cause (take place now.inlets) x) ∙ lowest_more (map pop_cause (take place now.inlets)) (pop_cause x));
+      one_item = at_each now.inlets place x no_inlet lt (λ j y. length y.ring.received ≤ length (inlet_at s j).ring.received + 1)
+          (subst (λ (y : InletState). length x.ring.received ≤ length y.ring.received + 1) (h.ahead place (omega arith)) popped.one_item) h.one_item;
+      ahead = ahead_same now.inlets place x no_inlet lt (inlet_at s) h.ahead;
+      seen = λ e. let two = or_false found.moved one.moved e in so_far now.inlets place x no_inlet lt (λ _ y. IsSeen y) (popped.seen two.1) (h.seen two.0);
+      empty = λ e. let two = or_false found.moved one.moved e in lowest_next pop_cause now.inlets place x found.empty one.empty lt (h.empty two.0) (popped.cause two.1);
     }
 
 pub pops_all : {route : Route} {s now : LaneState} {found : Findings} {place : ℕ} → PopsSoFar route s now found place → length now.inlets ≤ place → HasPopped route s now found

@@ -1,12 +1,12 @@
 -- What no step changes: how many rings there are, and their plans.
-use Rattle.std.proofs.Common.{◌≡◌, inl, inr, ℕ, ◌<◌, length, set, get_or, refl, sym, ap, ◌∙◌, arith}
+use Rattle.std.proofs.Common.{◌≡◌, ℕ, ◌<◌, length, set, get_or, refl, sym, ap, ◌∙◌, arith}
 use Rattle.std.proofs.lemmas.List.{length-set}
 use Rattle.sb_packet.specs.Plans.{NetFlow, RingPlan, goes_through}
 use Rattle.sb_node.specs.Sides.{PortSide}
 use Rattle.sb_router.specs.Lanes.{InletState, LaneState, OutletState, Route, inlet_at, no_inlet, no_outlet, outlet_at}
 use Rattle.sb_router.specs.Steps.{Step, Steps, receives, looks, drops, offers, turns, tells, none, further, emptied}
 use Rattle.sb_router.specs.Forwarding.{Passes}
-use Rattle.sb_router.proofs.Places.{set_cases}
+use Rattle.sb_router.proofs.Places.{same_at_each}
 
 pub record SameShape (s t : LaneState) : Type 0 where
   pub inlets : length t.inlets ≡ length s.inlets
@@ -27,17 +27,11 @@ shape_then a b = record {
 
 -- a ring that comes in was set
 pub inlet_set : (s : LaneState) (i : ℕ) (x : InletState) → i < length s.inlets → x.ring.plan ≡ (inlet_at s i).ring.plan → (j : ℕ) → (get_or (set s.inlets i x) j no_inlet).ring.plan ≡ (inlet_at s j).ring.plan
-inlet_set s i x lt e j = elim (set_cases s.inlets i j x no_inlet lt) [
-  | inl q ↦ ap (λ (y : InletState). y.ring.plan) q.1 ∙ e ∙ ap (λ (k : ℕ). (inlet_at s k).ring.plan) (sym q.0)
-  | inr q ↦ ap (λ (y : InletState). y.ring.plan) q
-]
+inlet_set s i x lt e = same_at_each s.inlets i x no_inlet lt (λ (y : InletState). y.ring.plan) e
 
 -- a ring that goes out was set
 pub outlet_set : (s : LaneState) (o : ℕ) (y : OutletState) → o < length s.outlets → y.port.plan ≡ (outlet_at s o).port.plan → (q : ℕ) → (get_or (set s.outlets o y) q no_outlet).port.plan ≡ (outlet_at s q).port.plan
-outlet_set s o y lt e q = elim (set_cases s.outlets o q y no_outlet lt) [
-  | inl w ↦ ap (λ (z : OutletState). z.port.plan) w.1 ∙ e ∙ ap (λ (k : ℕ). (outlet_at s k).port.plan) (sym w.0)
-  | inr w ↦ ap (λ (z : OutletState). z.port.plan) w
-]
+outlet_set s o y lt e = same_at_each s.outlets o y no_outlet lt (λ (z : OutletState). z.port.plan) e
 
 pub inlets_shape : (s : LaneState) (i : ℕ) (x : InletState) → i < length s.inlets → x.ring.plan ≡ (inlet_at s i).ring.plan → SameShape s (record s { inlets = set s.inlets i x })
 inlets_shape s i x lt e = record { inlets = length-set s.inlets i x; outlets = refl; in_plans = inlet_set s i x lt e; out_plans = λ o. refl }

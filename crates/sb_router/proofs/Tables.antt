@@ -1,8 +1,8 @@
 -- Tables while they are filled.
 use Rattle.std.proofs.Common.{◌≡◌, ◌⊎◌, inl, inr, ℕ, zero, suc, ◌<◌, ◌+◌, List, [], ◌∷◌, ◌++◌, length, set, replicate, get_or, Option, Some, None, IfSome, refl, sym, ap, ◌∙◌, subst, arith}
-use Rattle.std.proofs.lemmas.List.{get_or_append_left, get_or_push, get_or-set_same}
+use Rattle.std.proofs.lemmas.List.{get_or_append_left, get_or_push}
 use Rattle.sb_router.proofs.Cases.{le_cases}
-use Rattle.sb_router.proofs.Places.{set_cases}
+use Rattle.sb_router.proofs.Places.{at_each, so_far}
 
 -- a row begins with nothing
 pub row_none : (n j o bound : ℕ) → get_or (replicate n None) j None ≡ Some o → o < bound
@@ -12,24 +12,15 @@ row_none (suc n) (suc j) o bound e = row_none n j o bound e
 
 -- one more place of a row
 pub row_more : (row : List (Option ℕ)) (k : ℕ) (v : Option ℕ) (p : ℕ → Option ℕ) → k < length row → v ≡ p k → ((j : ℕ) → j < k → get_or row j None ≡ p j) → (j : ℕ) → j < k + 1 → get_or (set row k v) j None ≡ p j
-row_more row k v p lt is before j below = elim (le_cases j k below) [
-  | inl earlier ↦ elim (set_cases row k j v None lt) [
-    | inl w ↦ absurd (omega (arith, w.0, earlier))
-    | inr w ↦ w ∙ before j earlier
-  ]
-  | inr same ↦ ap (λ (i : ℕ). get_or (set row k v) i None) same ∙ get_or-set_same row k v None lt ∙ is ∙ ap p (sym same)
-]
+row_more row k v p lt is = so_far row k v None lt (λ j x. x ≡ p j) is
 
 -- all places of a row are within a bound
 pub row_within : (row : List (Option ℕ)) (k n : ℕ) (v : Option ℕ) → k < length row → IfSome v (λ o. o < n) → ((j o : ℕ) → get_or row j None ≡ Some o → o < n) → (j o : ℕ) → get_or (set row k v) j None ≡ Some o → o < n
-row_within row k n v lt bound before j o e = elim (set_cases row k j v None lt) [
-  | inl w ↦ some_within v bound (sym w.1 ∙ e)
-  | inr w ↦ before j o (sym w ∙ e)
-]
+row_within row k n v lt bound = at_each row k v None lt (λ _ x. (o : ℕ) → x ≡ Some o → o < n) (some_within v bound)
   where
-    some_within : (x : Option ℕ) → IfSome x (λ q. q < n) → x ≡ Some o → o < n
-    some_within (Some q) b q' = let same : q ≡ o = cc in subst (λ (r : ℕ). r < n) same b
-    some_within None b q' = let no_way : ⊥ = cc in absurd no_way
+    some_within : (x : Option ℕ) → IfSome x (λ q. q < n) → (o : ℕ) → x ≡ Some o → o < n
+    some_within (Some q) b o e = let same : q ≡ o = cc in subst (λ (r : ℕ). r < n) same b
+    some_within None b o e = let no_way : ⊥ = cc in absurd no_way
 
 -- what stands at a place of a list that grew by one
 pub push_cases : {X : Type 0} (xs : List X) (y d : X) (i : ℕ) → ((i < length xs) × (get_or (xs ++ y ∷ []) i d ≡ get_or xs i d)) ⊎ (((i ≡ length xs) × (get_or (xs ++ y ∷ []) i d ≡ y)) ⊎ (get_or (xs ++ y ∷ []) i d ≡ d))

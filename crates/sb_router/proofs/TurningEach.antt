@@ -1,7 +1,6 @@
 -- Turning one port after another.
-use Rattle.std.proofs.Common.{◌≡◌, inl, inr, ℕ, ◌<◌, ◌≤◌, ◌+◌, Bool, true, false, cond, List, length, map, take, set, get_or, Option, Some, None, refl, sym, ap, ◌∙◌, subst, arith}
-use Rattle.std.proofs.lemmas.List.{get_or-set_same, map_push, take_all}
-use Rattle.std.proofs.lemmas.Grind.{take-set_at}
+use Rattle.std.proofs.Common.{◌≡◌, inl, inr, ℕ, ◌<◌, ◌≤◌, ◌+◌, Bool, true, false, cond, List, length, map, take, set, Option, Some, None, refl, sym, ap, ◌∙◌, subst, arith}
+use Rattle.std.proofs.lemmas.List.{take_all}
 use Rattle.sb_link.specs.declared.answers.Cause.{Cause}
 use Rattle.sb_link.specs.declared.answers.Cause.TheVariants as causes
 use Rattle.sb_port.specs.Ports.{PortState, let_go, port_accesses}
@@ -11,13 +10,13 @@ use Rattle.sb_node.specs.Steps.{IsPortTurned}
 use Rattle.sb_node.specs.Turns.{full_cause}
 use Rattle.sb_router.specs.Lanes.{LaneState, OutletState, Route, no_outlet, outlet_at}
 use Rattle.sb_router.specs.Steps.{Steps, turns, none, further}
-use Rattle.sb_router.specs.Causes.{found_in_both, lower, lowest, nothing_found}
+use Rattle.sb_router.specs.Causes.{found_in_both, lowest, nothing_found}
 use Rattle.sb_router.specs.Moves.{IsToldMoved}
 use Rattle.sb_router.specs.Ports.{IsTurnedAt}
 use Rattle.sb_router.specs.Turning.{HasTurned, IsPortIdle}
-use Rattle.sb_router.proofs.Cases.{le_cases, or_false}
-use Rattle.sb_router.proofs.Places.{set_cases}
-use Rattle.sb_router.proofs.Lowest.{lowest_more}
+use Rattle.sb_router.proofs.Cases.{or_false}
+use Rattle.sb_router.proofs.Places.{ahead_same, at_each, so_far}
+use Rattle.sb_router.proofs.Lowest.{lowest_next}
 use Rattle.sb_router.proofs.MoveSteps.{moved_none, moved_then, outlet_more, outlet_same}
 
 -- the cause of a port
@@ -84,7 +83,7 @@ turns_none route s = record {
 pub turns_more : {route : Route} {s now then : LaneState} {found one : Findings} {place : ℕ} → TurnsSoFar route s now found place → place < length now.outlets → IsTurnedAt place now then one
     → TurnsSoFar route s then (found_in_both found one) (place + 1)
 turns_more {route} {s} {now} {then} {found} {one} {place} h lt at =
-    subst (λ (t : LaneState). TurnsSoFar route s t (found_in_both found one) (place + 1)) (sym at.state) so_far
+    subst (λ (t : LaneState). TurnsSoFar route s t (found_in_both found one) (place + 1)) (sym at.state) turned_more
   where
     y : OutletState
     y = at.port
@@ -98,34 +97,15 @@ turns_more {route} {s} {now} {then} {found} {one} {place} h lt at =
     idle_here : one.moved ≡ false → IsPortIdle (outlet_at s place) y
     idle_here e = subst (λ (z : OutletState). IsPortIdle z y) (h.ahead place (omega arith)) (turned.idle e)
 
-    so_far : TurnsSoFar route s t (found_in_both found one) (place + 1)
-    so_far = record {
+    turned_more : TurnsSoFar route s t (found_in_both found one) (place + 1)
+    turned_more = record {
       steps = further h.steps (turns place y lt at.turned);
       inlets = h.inlets;
       moved = moved_then found.moved one.moved h.moved turned.moved;
-      told = λ o. elim (set_cases now.outlets place o y no_outlet lt) [
-        | inl w ↦ ap (λ (z : OutletState). z.port.state.closing) w.1 ∙ at.turned.told ∙ ap (λ (k : ℕ). (outlet_at now k).port.state.closing) (sym w.0) ∙ h.told o
-        | inr w ↦ ap (λ (z : OutletState). z.port.state.closing) w ∙ h.told o
-      ];
-      ahead = λ o le. elim (set_cases now.outlets place o y no_outlet lt) [
-        | inl w ↦ absurd (omega (arith, w.0, le))
-        | inr w ↦ w ∙ h.ahead o (omega (arith, le))
-      ];
-      idle = λ e o below. let two = or_false found.moved one.moved e in
-          elim (le_cases o place below) [
-            | inl before ↦ elim (set_cases now.outlets place o y no_outlet lt) [
-              | inl w ↦ absurd (omega (arith, w.0, before))
-              | inr w ↦ subst (λ (z : OutletState). IsPortIdle (outlet_at s o) z) (sym w) (h.idle two.0 o before)
-            ]
-            | inr same ↦
-                let here : outlet_at t o ≡ y = ap (λ (k : ℕ). get_or (set now.outlets place y) k no_outlet) same ∙ get_or-set_same now.outlets place y no_outlet lt in
-                let at_o : IsPortIdle (outlet_at s o) y = subst (λ (k : ℕ). IsPortIdle (outlet_at s k) y) (sym same) (idle_here two.1) in
-                subst (λ (z : OutletState). IsPortIdle (outlet_at s o) z) (sym here) at_o
-          ];
-      full = λ e. let two = or_false found.moved one.moved e in
-          ap (λ (c : Option Cause). lower c one.full) (h.full two.0) ∙ ap (lower (lowest (map outlet_cause (take place now.outlets)))) (turned.cause two.1)
-          ∙ sym (ap (λ (l : List OutletState). lowest (map outlet_cause l)) (take-set_at now.outlets place (place + 1) y refl lt)
-          ∙ ap lowest (map_push outlet_cause (take place now.outlets) y) ∙ lowest_more (map outlet_cause (take place now.outlets)) (outlet_cause y));
+      told = at_each now.outlets place y no_outlet lt (λ o z. z.port.state.closing ≡ (outlet_at s o).port.state.closing) (at.turned.told ∙ h.told place) h.told;
+      ahead = ahead_same now.outlets place y no_outlet lt (outlet_at s) h.ahead;
+      idle = λ e. let two = or_false found.moved one.moved e in so_far now.outlets place y no_outlet lt (λ o z. IsPortIdle (outlet_at s o) z) (idle_here two.1) (h.idle two.0);
+      full = λ e. let two = or_false found.moved one.moved e in lowest_next outlet_cause now.outlets place y found.full one.full lt (h.full two.0) (turned.cause two.1);
     }
 
 pub turns_all : {route : Route} {s now : LaneState} {found : Findings} {place : ℕ} → TurnsSoFar route s now found place → length now.outlets ≤ place → HasTurned route s now found

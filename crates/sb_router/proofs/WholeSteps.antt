@@ -1,5 +1,5 @@
 -- A direction stays whole, step by step.
-use Rattle.std.proofs.Common.{◌≡◌, inl, inr, ℕ, ◌<◌, true, false, List, [], ◌∷◌, ◌++◌, length, set, get_or, All, Some, sym, ap, ◌∙◌, subst, arith}
+use Rattle.std.proofs.Common.{◌≡◌, ℕ, ◌<◌, true, false, List, [], ◌∷◌, ◌++◌, length, set, get_or, All, Some, sym, ap, ◌∙◌, subst, arith}
 use Rattle.std.proofs.lemmas.List.{length-set}
 use Rattle.std.proofs.lemmas.List.Elements.{All-get_or, All-set}
 use Rattle.sb_packet.specs.Messages.{message_of}
@@ -13,7 +13,7 @@ use Rattle.sb_node.specs.Sides.{PortSide}
 use Rattle.sb_router.specs.Lanes.{InletState, LaneState, OutletState, Route, inlet_at, no_inlet, no_outlet, outlet_at}
 use Rattle.sb_router.specs.Steps.{IsReceived, IsSilent, IsUnmoved, Step, Steps, receives, looks, drops, offers, turns, tells, none, further, emptied, held_of}
 use Rattle.sb_router.specs.Whole.{IsWholeInlet, IsWholeLane, IsWholeOutlet}
-use Rattle.sb_router.proofs.Places.{set_cases}
+use Rattle.sb_router.proofs.Places.{at_each}
 
 -- the last item says whether a Close was given, where none was before
 closes : (list : List Item) (item : Item) → has_close list ≡ false → has_close (list ++ item ∷ []) ≡ is_close item
@@ -63,10 +63,7 @@ not_ended s i lt open' silent = let at = All-get_or IsSilent s.inlets i no_inlet
 -- a port of a list in which one was set was told, where that one wasn't
 pub told_before : (s : LaneState) (o q : ℕ) (y : OutletState) → o < length s.outlets → (y.port.state.closing ≡ true → (outlet_at s o).port.state.closing ≡ true)
     → (get_or (set s.outlets o y) q no_outlet).port.state.closing ≡ true → (outlet_at s q).port.state.closing ≡ true
-told_before s o q y lt same e = elim (set_cases s.outlets o q y no_outlet lt) [
-  | inl w ↦ let now = same (sym (ap (λ (z : OutletState). z.port.state.closing) w.1) ∙ e) in ap (λ (k : ℕ). (outlet_at s k).port.state.closing) w.0 ∙ now
-  | inr w ↦ sym (ap (λ (z : OutletState). z.port.state.closing) w) ∙ e
-]
+told_before s o q y lt same = at_each s.outlets o y no_outlet lt (λ q z. z.port.state.closing ≡ true → (outlet_at s q).port.state.closing ≡ true) same (λ q e. e) q
 
 pub whole_step : {route : Route} {s t : LaneState} → IsWholeLane route s → Step route s t → IsWholeLane route t
 whole_step {route} {s} w (receives i x item lt is) = record {
