@@ -88,8 +88,8 @@ pub record PopsSoFar (route : Route) (s now : LaneState) (found : Findings) (pla
   pub seen : found.moved ≡ false → (j : ℕ) → j < place → IsSeen (inlet_at now j)
   pub empty : found.moved ≡ false → found.empty ≡ lowest (map pop_cause (take place now.inlets))
 
-pub pops_none : (route : Route) (s : LaneState) → PopsSoFar route s s nothing_found 0
-pops_none route s = record {
+pub pops_none : (route : Route) (s : LaneState) {found : Findings} → found ≡ nothing_found → PopsSoFar route s s found 0
+pops_none route s nothing = subst (λ (f : Findings). PopsSoFar route s s f 0) (sym nothing) (record {
   steps = none;
   outlets = refl;
   moved = moved_none s;
@@ -97,12 +97,12 @@ pops_none route s = record {
   ahead = λ j le. refl;
   seen = λ e j lt. absurd (omega arith);
   empty = λ e. refl;
-}
+})
 
-pub pops_more : {route : Route} {s now then : LaneState} {found one : Findings} {place : ℕ} → PopsSoFar route s now found place → place < length now.inlets → IsPoppedAt place now then one
-    → PopsSoFar route s then (found_in_both found one) (place + 1)
-pops_more {route} {s} {now} {then} {found} {one} {place} h lt at =
-    subst (λ (t : LaneState). PopsSoFar route s t (found_in_both found one) (place + 1)) (sym at.state) popped_more
+pub pops_more : {route : Route} {s now then : LaneState} {found one both : Findings} {place : ℕ} → PopsSoFar route s now found place → place < length now.inlets → IsPoppedAt place now then one → both ≡ found_in_both found one
+    → PopsSoFar route s then both (place + 1)
+pops_more {route} {s} {now} {then} {found} {one} {both} {place} h lt at is =
+    subst (λ (f : Findings). PopsSoFar route s then f (place + 1)) (sym is) (subst (λ (t : LaneState). PopsSoFar route s t (found_in_both found one) (place + 1)) (sym at.state) popped_more)
   where
     x : InletState
     x = at.inlet

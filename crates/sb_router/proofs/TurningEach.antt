@@ -69,8 +69,8 @@ pub record TurnsSoFar (route : Route) (s now : LaneState) (found : Findings) (pl
   pub idle : found.moved ≡ false → (o : ℕ) → o < place → IsPortIdle (outlet_at s o) (outlet_at now o)
   pub full : found.moved ≡ false → found.full ≡ lowest (map outlet_cause (take place now.outlets))
 
-pub turns_none : (route : Route) (s : LaneState) → TurnsSoFar route s s nothing_found 0
-turns_none route s = record {
+pub turns_none : (route : Route) (s : LaneState) {found : Findings} → found ≡ nothing_found → TurnsSoFar route s s found 0
+turns_none route s nothing = subst (λ (f : Findings). TurnsSoFar route s s f 0) (sym nothing) (record {
   steps = none;
   inlets = refl;
   moved = moved_none s;
@@ -78,12 +78,12 @@ turns_none route s = record {
   ahead = λ o le. refl;
   idle = λ e o lt. absurd (omega arith);
   full = λ e. refl;
-}
+})
 
-pub turns_more : {route : Route} {s now then : LaneState} {found one : Findings} {place : ℕ} → TurnsSoFar route s now found place → place < length now.outlets → IsTurnedAt place now then one
-    → TurnsSoFar route s then (found_in_both found one) (place + 1)
-turns_more {route} {s} {now} {then} {found} {one} {place} h lt at =
-    subst (λ (t : LaneState). TurnsSoFar route s t (found_in_both found one) (place + 1)) (sym at.state) turned_more
+pub turns_more : {route : Route} {s now then : LaneState} {found one both : Findings} {place : ℕ} → TurnsSoFar route s now found place → place < length now.outlets → IsTurnedAt place now then one → both ≡ found_in_both found one
+    → TurnsSoFar route s then both (place + 1)
+turns_more {route} {s} {now} {then} {found} {one} {both} {place} h lt at is =
+    subst (λ (f : Findings). TurnsSoFar route s then f (place + 1)) (sym is) (subst (λ (t : LaneState). TurnsSoFar route s t (found_in_both found one) (place + 1)) (sym at.state) turned_more)
   where
     y : OutletState
     y = at.port

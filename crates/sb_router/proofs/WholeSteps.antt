@@ -12,6 +12,8 @@ use Rattle.sb_port.proofs.Items.{has_close-close, has_close-packet}
 use Rattle.sb_node.specs.Sides.{PortSide}
 use Rattle.sb_router.specs.Lanes.{InletState, LaneState, OutletState, Route, inlet_at, no_inlet, no_outlet, outlet_at}
 use Rattle.sb_router.specs.Steps.{IsReceived, IsSilent, IsUnmoved, Step, Steps, receives, looks, drops, offers, turns, tells, none, further, emptied, held_of}
+use Rattle.sb_router.specs.RouteOf.{route_of}
+use Rattle.sb_router.specs.declared.routes.Routes.{Routes}
 use Rattle.sb_router.specs.Whole.{IsWholeInlet, IsWholeLane, IsWholeOutlet}
 use Rattle.sb_router.proofs.Places.{at_each}
 
@@ -113,3 +115,7 @@ whole_step {route} {s} w (tells o y within silent is) =
 pub whole_steps : {route : Route} {s t : LaneState} → IsWholeLane route s → Steps route s t → IsWholeLane route t
 whole_steps w none = w
 whole_steps w (further before step) = whole_step (whole_steps w before) step
+
+-- so it does by a table that is as it was
+pub still_whole : {before after : Routes} {s t : LaneState} → after ≡ before → IsWholeLane (route_of before.rows.items) s → Steps (route_of before.rows.items) s t → IsWholeLane (route_of after.rows.items) t
+still_whole {before} {after} {s} {t} same whole steps = subst (λ (routes : Routes). IsWholeLane (route_of routes.rows.items) t) (sym same) (whole_steps whole steps)

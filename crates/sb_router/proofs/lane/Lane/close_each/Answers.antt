@@ -1,14 +1,11 @@
 -- close_each: each port was told once the place is behind the last one, or none.
-use Rattle.std.proofs.Common.{sym, refl, ◌∙◌, subst, arith}
+use Rattle.std.proofs.Common.{refl, ◌∙◌, arith}
 use Rattle.std.proofs.lemmas.List.{length-map}
-use Rattle.sb_router.specs.Lanes.{LaneState}
 use Rattle.sb_router.specs.LaneOf.{lane_of, lane_route}
 use Rattle.sb_router.specs.OutletOf.{outlet_of}
-use Rattle.sb_router.specs.RouteOf.{route_of}
-use Rattle.sb_router.specs.Whole.{IsWholeLane}
 use Rattle.sb_router.proofs.ClosingEach.{tells_all, tells_more, tells_none, tells_not}
 use Rattle.sb_router.proofs.Shapes.{steps_shape}
-use Rattle.sb_router.proofs.WholeSteps.{whole_steps}
+use Rattle.sb_router.proofs.WholeSteps.{still_whole}
 use Rattle.sb_router.proofs.lane.Lane.close_each.Goals as goal
 
 pub returns-then-not-is_silent-clause-closed : goal.returns-then-not-is_silent-clause-closed
@@ -18,9 +15,7 @@ pub loop-place-init : goal.loop-place-init
 loop-place-init g c = record { routes = refl; told = tells_none (lane_route c.args.self.now) (lane_of g.T.TxEnd g.U.RxEnd c.args.self.now) }
 
 pub close_at-requires-clause-whole : goal.close_at-requires-clause-whole
-close_at-requires-clause-whole g c =
-    let now : LaneState = lane_of g.T.TxEnd g.U.RxEnd c.loop-place.self in
-    subst (λ rows. IsWholeLane (route_of rows.rows.items) now) (sym c.loop-place.invariant.routes) (whole_steps c.requires.whole c.loop-place.invariant.told.steps)
+close_at-requires-clause-whole g c = still_whole c.loop-place.invariant.routes c.requires.whole c.loop-place.invariant.told.steps
 
 pub close_at-requires-clause-within : goal.close_at-requires-clause-within
 close_at-requires-clause-within g c =

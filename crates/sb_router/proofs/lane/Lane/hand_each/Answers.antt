@@ -1,15 +1,14 @@
 -- hand_each: what is held of each ring was handed on once the place is behind the last one.
-use Rattle.std.proofs.Common.{sym, refl, ◌∙◌, subst, arith}
+use Rattle.std.proofs.Common.{refl, ◌∙◌, subst, arith}
 use Rattle.std.proofs.lemmas.List.{length-map}
 use Rattle.sb_router.specs.Lanes.{LaneState, Route}
 use Rattle.sb_router.specs.LaneOf.{lane_of, lane_route}
 use Rattle.sb_router.specs.InletOf.{inlet_of}
 use Rattle.sb_router.specs.RouteOf.{route_of}
 use Rattle.sb_router.specs.Handing.{IsHanded}
-use Rattle.sb_router.specs.Whole.{IsWholeLane}
 use Rattle.sb_router.proofs.HandingEach.{hands_all, hands_more, hands_none}
 use Rattle.sb_router.proofs.Shapes.{steps_shape}
-use Rattle.sb_router.proofs.WholeSteps.{whole_steps}
+use Rattle.sb_router.proofs.WholeSteps.{still_whole, whole_steps}
 use Rattle.sb_router.proofs.lane.Lane.hand_each.Goals as goal
 
 pub loop-place-init : goal.loop-place-init
@@ -18,9 +17,7 @@ loop-place-init g c =
     record { routes = refl; handed = hands_none (lane_route c.args.self.now) s }
 
 pub hand_at-handed-requires-clause-whole : goal.hand_at-handed-requires-clause-whole
-hand_at-handed-requires-clause-whole g c =
-    let now : LaneState = lane_of g.T.TxEnd g.U.RxEnd c.loop-place.self in
-    subst (λ rows. IsWholeLane (route_of rows.rows.items) now) (sym c.loop-place.invariant.routes) (whole_steps c.requires.whole c.loop-place.invariant.handed.steps)
+hand_at-handed-requires-clause-whole g c = still_whole c.loop-place.invariant.routes c.requires.whole c.loop-place.invariant.handed.steps
 
 pub loop-place-preserved : goal.loop-place-preserved
 loop-place-preserved g c =

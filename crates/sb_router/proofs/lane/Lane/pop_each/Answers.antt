@@ -1,39 +1,26 @@
 -- pop_each: each ring was popped once the place is behind the last one.
-use Rattle.std.proofs.Common.{sym, refl, ◌∙◌, ◌+◌, subst, arith}
+use Rattle.std.proofs.Common.{refl, ◌∙◌, arith}
 use Rattle.std.proofs.lemmas.List.{length-map}
-use Rattle.sb_node.specs.declared.findings.Findings.{Findings}
-use Rattle.sb_router.specs.Lanes.{LaneState, Route}
 use Rattle.sb_router.specs.LaneOf.{lane_of, lane_route}
 use Rattle.sb_router.specs.InletOf.{inlet_of}
-use Rattle.sb_router.specs.RouteOf.{route_of}
-use Rattle.sb_router.specs.Whole.{IsWholeLane}
-use Rattle.sb_router.proofs.PoppingEach.{PopsSoFar, pops_all, pops_more, pops_none}
+use Rattle.sb_router.proofs.PoppingEach.{pops_all, pops_more, pops_none}
 use Rattle.sb_router.proofs.Shapes.{steps_shape}
-use Rattle.sb_router.proofs.WholeSteps.{whole_steps}
+use Rattle.sb_router.proofs.WholeSteps.{still_whole}
 use Rattle.sb_router.proofs.lane.Lane.pop_each.Goals as goal
 
 pub loop-place-init : goal.loop-place-init
-loop-place-init g c =
-    let s : LaneState = lane_of g.T.TxEnd g.U.RxEnd c.args.self.now in
-    let route : Route = lane_route c.args.self.now in
-    record { routes = refl; popped = subst (λ (f : Findings). PopsSoFar route s s f 0) (sym c.new-found.ensures) (pops_none route s) }
+loop-place-init g c = record { routes = refl; popped = pops_none (lane_route c.args.self.now) (lane_of g.T.TxEnd g.U.RxEnd c.args.self.now) c.new-found.ensures }
 
 pub pop_at-one-requires-clause-whole : goal.pop_at-one-requires-clause-whole
-pop_at-one-requires-clause-whole g c =
-    let now : LaneState = lane_of g.T.TxEnd g.U.RxEnd c.loop-place.self in
-    subst (λ rows. IsWholeLane (route_of rows.rows.items) now) (sym c.loop-place.invariant.routes) (whole_steps c.requires.whole c.loop-place.invariant.popped.steps)
+pop_at-one-requires-clause-whole g c = still_whole c.loop-place.invariant.routes c.requires.whole c.loop-place.invariant.popped.steps
 
 pub loop-place-preserved : goal.loop-place-preserved
 loop-place-preserved g c =
-    let s : LaneState = lane_of g.T.TxEnd g.U.RxEnd c.args.self.now in
-    let then : LaneState = lane_of g.T.TxEnd g.U.RxEnd c.pop_at-one.new.self in
-    let route : Route = lane_route c.args.self.now in
     let so_far = c.loop-place.invariant.popped in
     let shape = steps_shape so_far.steps in
     record {
       routes = c.pop_at-one.ensures.routes ∙ c.loop-place.invariant.routes;
-      popped = subst (λ (f : Findings). PopsSoFar route s then f (c.loop-place.place + 1)) (sym c.both-found.ensures.both)
-          (pops_more so_far (omega (arith, c.loop-place-test.true, c.len-place-end.ensures, c.args.self.now.inlets.ok.0, length-map c.args.self.now.inlets.items (inlet_of g.U.RxEnd), shape.inlets)) c.pop_at-one.ensures.popped);
+      popped = pops_more so_far (omega (arith, c.loop-place-test.true, c.len-place-end.ensures, c.args.self.now.inlets.ok.0, length-map c.args.self.now.inlets.items (inlet_of g.U.RxEnd), shape.inlets)) c.pop_at-one.ensures.popped c.both-found.ensures.both;
     }
 
 pub returns-clause-popped : goal.returns-clause-popped
