@@ -2,7 +2,7 @@
 use Rattle.sb_node.specs.Sides.{ring_side}
 use Rattle.sb_device.specs.SideOf.{device_side}
 use Rattle.sb_device.proofs.Restored.{whole_after_ring}
-use Rattle.sb_device.proofs.tests.hand_requests.Goals as goal
+use Rattle.sb_device.proofs.bench.hand_requests.Goals as goal
 
 pub returns-clause-whole : goal.returns-clause-whole
 returns-clause-whole g c =

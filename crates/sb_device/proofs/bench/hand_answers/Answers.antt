@@ -4,7 +4,7 @@ use Rattle.sb_node.specs.Sides.{port_side}
 use Rattle.sb_port.specs.StateOf.{state_of}
 use Rattle.sb_device.specs.SideOf.{device_side}
 use Rattle.sb_device.proofs.Restored.{whole_after_port}
-use Rattle.sb_device.proofs.tests.hand_answers.Goals as goal
+use Rattle.sb_device.proofs.bench.hand_answers.Goals as goal
 
 pub returns-clause-whole : goal.returns-clause-whole
 returns-clause-whole g c =

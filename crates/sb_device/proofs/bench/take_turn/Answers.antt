@@ -5,7 +5,7 @@ use Rattle.std.specs.Option.{option_map}
 use Rattle.sb_node.specs.Sides.{PortSide, RingSide}
 use Rattle.sb_node.specs.Kept.{IsKeptAt, IsKeptPort, IsKeptRing}
 use Rattle.sb_device.specs.SideOf.{device_side}
-use Rattle.sb_device.proofs.tests.take_turn.Goals as goal
+use Rattle.sb_device.proofs.bench.take_turn.Goals as goal
 
 ring_mark : (p q : Option RingSide) → IsKeptAt IsKeptRing p q → option_map (λ ring. ring.mark) q ≡ option_map (λ ring. ring.mark) p
 ring_mark None None kept = refl

@@ -9,7 +9,7 @@ use Rattle.sb_packet.specs.Memories.{MemoryState}
 use Rattle.sb_packet.specs.Plans.{AddressRange, RingPlan, NetFlow, device_ranges, goes_through}
 use Rattle.std.specs.Prelude.{slice_get}
 use Rattle.sb_device.specs.Plans.{IsPlannedFor}
-use Rattle.sb_device.proofs.tests.see.Goals as goal
+use Rattle.sb_device.proofs.bench.see.Goals as goal
 
 -- a range
 abbrev the_range : ℕ → ℕ → Option AddressRange

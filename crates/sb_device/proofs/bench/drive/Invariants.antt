@@ -5,7 +5,7 @@ use Rattle.sb_port.specs.Ports.{IsFit}
 use Rattle.sb_port.specs.StateOf.{state_of}
 use Rattle.sb_device.specs.Devices.{IsWholeDevice}
 use Rattle.sb_device.specs.SideOf.{device_side}
-use Rattle.sb_device.proofs.tests.drive.Given as goal
+use Rattle.sb_device.proofs.bench.drive.Given as goal
 
 abbrev pub invariant-loop-round : goal.invariant-loop-round
 invariant-loop-round g l =

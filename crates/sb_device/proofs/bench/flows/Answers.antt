@@ -3,7 +3,7 @@ use Rattle.std.proofs.Common.{◌≡◌, ◌⊎◌, inl, inr, ⊎_elim, ℕ, zer
 use Rattle.std.specs.Prelude.{map, replicate, not, slice_index_or, ◌==◌, ◌/◌, ◌^◌, ◌%◌}
 use Rattle.std.specs.List.{list_all, range_with_len}
 use Rattle.sb_link.specs.Plans.{bits_of}
-use Rattle.sb_device.proofs.tests.flows.Goals as goal
+use Rattle.sb_device.proofs.bench.flows.Goals as goal
 
 -- each row is the bits of 1, or stands behind the last
 each_row : (n h : ℕ) → (slice_index_or (map bits_of (replicate n 1)) h [] ≡ bits_of 1) ⊎ (slice_index_or (map bits_of (replicate n 1)) h [] ≡ [])
