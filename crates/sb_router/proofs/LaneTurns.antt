@@ -14,7 +14,7 @@ use Rattle.sb_router.specs.Lanes.{InletState, LaneState, OutletState, Route, inl
 use Rattle.sb_router.specs.Steps.{IsSilent, Steps}
 use Rattle.sb_router.specs.Causes.{lowest}
 use Rattle.sb_router.specs.Moves.{IsToldMoved}
-use Rattle.sb_router.specs.Turning.{AwaitsFullPort, HasClosed, HasHanded, HasPopped, HasTurned, IsIdleLane, IsLaneTurn, IsSeen, pop_cause}
+use Rattle.sb_router.specs.Turning.{AwaitsFullPort, HasClosed, HasHanded, HasPopped, HasTurned, IsIdleLane, IsLaneTurn, IsSeen, IsServed, pop_cause}
 use Rattle.sb_router.specs.Whole.{IsWholeInlet, IsWholeLane}
 use Rattle.sb_router.proofs.Cases.{or_false}
 use Rattle.sb_router.proofs.KeptSteps.{steps_then}
@@ -94,6 +94,7 @@ module _ {route : Route} {s a b d t : LaneState} {popped turned : Findings} {han
     moved = moved_then (popped.moved || handed) turned.moved
         (subst (λ (x : Bool). IsToldMoved s d x) (or_none (popped.moved || handed)) (moved_then (popped.moved || handed) false (moved_then popped.moved handed pops.moved hands.moved_is) closes.moved)) turns.moved;
     one_item = λ i. let one = pops.one_item i in let first = ap (λ (x : InletState). length x.ring.received) (inlet_same i) in let second = ap (λ ring. length ring.received) (hands.rings i) in omega (arith, one, first, second);
+    served = λ i lt. subst (λ ring. IsServed (inlet_at s i) ring) (sym (ap (λ (x : InletState). x.ring) (inlet_same i) ∙ hands.rings i)) (pops.served i lt);
     closed = λ silent o lt. turns.told o ∙ closes.told (subst (λ (l : List InletState). All IsSilent l) same_inlets silent) o (omega (arith, lt, (steps_shape turns.steps).outlets));
     idle = λ e. let none = none_moved e in is_idle none.0 none.1 none.2;
     full = λ e. turns.full (none_moved e).2;

@@ -10,8 +10,10 @@ use Rattle.sb_router.specs.Steps.{IsUnmoved, Step, Steps, receives, looks, none,
 use Rattle.sb_router.specs.Causes.{found_in_both, lowest, nothing_found}
 use Rattle.sb_router.specs.Moves.{IsToldMoved}
 use Rattle.sb_router.specs.Popping.{IsPopped, IsPoppedAt}
-use Rattle.sb_router.specs.Turning.{HasPopped, IsSeen, OneItemEach, pop_cause}
+use Rattle.sb_node.specs.Sides.{RingSide}
+use Rattle.sb_router.specs.Turning.{HasPopped, IsSeen, OneItemEach, pop_cause, IsServed}
 use Rattle.sb_router.proofs.Cases.{or_false}
+use Rattle.sb_router.proofs.Shapes.{steps_shape}
 use Rattle.sb_router.proofs.Places.{ahead_same, at_each, so_far}
 use Rattle.sb_router.proofs.Lowest.{lowest_next}
 use Rattle.sb_router.proofs.MoveSteps.{inlet_more, inlet_received, inlet_same, inlet_unmoved, moved_none, moved_then}
@@ -23,6 +25,7 @@ pub record IsOnePop (route : Route) (s t : LaneState) (i : ℕ) (x : InletState)
   pub seen : one.moved ≡ false → IsSeen x
   pub cause : one.moved ≡ false → one.empty ≡ pop_cause x
   pub one_item : length x.ring.received ≤ length (inlet_at s i).ring.received + 1
+  pub served : IsServed (inlet_at s i) x.ring
   pub full : one.full ≡ None
   pub waits : one.waits ≡ None
 
@@ -35,6 +38,11 @@ left_none true held cause = refl
 left_none false (Some p) cause = refl
 left_none false None (inl e) = let no_way : ⊥ = cc in absurd no_way
 left_none false None (inr held) = absurd (held refl)
+
+-- such a ring wasn't to be popped
+left_not : (x : InletState) (ring : RingSide) → (x.ended ≡ true) ⊎ (x.held ≢ None) → IsServed x ring
+left_not x ring (inl ended) = λ unended free. let no_way : ⊥ = cc in absurd no_way
+left_not x ring (inr held) = λ unended free. absurd (held free)
 
 seen_left : (x : InletState) → (x.ended ≡ true) ⊎ (x.held ≢ None) → IsSeen x
 seen_left x (inl e) = inl e
@@ -51,6 +59,7 @@ one_pop {route} s i x one lt (inl left) =
       cause = λ _. ap (λ (f : Findings). f.empty) left.found_nothing
           ∙ sym (ap (λ (b : Bool). cond b None (Some (causes.Empty x.ring.plan.ring (length x.ring.received) x.ring.known))) (left_none x.ended x.held cause));
       one_item = let same = ap length is.received in omega (arith, same);
+      served = left_not (inlet_at s i) x.ring left.cause;
       full = ap (λ (f : Findings). f.full) left.found_nothing;
       waits = ap (λ (f : Findings). f.waits) left.found_nothing;
     }
@@ -62,6 +71,7 @@ one_pop {route} s i x one lt (inr (inl taken)) =
       seen = λ e. let no_way : ⊥ = cc in absurd no_way;
       cause = λ e. let no_way : ⊥ = cc in absurd no_way;
       one_item = let long = ap length taken.received.received ∙ length-append (inlet_at s i).ring.received (taken.item ∷ []) in omega (arith, long);
+      served = λ unended free. inl (ap length taken.received.received ∙ length-append (inlet_at s i).ring.received (taken.item ∷ []));
       full = ap (λ (f : Findings). f.full) taken.found_move;
       waits = ap (λ (f : Findings). f.waits) taken.found_move;
     }
@@ -74,6 +84,7 @@ one_pop {route} s i x one lt (inr (inr empty)) =
           ∙ sym (ap (λ (b : Bool). cond (b || is_some x.held) None (Some (causes.Empty x.ring.plan.ring (length x.ring.received) x.ring.known))) empty.open_after
           ∙ ap (λ (h : Option Packet). cond (is_some h) None (Some (causes.Empty x.ring.plan.ring (length x.ring.received) x.ring.known))) empty.free);
       one_item = let same = ap length empty.same.received in omega (arith, same);
+      served = λ unended free. inr empty.drained;
       full = ap (λ (f : Findings). f.full) empty.found_empty;
       waits = ap (λ (f : Findings). f.waits) empty.found_empty;
     }
@@ -84,6 +95,7 @@ pub record PopsSoFar (route : Route) (s now : LaneState) (found : Findings) (pla
   pub outlets : now.outlets ≡ s.outlets
   pub moved : IsToldMoved s now found.moved
   pub one_item : OneItemEach s now
+  pub served : (j : ℕ) → j < place → IsServed (inlet_at s j) (inlet_at now j).ring
   pub ahead : (j : ℕ) → place ≤ j → inlet_at now j ≡ inlet_at s j
   pub seen : found.moved ≡ false → (j : ℕ) → j < place → IsSeen (inlet_at now j)
   pub empty : found.moved ≡ false → found.empty ≡ lowest (map pop_cause (take place now.inlets))
@@ -94,6 +106,7 @@ pops_none route s nothing = subst (λ (f : Findings). PopsSoFar route s s f 0) (
   outlets = refl;
   moved = moved_none s;
   one_item = λ i. omega arith;
+  served = λ j lt. absurd (omega arith);
   ahead = λ j le. refl;
   seen = λ e j lt. absurd (omega arith);
   empty = λ e. refl;
@@ -120,6 +133,8 @@ pops_more {route} {s} {now} {then} {found} {one} {both} {place} h lt at is =
       moved = moved_then found.moved one.moved h.moved popped.moved;
       one_item = at_each now.inlets place x no_inlet lt (λ j y. length y.ring.received ≤ length (inlet_at s j).ring.received + 1)
           (subst (λ (y : InletState). length x.ring.received ≤ length y.ring.received + 1) (h.ahead place (omega arith)) popped.one_item) h.one_item;
+      served = so_far now.inlets place x no_inlet lt (λ j y. IsServed (inlet_at s j) y.ring)
+          (subst (λ (y : InletState). IsServed y x.ring) (h.ahead place (omega arith)) popped.served) h.served;
       ahead = ahead_same now.inlets place x no_inlet lt (inlet_at s) h.ahead;
       seen = λ e. let two = or_false found.moved one.moved e in so_far now.inlets place x no_inlet lt (λ _ y. IsSeen y) (popped.seen two.1) (h.seen two.0);
       empty = λ e. let two = or_false found.moved one.moved e in lowest_next pop_cause now.inlets place x found.empty one.empty lt (h.empty two.0) (popped.cause two.1);
@@ -131,6 +146,7 @@ pops_all {route} {s} {now} {found} {place} h over = record {
   outlets = h.outlets;
   moved = h.moved;
   one_item = h.one_item;
+  served = λ j lt. h.served j (omega (arith, lt, over, (steps_shape h.steps).inlets));
   seen = λ e k d lt. subst IsSeen (get_or_default now.inlets k no_inlet d lt) (h.seen e k (omega (arith, over, lt)));
   empty = λ e. h.empty e ∙ ap (λ (l : List InletState). lowest (map pop_cause l)) (take_all place now.inlets over);
 }

@@ -256,4 +256,6 @@ module _ (down up : List (List (Option ℕ))) {p q p' q' : LaneState} {a b : Fin
     closed_answers = turn_q.closed;
     one_request = turn_p.one_item;
     one_answer = turn_q.one_item;
+    served_requests = turn_p.served;
+    served_answers = turn_q.served;
   }

@@ -4,7 +4,7 @@ use Rattle.sb_link.specs.declared.answers.Cause.{Cause}
 use Rattle.sb_link.specs.declared.answers.Cause.TheVariants as causes
 use Rattle.sb_packet.specs.declared.packet.Packet.{Packet}
 use Rattle.sb_port.specs.Ports.{owes}
-use Rattle.sb_node.specs.Sides.{has_rest, is_drained, is_full}
+use Rattle.sb_node.specs.Sides.{RingSide, has_rest, is_drained, is_full}
 use Rattle.sb_node.specs.Turns.{empty_cause, full_cause}
 use Rattle.sb_node.specs.declared.findings.Findings.{Findings}
 use Rattle.sb_router.specs.Lanes.{InletState, LaneState, OutletState, Route, inlet_at, next_place, outlet_at}
@@ -21,6 +21,14 @@ IsSeen x = (x.ended ≡ true) ⊎ ((x.held ≢ None) ⊎ (is_drained x.ring ≡ 
 abbrev pub OneItemEach : LaneState → LaneState → Type 0
 OneItemEach s t = (i : ℕ) → length (inlet_at t i).ring.received ≤ length (inlet_at s i).ring.received + 1
 
+-- by a ring that was open, and of which nothing was held, an item came, or it was found empty
+abbrev pub IsServed : InletState → RingSide → Type 0
+IsServed before ring = before.ended ≡ false → before.held ≡ None → (length ring.received ≡ length before.ring.received + 1) ⊎ (is_drained ring ≡ true)
+
+-- so it is with each ring
+abbrev pub ServesEach : LaneState → LaneState → Type 0
+ServesEach s t = (i : ℕ) → i < length s.inlets → IsServed (inlet_at s i) (inlet_at t i).ring
+
 -- what was found by a pop of a ring that is empty
 abbrev pub pop_cause : InletState → Option Cause
 pop_cause x = if x.ended || is_some x.held then None else Some (causes.Empty x.ring.plan.ring (length x.ring.received) x.ring.known)
@@ -31,6 +39,7 @@ pub record HasPopped (route : Route) (s t : LaneState) (found : Findings) : Type
   pub outlets : t.outlets ≡ s.outlets
   pub moved : IsToldMoved s t found.moved
   pub one_item : OneItemEach s t
+  pub served : ServesEach s t
   pub seen : found.moved ≡ false → All IsSeen t.inlets
   pub empty : found.moved ≡ false → found.empty ≡ lowest (map pop_cause t.inlets)
 
@@ -85,7 +94,9 @@ pub record IsIdleLane (route : Route) (s : LaneState) : Type 0 where
 pub record IsLaneTurn (route : Route) (s t : LaneState) (found : Findings) : Type 0 where
   pub steps : Steps route s t
   pub moved : IsToldMoved s t found.moved
+  -- each ring is popped where nothing of it is held
   pub one_item : OneItemEach s t
+  pub served : ServesEach s t
   -- all ports were told to close once nothing more comes
   pub closed : All IsSilent t.inlets → (o : ℕ) → o < length t.outlets → (outlet_at t o).port.state.closing ≡ true
   pub idle : found.moved ≡ false → IsIdleLane route t
