@@ -1,6 +1,6 @@
 //! What makes rings.
 
-ghost use Rattle.std.specs.Prelude.{◌≡◌, ◌≢◌, ℕ, ◌≤◌, Bool, true, false, List, [], ◌∷◌, ◌++◌, IfOk, IfErr, Contains};
+ghost use Rattle.std.specs.Prelude.{◌≡◌, ◌≢◌, ℕ, ◌≤◌, Bool, true, false, List, [], ◌∷◌, ◌++◌, IfOk, IfErr, Contains, length};
 ghost use Rattle.sb_packet.specs.Accesses.{Access};
 ghost use Rattle.sb_packet.specs.Plans.{RingPlan};
 ghost use Rattle.sb_packet.specs.Prefixes.{IsPrefix};
@@ -47,8 +47,8 @@ pub trait Fabric: Send {
         ensures settled { (ring : ℕ) → settled self.new ring ≡ settled self.old ring }
         ensures unsettled { IfOk result (λ ends. settled self.new plan.now.ring ≡ false) };
 
-    /// Hands over what the fabric keeps back inside the producer's end. Where the fabric is prompt, both ends know
-    /// afterwards what the other one did. Takes no memory.
+    /// Hands over what the fabric keeps back inside the producer's end. No end knows more than the other one did, and
+    /// where the fabric is prompt, each knows all of it. Takes no memory.
     fn hand(tx: &mut Self::Tx, rx: &mut Self::Rx)
         requires marks { Self.Tx.mark tx.old ≡ Self.Rx.mark rx.old }
         ensures tx_plan { Self.Tx.planned tx.new ≡ Self.Tx.planned tx.old }
@@ -58,6 +58,8 @@ pub trait Fabric: Send {
         ensures taken { Self.Tx.taken tx.old ≤ Self.Tx.taken tx.new }
         ensures known { Self.Rx.known rx.old ≤ Self.Rx.known rx.new }
         ensures marks { Self.Tx.mark tx.new ≡ Self.Rx.mark rx.new }
+        ensures taken_at_most { Self.Tx.taken tx.new ≤ length (Self.Rx.received rx.new) }
+        ensures known_at_most { Self.Rx.known rx.new ≤ length (Self.Tx.sent tx.new) }
         ensures met { prompt ≡ true → HaveMet (Self.Tx.sent tx.new) (Self.Tx.taken tx.new) (Self.Rx.received rx.new) (Self.Rx.known rx.new) };
 
     /// Takes the ends of a ring back, and keeps what it carried in a place that `make` reserved. Takes no memory.

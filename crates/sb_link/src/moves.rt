@@ -1,6 +1,6 @@
 //! From one ring to another.
 
-ghost use Rattle.std.specs.Prelude.{◌≡◌, ◌≤◌, true, false, List, [], ◌∷◌, ◌++◌, length, IfSome, IfNone};
+ghost use Rattle.std.specs.Prelude.{◌≡◌, ◌≤◌, true, false, List, [], ◌∷◌, ◌++◌, None, length, IfSome, IfNone};
 ghost use Rattle.sb_packet.specs.Traffic.{MayFollow};
 ghost use Rattle.sb_packet.specs.declared.item.Item.{Item};
 ghost use Rattle.sb_link.specs.Moves.{CanFollow, held_items, IsStuck};
@@ -16,6 +16,7 @@ pub fn move_item<U: RxEnd, T: TxEnd>(rx: &mut U, held: &mut Option<Item>, tx: &m
     requires in_order { U.received rx.old ≡ T.sent tx.old ++ held_items held.old }
     ensures in_order { U.received rx.new ≡ T.sent tx.new ++ held_items held.new }
     ensures sent { result ≡ true → (item : Item) × (T.sent tx.new ≡ T.sent tx.old ++ item ∷ []) }
+    ensures empty { result ≡ true → held.new ≡ None }
     ensures still { result ≡ false → T.sent tx.new ≡ T.sent tx.old }
     ensures stuck { result ≡ false → IsStuck held.new (U.received rx.new) (U.known rx.new) (T.planned tx.new).capacity (T.sent tx.new) (T.taken tx.new) }
     ensures known { U.known rx.old ≤ U.known rx.new }

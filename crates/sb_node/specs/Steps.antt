@@ -1,5 +1,5 @@
 -- What one turn of a port, or one pop, does to a node's side of it, and what the node finds by it.
-use Rattle.std.specs.Prelude.{◌≡◌, ◌<◌, ◌⊎◌, Bool, true, false, ◌∷◌, [], ◌++◌, length, Option, None, Some}
+use Rattle.std.specs.Prelude.{◌≡◌, ◌≤◌, ◌<◌, ◌+◌, ◌⊎◌, Bool, true, false, ◌∷◌, [], ◌++◌, length, Option, None, Some}
 use Rattle.sb_link.specs.declared.answers.Cause.TheVariants as causes
 use Rattle.sb_packet.specs.Accesses.{accesses_of}
 use Rattle.sb_packet.specs.Messages.{message_of}
@@ -35,6 +35,11 @@ abbrev pub IsPortTurned : Bool → PortSide → PortSide → Findings → Findin
 IsPortTurned more before after found found_then =
     HasPortMoved before after found found_then ⊎ (IsPortFull before after found found_then ⊎ IsPortClear more before after found found_then)
 
+-- A port was served: it sent at most one item, and just one unless it owes nothing then or its ring is full.
+pub record IsPortServed (before after : PortSide) : Type 0 where
+  pub one_item : length after.state.sent ≤ length before.state.sent + 1
+  pub served : (length after.state.sent ≡ length before.state.sent + 1) ⊎ ((owes after.state ≡ false) ⊎ (is_full after ≡ true))
+
 -- an item was popped
 pub record IsItemPopped (before after : RingSide) (item : Item) (found found_then : Findings) : Type 0 where
   pub lawful : MayFollow before.plan before.received item
@@ -46,6 +51,10 @@ pub record IsRingEmpty (before after : RingSide) (found found_then : Findings) :
   pub same : after.received ≡ before.received
   pub drained : is_drained after ≡ true
   pub found_empty : found_then ≡ record found { empty = or_else found.empty (causes.Empty after.plan.ring (length after.received) after.known) }
+
+-- A ring was served: it gave just one item, or was found empty.
+abbrev pub IsRingServed : RingSide → RingSide → Type 0
+IsRingServed before after = (length after.received ≡ length before.received + 1) ⊎ (is_drained after ≡ true)
 
 -- A ring was popped.
 abbrev pub IsRingPopped : RingSide → RingSide → Option Item → Findings → Findings → Type 0

@@ -5,7 +5,7 @@ ghost use Rattle.sb_port.specs.Ports.{IsFit, owes, port_accesses};
 ghost use Rattle.sb_port.specs.StateOf.{state_of};
 ghost use Rattle.sb_node.specs.Sides.{port_side, ring_side};
 ghost use Rattle.sb_node.specs.Kept.{IsKeptPort, IsKeptRing};
-ghost use Rattle.sb_node.specs.Steps.{IsHandedOn, IsPortTurned, IsRingPopped};
+ghost use Rattle.sb_node.specs.Steps.{IsHandedOn, IsPortServed, IsPortTurned, IsRingPopped, IsRingServed};
 
 use crate::findings::Findings;
 use sb_link::{Pop, RxEnd, TxEnd};
@@ -17,6 +17,7 @@ use sb_port::{OutPort, PortTurn};
 pub fn turn_port<T: TxEnd>(port: &mut OutPort<T>, more: bool, found: &mut Findings)
     requires fit { IsFit (T.planned port.old.tx) (state_of T.sent port.old) }
     ensures turned { IsPortTurned more (port_side T.TxEnd port.old) (port_side T.TxEnd port.new) found.old found.new }
+    ensures served { IsPortServed (port_side T.TxEnd port.old) (port_side T.TxEnd port.new) }
     ensures kept { IsKeptPort (port_side T.TxEnd port.old) (port_side T.TxEnd port.new) }
     ensures words { port_accesses (state_of T.sent port.new) ≡ port_accesses (state_of T.sent port.old) }
     ensures told { port.new.closing ≡ port.old.closing }
@@ -33,6 +34,7 @@ pub fn turn_port<T: TxEnd>(port: &mut OutPort<T>, more: bool, found: &mut Findin
 /// Pops the next item of a ring, and notes what it found. Takes no memory.
 pub fn pop_ring<U: RxEnd>(ring: &mut U, found: &mut Findings) -> Option<Item>
     ensures popped { IsRingPopped (ring_side U.RxEnd ring.old) (ring_side U.RxEnd ring.new) result found.old found.new }
+    ensures served { IsRingServed (ring_side U.RxEnd ring.old) (ring_side U.RxEnd ring.new) }
     ensures kept { IsKeptRing (ring_side U.RxEnd ring.old) (ring_side U.RxEnd ring.new) }
 {
     let number = ring.plan().ring;

@@ -50,15 +50,15 @@ closes_let_go before after closes = ap let_go closes.state ∙ ap (λ (list : Li
 closes_messages : (before after : PortState) → SendsClose before after → port_messages after ≡ port_messages before
 closes_messages before after closes = ap port_messages closes.state ∙ ap (λ (list : List Message). list ++ (before.waiting.owed ++ listed before.waiting.held)) (item_messages-close before.sent)
 
-lets_go_messages : (more : _) (before after : PortState) → LetsGo more before after → port_messages after ≡ port_messages before
-lets_go_messages more before after lets = elim lets.state [
-  | inl e ↦ ap port_messages e ∙ released_messages before
+lets_go_messages : (capacity knew : _) (more : _) (before after : PortState) → LetsGo capacity knew more before after → port_messages after ≡ port_messages before
+lets_go_messages capacity knew more before after lets = elim lets.state [
+  | inl e ↦ ap port_messages e.0 ∙ released_messages before
   | inr sends ↦ sends_messages (record before { waiting = released before.waiting }) after sends ∙ released_messages before
 ]
 
-lets_go_on : (more : _) (before after : PortState) → LetsGo more before after → IsPrefix (let_go before) (let_go after)
-lets_go_on more before after lets = elim lets.state [
-  | inl e ↦ record { rest = listed before.waiting.held; joined = sym (released_let_go before) ∙ sym (ap let_go e) }
+lets_go_on : (capacity knew : _) (more : _) (before after : PortState) → LetsGo capacity knew more before after → IsPrefix (let_go before) (let_go after)
+lets_go_on capacity knew more before after lets = elim lets.state [
+  | inl e ↦ record { rest = listed before.waiting.held; joined = sym (released_let_go before) ∙ sym (ap let_go e.0) }
   | inr sends ↦ record { rest = listed before.waiting.held; joined = sym (released_let_go before) ∙ sym (sends_let_go (record before { waiting = released before.waiting }) after sends) }
 ]
 
@@ -69,7 +69,7 @@ turned_messages capacity knew more before after turns.Clear turned = ap port_mes
 turned_messages capacity knew more before after turns.Moved turned = elim turned [
   | inl sends ↦ sends_messages before after sends
   | inr more_cases ↦ elim more_cases [
-    | inl lets ↦ lets_go_messages more before after lets
+    | inl lets ↦ lets_go_messages capacity knew more before after lets
     | inr closes ↦ closes_messages before after closes
   ]
 ]
@@ -85,7 +85,7 @@ turned_goes_on capacity knew more before after turns.Clear turned = begins_equal
 turned_goes_on capacity knew more before after turns.Moved turned = elim turned [
   | inl sends ↦ begins_equal (let_go before) (let_go after) (sends_let_go before after sends)
   | inr more_cases ↦ elim more_cases [
-    | inl lets ↦ lets_go_on more before after lets
+    | inl lets ↦ lets_go_on capacity knew more before after lets
     | inr closes ↦ begins_equal (let_go before) (let_go after) (closes_let_go before after closes)
   ]
 ]

@@ -22,12 +22,12 @@ pub record SendsClose (before after : PortState) : Type 0 where
   pub unsent : before.shut ≡ false
   pub state : after ≡ record before { sent = before.sent ++ items.Close ∷ []; shut = true }
 
--- nothing was owed, and what was held is owed from now on, or sent at once: no more was announced, or the port was told to close
-pub record LetsGo (more : Bool) (before after : PortState) : Type 0 where
+-- nothing was owed, and what was held is sent, or owed from now on where the ring is full: no more was announced, or the port was told to close
+pub record LetsGo (capacity knew : ℕ) (more : Bool) (before after : PortState) : Type 0 where
   pub none_owed : before.waiting.owed ≡ []
   pub some_held : before.waiting.held ≢ None
   pub cause : (more ≡ false) ⊎ (before.closing ≡ true)
-  pub state : (after ≡ record before { waiting = released before.waiting }) ⊎ SendsFirst (record before { waiting = released before.waiting }) after
+  pub state : ((after ≡ record before { waiting = released before.waiting }) × (length before.sent ≡ knew + capacity)) ⊎ SendsFirst (record before { waiting = released before.waiting }) after
 
 -- an item was owed, the ring is full by the count of taken items that the port's end knows, and nothing changes
 pub record IsBlocked (capacity knew : ℕ) (before after : PortState) (told_sent told_taken : ℕ) : Type 0 where
@@ -45,7 +45,7 @@ pub record IsAtRest (more : Bool) (before after : PortState) : Type 0 where
 
 -- What a turn answers, from the port before it to the port after it.
 abbrev pub Turned : ℕ → ℕ → Bool → PortState → PortState → PortTurn → Type 0
-Turned capacity knew more before after turns.Moved = SendsFirst before after ⊎ (LetsGo more before after ⊎ SendsClose before after)
+Turned capacity knew more before after turns.Moved = SendsFirst before after ⊎ (LetsGo capacity knew more before after ⊎ SendsClose before after)
 Turned capacity knew more before after (turns.Full told_sent told_taken) = IsBlocked capacity knew before after told_sent told_taken
 Turned capacity knew more before after turns.Clear = IsAtRest more before after
 
