@@ -16,7 +16,7 @@ use Rattle.sb_packet.proofs.FoundAnswers.{same_access_self}
 use Rattle.sb_packet.proofs.Lists.{AllPairs-head, AllPairs-tail}
 use Rattle.sb_packet.specs.Rings.{is_answered}
 use Rattle.sb_net.specs.Flows.{is_of, words_of}
-use Rattle.sb_net.specs.Wholes.{answers_op}
+use Rattle.sb_host.specs.Outcomes.{is_answered_by}
 
 -- the answers to some words, one step after another
 abbrev pub given : MemoryState → List Access → List Access
@@ -26,7 +26,7 @@ given m list = filter_map (λ answer. answer) (answers_in m list)
 pub record IsAnswerOf (network : Network) (a b : Access) : Type 0 where
   pub flow : (f : NetFlow) → is_of network f b ≡ is_of network f a
   pub address : b.dst ≡ a.src
-  pub op : answers_op b.op a.op ≡ true
+  pub op : is_answered_by a.op b.op ≡ true
   pub size : b.size ≡ a.size
 
 pub answer_is : (network : Network) (m : MemoryState) (a b : Access) → access_answer m a ≡ Some b → IsAnswerOf network a b

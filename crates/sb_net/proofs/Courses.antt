@@ -14,7 +14,8 @@ use Rattle.sb_packet.specs.declared.item.Item.{Item}
 use Rattle.sb_packet.specs.declared.item.Item.TheVariants as items
 use Rattle.sb_packet.specs.Prefixes.{IsPrefix, IsSubsequence}
 use Rattle.sb_net.specs.Flows.{is_of, words_of}
-use Rattle.sb_net.specs.Moments.{Moment, arrived, AreSound, ClosesLast}
+use Rattle.sb_device.specs.Served.{AreSound}
+use Rattle.sb_net.specs.Moments.{Moment, arrived, ClosesLast}
 use Rattle.sb_net.specs.Courses.{Course, way_of, budget_over, came_for, AlongWay}
 use Rattle.sb_net.specs.Promises.{IsLink, IsPort, Forwards, Offers, KeepsPromises, KeepsOrder}
 use Rattle.sb_net.specs.Arrivals.{BeginsSources, PicksSources, CarriesSources, HasEnded}

@@ -2,7 +2,7 @@
 use Rattle.std.proofs.Common.{◌≡◌, ◌<◌, ℕ, true, false, List, [], ◌∷◌, ◌++◌, length, refl, sym, ap, ◌∙◌, arith, subst, inl, inr}
 use Rattle.std.specs.Prelude.{◌⊎◌, flat_map, Some, None}
 use Rattle.std.proofs.lemmas.List.Elements.{All-head}
-use Rattle.sb_device.specs.Served.{HasServed, entry_accesses, entry_packets, item_packets, answers_to}
+use Rattle.sb_device.specs.Served.{AreSound, HasServed, entry_accesses, entry_packets, item_packets, answers_to}
 use Rattle.sb_device.specs.Steps.{IsBlockedPort}
 use Rattle.sb_node.specs.Idle.{IsIdleAt}
 use Rattle.sb_node.specs.Sides.{PortSide, RingSide, has_rest, is_full, has_ended, is_drained}
@@ -19,7 +19,7 @@ use Rattle.sb_port.specs.Ports.{IsFit}
 use Rattle.sb_net.specs.Flows.{device_answers}
 use Rattle.sb_net.specs.Courses.{budget_over}
 use Rattle.sb_net.specs.Layouts.{Layout}
-use Rattle.sb_net.specs.Moments.{Moment, arrived, AreSound}
+use Rattle.sb_net.specs.Moments.{Moment, arrived}
 use Rattle.sb_net.specs.RoundSides.{HasPort, HasRing, ShowsPort, ShowsRing}
 use Rattle.sb_net.specs.Runs.{IsDevice}
 use Rattle.sb_net.specs.Stages.{Stages}

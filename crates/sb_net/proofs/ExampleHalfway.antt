@@ -10,7 +10,8 @@ use Rattle.sb_packet.specs.declared.item.Item.{Item}
 use Rattle.sb_packet.specs.declared.item.Item.TheVariants as items
 use Rattle.sb_packet.specs.Prefixes.{IsPrefix, IsSubsequence, none, kept, left_out}
 use Rattle.sb_net.specs.Flows.{words_of, asked_of}
-use Rattle.sb_net.specs.Moments.{Moment, AreSound}
+use Rattle.sb_device.specs.Served.{AreSound}
+use Rattle.sb_net.specs.Moments.{Moment}
 use Rattle.sb_net.specs.Courses.{Course, CarriesItsFlows, is_carried, AlongWay}
 use Rattle.sb_net.specs.Promises.{Forwards, KeepsOrder}
 use Rattle.sb_net.specs.Runs.{IsHost, IsDevice, IsMomentOf}

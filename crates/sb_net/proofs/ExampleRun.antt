@@ -8,7 +8,8 @@ use Rattle.sb_packet.specs.Networks.{width_to}
 use Rattle.sb_packet.specs.Journals.{IsLawful}
 use Rattle.sb_packet.specs.Traffic.{has_close, item_accesses}
 use Rattle.sb_packet.specs.declared.item.Item.{Item}
-use Rattle.sb_net.specs.Moments.{Moment, AreSound}
+use Rattle.sb_device.specs.Served.{AreSound}
+use Rattle.sb_net.specs.Moments.{Moment}
 use Rattle.sb_net.specs.Courses.{CarriesItsFlows, is_carried, AlongWay}
 use Rattle.sb_net.specs.Promises.{Forwards}
 use Rattle.sb_net.specs.Arrivals.{HasEnded}

@@ -12,7 +12,7 @@ use Rattle.sb_packet.specs.Networks.{Network}
 use Rattle.sb_packet.specs.Answers.{answer_at_first}
 use Rattle.sb_packet.proofs.FoundAnswers.{same_access_self}
 use Rattle.sb_packet.proofs.Lists.{AllPairs-head, AllPairs-tail}
-use Rattle.sb_net.specs.Wholes.{is_answer_to}
+use Rattle.sb_host.specs.Outcomes.{is_answer_to}
 use Rattle.sb_net.proofs.Answering.{IsAnswerOf, other_access}
 
 -- where no two words are answered at one address, what is found for each is its own answer, from some memory
@@ -30,7 +30,7 @@ pub looks_like : (network : Network) (a b : Access) → IsAnswerOf network a b �
 looks_like network a b is =
     let address : (b.dst == a.src) ≡ true = let same = is.address in grind (arith, nat_tests) in
     let size : (b.size == a.size) ≡ true = let same = is.size in grind (arith, nat_tests) in
-    rw (address, is.op, size) refl
+    rw (address, size, is.op) refl
 
 goes_elsewhere : (a b : Access) → b.dst ≢ a.src → is_answer_to a b ≡ false
 goes_elsewhere a b apart = let other : (b.dst == a.src) ≡ false = grind (arith, nat_tests) in rw other refl

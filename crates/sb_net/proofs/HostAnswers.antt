@@ -17,7 +17,8 @@ use Rattle.sb_net.specs.Courses.{goes_over, flows_over}
 use Rattle.sb_net.specs.Arrivals.{HasEnded}
 use Rattle.sb_net.specs.Layouts.{Layout, IsLayout, ring_home}
 use Rattle.sb_net.specs.Runs.{IsMomentOf}
-use Rattle.sb_net.specs.Wholes.{is_answer_to, AreAnswered}
+use Rattle.sb_host.specs.Outcomes.{is_answer_to}
+use Rattle.sb_net.specs.Wholes.{AreAnswered}
 use Rattle.sb_net.proofs.FlowMembers.{some_flow, at_flow}
 use Rattle.sb_net.proofs.Ways.{at_last}
 use Rattle.sb_net.proofs.Courses.{whole_law}

@@ -23,13 +23,12 @@ use Rattle.sb_packet.specs.declared.transaction.Txn.{Txn}
 use Rattle.sb_packet.proofs.Lists.{All-kept, All-made, All-pieces}
 use Rattle.sb_host.specs.declared.line.Line.{Line}
 use Rattle.sb_host.specs.Asked.{asked_by, line_in}
-use Rattle.sb_host.specs.Outcomes.{answer_so_far, first_answer, is_answered_by, line_outcome, outcome_so_far, outcomes_so_far}
-use Rattle.sb_host.specs.Outcomes as hosts
+use Rattle.sb_host.specs.Outcomes.{answer_so_far, first_answer, is_answer_to, line_outcome, outcome_so_far, outcomes_so_far}
 use Rattle.sb_net.specs.Flows.{asked_of, is_among, is_of}
 use Rattle.sb_net.specs.Layouts.{IsLayout, Layout, ring_home}
 use Rattle.sb_net.specs.Moments.{Moment, arrived}
 use Rattle.sb_net.specs.Runs.{IsMomentOf}
-use Rattle.sb_net.specs.Wholes.{AreAnswered, HasAllEnded, answers_op, is_answer_to}
+use Rattle.sb_net.specs.Wholes.{AreAnswered, HasAllEnded}
 use Rattle.sb_net.proofs.AskedWays.{word_device}
 use Rattle.sb_net.proofs.FlowMembers.{at_flow}
 use Rattle.sb_net.proofs.FoundReplies.{own_answers}
@@ -39,59 +38,6 @@ use Rattle.sb_net.proofs.Journals.{journal_differs}
 use Rattle.sb_net.proofs.ListPlaces.{All-enumerated}
 use Rattle.sb_net.proofs.ScriptFacts.{asked_asks, asks, found_by_id}
 use Rattle.sb_net.proofs.WholeRuns.{replies_at_first, whole_history}
-
--- hosts and the laws of whole runs mean the same by an answer
-same_ops : (p q : Op) → is_answered_by p q ≡ answers_op q p
-same_ops ReqRd ReqRd = refl
-same_ops ReqRd ReqWr = refl
-same_ops ReqRd ReqWrPosted = refl
-same_ops ReqRd ReqAtomic = refl
-same_ops ReqRd RespRd = refl
-same_ops ReqRd RespWr = refl
-same_ops ReqWr ReqRd = refl
-same_ops ReqWr ReqWr = refl
-same_ops ReqWr ReqWrPosted = refl
-same_ops ReqWr ReqAtomic = refl
-same_ops ReqWr RespRd = refl
-same_ops ReqWr RespWr = refl
-same_ops ReqWrPosted ReqRd = refl
-same_ops ReqWrPosted ReqWr = refl
-same_ops ReqWrPosted ReqWrPosted = refl
-same_ops ReqWrPosted ReqAtomic = refl
-same_ops ReqWrPosted RespRd = refl
-same_ops ReqWrPosted RespWr = refl
-same_ops ReqAtomic ReqRd = refl
-same_ops ReqAtomic ReqWr = refl
-same_ops ReqAtomic ReqWrPosted = refl
-same_ops ReqAtomic ReqAtomic = refl
-same_ops ReqAtomic RespRd = refl
-same_ops ReqAtomic RespWr = refl
-same_ops RespRd ReqRd = refl
-same_ops RespRd ReqWr = refl
-same_ops RespRd ReqWrPosted = refl
-same_ops RespRd ReqAtomic = refl
-same_ops RespRd RespRd = refl
-same_ops RespRd RespWr = refl
-same_ops RespWr ReqRd = refl
-same_ops RespWr ReqWr = refl
-same_ops RespWr ReqWrPosted = refl
-same_ops RespWr ReqAtomic = refl
-same_ops RespWr RespRd = refl
-same_ops RespWr RespWr = refl
-
-turned : (d s o : Bool) → (d && s && o) ≡ (d && (o && s))
-turned false s o = refl
-turned true true true = refl
-turned true true false = refl
-turned true false true = refl
-turned true false false = refl
-
-same_tests : (a x : Access) → hosts.is_answer_to a x ≡ is_answer_to a x
-same_tests a x = rw (same_ops a.op x.op) (turned (x.dst == a.src) (x.size == a.size) (answers_op x.op a.op))
-
-find_same : {X : Type 0} (p q : X → Bool) → ((x : X) → p x ≡ q x) → (xs : List X) → find p xs ≡ find q xs
-find_same p q same [] = refl
-find_same p q same (x ∷ xs) = rw (same x, find_same p q same xs) refl
 
 -- a word that asks and is answered has an answer, of its device or of none
 answer_is_some : (op : Op) (memory : MemoryState) (a : Access) → is_request op ≡ true → is_answered op ≡ true → is_some (answer_by op memory a) ≡ true
@@ -163,7 +109,7 @@ module _ (network : Network) (layout : Layout) (journal : List Entry) (m : Momen
       let answered = at_flow (AreAnswered network layout journal m) f layout.requests.flows (host_answers_law network layout journal m laid now ended.there ended.back) among in
       let ring = at_flow (λ g. g.host ≡ host.id → ring_home layout g ≡ home) f layout.requests.flows at_home among mine in
       record {
-        reply = find_same (hosts.is_answer_to word) (is_answer_to word) (same_tests word) (arrived m home) ∙ ap (λ (r : ℕ). find (is_answer_to word) (arrived m r)) (sym ring) ∙ answered i d below;
+        reply = ap (λ (r : ℕ). find (is_answer_to word) (arrived m r)) (sym ring) ∙ answered i d below;
         memory = (asked i d below).0;
         given = first i d below ∙ (asked i d below).1;
       }

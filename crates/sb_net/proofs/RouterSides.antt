@@ -20,7 +20,8 @@ use Rattle.sb_router.specs.Turning.{AwaitsFullPort, IsIdleLane}
 use Rattle.sb_router.specs.Whole.{IsWholeLane}
 use Rattle.sb_net.specs.Courses.{Course, came_for, is_carried}
 use Rattle.sb_net.specs.Flows.{words_of}
-use Rattle.sb_net.specs.Moments.{Moment, AreSound, arrived}
+use Rattle.sb_device.specs.Served.{AreSound}
+use Rattle.sb_net.specs.Moments.{Moment, arrived}
 use Rattle.sb_net.specs.Promises.{Forwards}
 use Rattle.sb_net.specs.RouterSides.{ComesInto, HasInlet, HasLane, IsAtStage, IsRouterOf, Leaves, ShowsInlet, ShowsLane, course_words, ring_ins, ring_next}
 use Rattle.sb_net.specs.RoundSides.{HasPort, ShowsPort}

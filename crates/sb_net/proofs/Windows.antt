@@ -19,7 +19,7 @@ use Rattle.sb_net.specs.Courses.{Course, way_of, budget_over, came_for, AlongWay
 use Rattle.sb_net.specs.Promises.{IsLink, IsPort, Forwards}
 use Rattle.sb_net.specs.Layouts.{Layout, IsLayout, ring_home}
 use Rattle.sb_net.specs.Runs.{IsMomentOf}
-use Rattle.sb_net.specs.Wholes.{is_answer_to}
+use Rattle.sb_host.specs.Outcomes.{is_answer_to}
 use Rattle.sb_net.specs.Stages.{Stages}
 use Rattle.sb_net.specs.Standstills.{RoundEnd, IsStandstill}
 use Rattle.sb_net.specs.Endings.{IsWithin, MissesAnswer}

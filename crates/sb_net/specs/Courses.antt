@@ -24,6 +24,7 @@ pub record Course : Type 0 where
 abbrev pub way_of : Course → NetFlow → List ℕ
 way_of c f = c.first f ∷ c.rest f
 
+-- a ring is on a flow's way
 abbrev pub goes_over : Course → ℕ → NetFlow → Bool
 goes_over c r f = list_any (λ k. k == r) (way_of c f)
 

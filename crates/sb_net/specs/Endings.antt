@@ -12,7 +12,7 @@ use Rattle.sb_net.specs.Moments.{Moment, arrived}
 use Rattle.sb_net.specs.Courses.{way_of}
 use Rattle.sb_net.specs.Layouts.{Layout, ring_home}
 use Rattle.sb_net.specs.Runs.{IsMomentOf}
-use Rattle.sb_net.specs.Wholes.{is_answer_to}
+use Rattle.sb_host.specs.Outcomes.{is_answer_to}
 use Rattle.sb_net.specs.Stages.{Stages}
 use Rattle.sb_net.specs.Standstills.{RoundEnd, is_closed, has_ended, IsStandstill}
 

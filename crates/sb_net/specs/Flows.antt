@@ -19,6 +19,7 @@ is_of network f a = (a.host == f.host) && is_at network f.device a
 abbrev pub words_of : Network → NetFlow → List Access → List Access
 words_of network f list = filter (is_of network f) list
 
+-- two flows have the same host and the same device
 abbrev pub is_same_flow : NetFlow → NetFlow → Bool
 is_same_flow f g = (f.host == g.host) && (f.device == g.device)
 

@@ -1,8 +1,7 @@
 -- A moment of a run: what has gone over each ring, and what the nodes have offered and hold, as plain lists.
-use Rattle.std.specs.Prelude.{◌≡◌, ℕ, false, List, ◌∷◌, ◌++◌, All}
+use Rattle.std.specs.Prelude.{◌≡◌, ℕ, false, List, ◌∷◌, ◌++◌}
 use Rattle.sb_packet.specs.Accesses.{Access}
-use Rattle.sb_packet.specs.Soundness.{IsSound}
-use Rattle.sb_packet.specs.Traffic.{has_close, item_accesses, item_messages}
+use Rattle.sb_packet.specs.Traffic.{has_close, item_accesses}
 use Rattle.sb_packet.specs.declared.item.Item.{Item}
 
 -- what has been done by some moment, by the number of a ring
@@ -18,10 +17,6 @@ pub record Moment : Type 0 where
 -- the words that came by a ring
 abbrev pub arrived : Moment → ℕ → List Access
 arrived m r = item_accesses (m.received r)
-
--- each packet among these items is sound
-abbrev pub AreSound : List Item → Type 0
-AreSound list = All IsSound (item_messages list)
 
 -- nothing follows a Close: no item has one before it
 abbrev pub ClosesLast : List Item → Type 0

@@ -14,6 +14,7 @@ use Rattle.sb_net.specs.Layouts.{Layout}
 abbrev pub flow_of : NetWay → NetFlow
 flow_of way = record { host = way.host.id; device = way.device }
 
+-- the flows of all ways of a network
 abbrev pub network_flows : Network → List NetFlow
 network_flows network = map flow_of (network_ways network)
 

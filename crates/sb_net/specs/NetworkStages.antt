@@ -18,6 +18,7 @@ stage_after network k = option_map_or (λ r. 1 + r) (router_after network k) (1 
 abbrev pub last_stage : Network → ℕ
 last_stage network = 2 + 2 * length network.routers
 
+-- the stage of router r for answers
 abbrev pub answer_stage : Network → ℕ → ℕ
 answer_stage network r = 1 + length network.routers + (length network.routers - r)
 

@@ -6,7 +6,8 @@ use Rattle.sb_packet.specs.Plans.{NetFlow}
 use Rattle.sb_packet.specs.Traffic.{has_close, item_accesses}
 use Rattle.sb_packet.specs.Prefixes.{IsPrefix, IsSubsequence}
 use Rattle.sb_net.specs.Flows.{words_of}
-use Rattle.sb_net.specs.Moments.{Moment, arrived, AreSound, ClosesLast}
+use Rattle.sb_device.specs.Served.{AreSound}
+use Rattle.sb_net.specs.Moments.{Moment, arrived, ClosesLast}
 use Rattle.sb_net.specs.Courses.{Course, budget_over, came_for, CarriesItsFlows, IsOneWay, AlongWay}
 
 -- A link: what was received is a prefix of what was sent, and nothing was sent after a Close.

@@ -8,7 +8,8 @@ use Rattle.sb_packet.specs.Traffic.{has_close}
 use Rattle.sb_packet.specs.declared.entry.Entry.{Entry}
 use Rattle.sb_packet.specs.Prefixes.{IsPrefix}
 use Rattle.sb_net.specs.Flows.{aimed_script, device_answers}
-use Rattle.sb_net.specs.Moments.{Moment, arrived, AreSound}
+use Rattle.sb_device.specs.Served.{AreSound}
+use Rattle.sb_net.specs.Moments.{Moment, arrived}
 use Rattle.sb_net.specs.Courses.{budget_over, CarriesItsFlows, AlongWay}
 use Rattle.sb_net.specs.Promises.{IsLink, IsPort, Forwards}
 use Rattle.sb_net.specs.Layouts.{Layout}

@@ -1,9 +1,6 @@
 -- What a run has done by some moment, and what a whole run has done.
-use Rattle.std.specs.Prelude.{◌≡◌, ℕ, Bool, ◌&&◌, ◌==◌, true, false, List, All}
+use Rattle.std.specs.Prelude.{◌≡◌, ℕ, true, List, All}
 use Rattle.std.specs.List.{find}
-use Rattle.sb_word.specs.declared.command.Op.{Op}
-use Rattle.sb_word.specs.declared.command.Op.TheVariants.{ReqRd, ReqWr, ReqAtomic, RespRd, RespWr}
-use Rattle.sb_packet.specs.Accesses.{Access}
 use Rattle.sb_packet.specs.Networks.{Network}
 use Rattle.sb_packet.specs.Scripts.{script_accesses}
 use Rattle.sb_packet.specs.Journals.{journal_accesses, flow_part}
@@ -11,6 +8,7 @@ use Rattle.sb_packet.specs.Answers.{access_reply}
 use Rattle.sb_packet.specs.Plans.{NetFlow}
 use Rattle.sb_packet.specs.declared.entry.Entry.{Entry}
 use Rattle.sb_packet.specs.Prefixes.{IsPrefix}
+use Rattle.sb_host.specs.Outcomes.{is_answer_to}
 use Rattle.sb_net.specs.Flows.{asked_of, replies_to}
 use Rattle.sb_net.specs.Moments.{Moment, arrived}
 use Rattle.sb_net.specs.Courses.{CarriesItsFlows}
@@ -34,17 +32,6 @@ pub record IsWholeRun (network : Network) (layout : Layout) (journal : List Entr
   pub answers : (r : ℕ) → CarriesSources network layout.answers m (replies_to network journal) r
   pub no_others : (r : ℕ) → layout.requests.has r ≡ true → CarriesItsFlows network layout.requests m r
   pub no_other_answers : (r : ℕ) → layout.answers.has r ≡ true → CarriesItsFlows network layout.answers m r
-
--- an opcode answers another
-abbrev pub answers_op : Op → Op → Bool
-answers_op RespRd ReqRd = true
-answers_op RespRd ReqAtomic = true
-answers_op RespWr ReqWr = true
-answers_op _ _ = false
-
--- a word looks like the answer to another: it goes where the other came from, and has the opcode and the size that are expected
-abbrev pub is_answer_to : Access → Access → Bool
-is_answer_to a x = (x.dst == a.src) && (answers_op x.op a.op && (x.size == a.size))
 
 -- For each word that a host asks for, the first word that came to it and looks like the answer is the journal's answer; none came where the journal has none.
 abbrev pub AreAnswered : Network → Layout → List Entry → Moment → NetFlow → Type 0

@@ -1,4 +1,4 @@
-//! Tests that cross crates: the top call over sources and sinks in memory. The worked examples are from docs/formats.md, and none is what the program printed.
+//! Tests that cross crates: the top call over sources and sinks in memory, and a small network run to its end. The worked examples are from docs/formats.md, and none is what the program printed.
 #![tactic(auto)]
 
 #[cfg(test)]
