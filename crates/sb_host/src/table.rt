@@ -93,8 +93,8 @@ impl Table {
     fn take_word(&mut self, orders: &Orders, packet: &Packet, word: u32)
         requires word { word < word_count_of packet.now.cmd }
         requires table { (received : List Access) × IsTable (asked_of orders.now) received self.old.rows.items }
-        ensures rows { length self.new.rows.items ≡ length self.old.rows.items }
         ensures taken { (received : List Access) → IsTable (asked_of orders.now) received self.old.rows.items → IsTable (asked_of orders.now) (received ++ access_at (message_of packet.now) word ∷ []) self.new.rows.items }
+        ensures rows { length self.new.rows.items ≡ length self.old.rows.items }
     {
         let size = packet.cmd.size;
         let address = packet.dst + u64::from(words_span(size, word));
@@ -108,8 +108,8 @@ impl Table {
     /// Takes each word of an answer that answers a word of a script which misses its answer, and drops the others.
     pub fn take(&mut self, orders: &Orders, packet: &Packet)
         requires table { (received : List Access) × IsTable (asked_of orders.now) received self.old.rows.items }
-        ensures rows { length self.new.rows.items ≡ length self.old.rows.items }
         ensures taken { (received : List Access) → IsTable (asked_of orders.now) received self.old.rows.items → IsTable (asked_of orders.now) (received ++ accesses_of packet.now) self.new.rows.items }
+        ensures rows { length self.new.rows.items ≡ length self.old.rows.items }
     {
         for word in 0..word_count(&packet.cmd) {
             self.take_word(orders, packet, word);
