@@ -55,6 +55,7 @@ pub fn hand_on<T: TxEnd>(port: &mut OutPort<T>, packet: &Packet)
     requires fit { IsFit (T.planned port.old.tx) (state_of T.sent port.old) }
     requires ready { owes (state_of T.sent port.old) ≡ false }
     requires untold { port.old.closing ≡ false }
+    ensures end { port.new.tx ≡ port.old.tx }
     ensures handed { IsHandedOn (port_side T.TxEnd port.old) (port_side T.TxEnd port.new) packet.now }
     ensures kept { IsKeptPort (port_side T.TxEnd port.old) (port_side T.TxEnd port.new) }
     ensures told { port.new.closing ≡ false }
