@@ -13,10 +13,10 @@ use Rattle.sb_node.specs.Kept.{IsKeptPort}
 use Rattle.sb_node.specs.Turns.{first_cause, empty_cause, idle_causes}
 use Rattle.sb_node.specs.Idle.{IsIdleAt}
 use Rattle.sb_node.specs.Found.{or_else, IsTurnOf}
-use Rattle.sb_node.specs.Steps.{IsPortTurned, HasPortMoved, IsPortFull, IsPortClear, IsRingEmpty}
+use Rattle.sb_node.specs.Steps.{IsPortServed, IsPortTurned, HasPortMoved, IsPortFull, IsPortClear, IsRingEmpty, IsRingServed}
 use Rattle.sb_node.specs.declared.findings.Findings.{Findings}
 use Rattle.sb_node.proofs.Answering.{HasGone, HasStood, answered_by, moves_kept, untold}
-use Rattle.sb_device.specs.Steps.{IsRingServed, HasPopped, IsBlockedPort, IsEndsTurn}
+use Rattle.sb_device.specs.Steps.{IsRingHandled, HasPopped, IsBlockedPort, IsEndsTurn}
 
 -- nothing was found yet
 abbrev pub no_findings : Findings
@@ -140,7 +140,7 @@ module _ (ring ring_then : RingSide) (port port_then : PortSide) where
       }
 
   -- what came of the ring and the port
-  pub came_of : (popped : Bool) (middle : PortSide) (found found_then : Findings) → IsRingServed ring ring_then port middle no_findings found popped
+  pub came_of : (popped : Bool) (middle : PortSide) (found found_then : Findings) → IsRingHandled ring ring_then port middle no_findings found popped
       → IsPortTurned popped middle port_then found found_then → IsKeptPort port middle → IsKeptPort middle port_then
       → IsFit port_then.plan port_then.state → port_then.state.closing ≡ has_ended ring_then
       → HasGone found_then before after ⊎ HasStood found_then before after done_then causes_then AtRest
@@ -162,18 +162,24 @@ module _ (ring ring_then : RingSide) (port port_then : PortSide) where
       (subst (λ m. IsPortTurned false m port_then found found_then) none.same_port turned)
 
   -- at most one item was popped
-  one_popped : (popped : Bool) (middle : PortSide) (found : Findings) → IsRingServed ring ring_then port middle no_findings found popped → length ring_then.received ≤ length ring.received + 1
+  one_popped : (popped : Bool) (middle : PortSide) (found : Findings) → IsRingHandled ring ring_then port middle no_findings found popped → length ring_then.received ≤ length ring.received + 1
   one_popped true middle found served = let one = served.one in omega (arith, one)
   one_popped false middle found (inl waited) = let same = ap (λ (r : RingSide). length r.received) waited.same_ring in omega (arith, same)
   one_popped false middle found (inr none) = let same = ap (λ (list : List Item). length list) none.empty.same in omega (arith, same)
 
+  -- the ring was served where the port owed nothing
+  served_when_ready : (popped : Bool) (middle : PortSide) (found : Findings) → IsRingHandled ring ring_then port middle no_findings found popped → owes port.state ≡ false → IsRingServed ring ring_then
+  served_when_ready true middle found handled ready = inl handled.one
+  served_when_ready false middle found (inl waited) ready = absurd (true≢false (sym waited.owing ∙ ready))
+  served_when_ready false middle found (inr none) ready = inr none.empty.drained
+
   -- the turn, as it is answered
-  pub ends_turned : (popped : Bool) (middle : PortSide) (found found_then : Findings) (answer : Turn) → IsRingServed ring ring_then port middle no_findings found popped
+  pub ends_turned : (popped : Bool) (middle : PortSide) (found found_then : Findings) (answer : Turn) → IsRingHandled ring ring_then port middle no_findings found popped
       → IsPortTurned popped middle port_then found found_then → IsKeptPort port middle → IsKeptPort middle port_then
       → IsFit port_then.plan port_then.state → port_then.state.closing ≡ has_ended ring_then → IsTurnOf found_then port_then.state.shut answer
-      → IsEndsTurn ring port answer ring_then port_then
-  ends_turned popped middle found found_then answer served turned kept kept_then fit closes told =
+      → IsPortServed port port_then → IsEndsTurn ring port answer ring_then port_then
+  ends_turned popped middle found found_then answer served turned kept kept_then fit closes told port_served =
       let done = sym (done_by_port port_then ring_then fit closes) in
       let said = answered_by found_then before after done_then causes_then AtRest answer (came_of popped middle found found_then served turned kept kept_then fit closes)
       (subst (λ d. IsTurnOf found_then d answer) done told) in
-      record { answered = said.0; idle = said.1; one_item = one_popped popped middle found served }
+      record { answered = said.0; idle = said.1; one_item = one_popped popped middle found served; port_served = port_served; ring_served = served_when_ready popped middle found served }

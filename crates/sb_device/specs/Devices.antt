@@ -1,5 +1,5 @@
 -- What is promised of a device: when it is whole, what its turns keep, and what one turn does.
-use Rattle.std.specs.Prelude.{◌≡◌, ◌≢◌, ◌+◌, ◌≤◌, ℕ, List, [], ◌++◌, length, All, Option, Some}
+use Rattle.std.specs.Prelude.{◌≡◌, ◌≢◌, ◌+◌, ◌≤◌, ℕ, false, List, [], ◌++◌, length, All, Option, Some}
 use Rattle.std.specs.Option.{ForSome}
 use Rattle.std.proofs.Common.{refl, sym, ap, ◌∙◌, subst, append_assoc, append-nil}
 use Rattle.std.proofs.lemmas.List.Elements.{All-nil, All-append}
@@ -8,11 +8,12 @@ use Rattle.sb_link.specs.declared.answers.Turn.TheVariants.{Moved}
 use Rattle.sb_packet.specs.Memories.{MemoryState}
 use Rattle.sb_packet.specs.Ledger.{Ledger}
 use Rattle.sb_packet.specs.declared.entry.Entry.{Entry}
-use Rattle.sb_port.specs.Ports.{IsFit}
+use Rattle.sb_port.specs.Ports.{IsFit, owes}
 use Rattle.sb_node.specs.Sides.{PortSide, RingSide, present, is_done, node_moves}
 use Rattle.sb_node.specs.Kept.{IsKeptPort, IsKeptRing, IsKeptAt, kept_port_same, kept_port_then, kept_ring_same, kept_ring_then, kept_at_same, kept_at_then}
 use Rattle.sb_node.specs.Turns.{IsAnswered, idle_causes}
 use Rattle.sb_node.specs.Idle.{IsIdleAt}
+use Rattle.sb_node.specs.Steps.{IsPortServed, IsRingServed}
 use Rattle.sb_device.specs.Served.{HasServed}
 use Rattle.sb_device.specs.Plans.{IsInOrder}
 use Rattle.sb_device.specs.Steps.{IsBlockedPort}
@@ -75,6 +76,10 @@ pub record IsDeviceTurn (before : DeviceSide) (answer : Turn) (after : DeviceSid
   pub idle : answer ≢ Moved → IsIdleAt (λ ring. ForSome after.answers IsBlockedPort) (present after.answers) (present after.requests)
   -- at most one item was popped
   pub one_item : ForSome before.requests (λ ring. ForSome after.requests (λ later. length later.received ≤ length ring.received + 1))
+  -- its port sent at most one item, and just one unless it owes nothing then or its ring is full
+  pub port_served : ForSome before.answers (λ port. ForSome after.answers (λ later. IsPortServed port later))
+  -- where its port owed nothing before, its ring gave just one item, or was found empty
+  pub ring_served : ForSome before.answers (λ port. owes port.state ≡ false) → ForSome before.requests (λ ring. ForSome after.requests (λ later. IsRingServed ring later))
 
 -- nothing happened to a device
 pub kept_device_same : (round : ℕ) (d : DeviceSide) → IsKeptDevice round d d

@@ -10,7 +10,7 @@ use Rattle.sb_port.specs.Ports.{owes}
 use Rattle.sb_node.specs.Sides.{PortSide, RingSide, offered_words, is_full, is_done, node_moves}
 use Rattle.sb_node.specs.Turns.{IsAnswered, idle_causes}
 use Rattle.sb_node.specs.Idle.{IsIdleAt}
-use Rattle.sb_node.specs.Steps.{IsHandedOn, IsRingEmpty}
+use Rattle.sb_node.specs.Steps.{IsHandedOn, IsPortServed, IsRingEmpty, IsRingServed}
 use Rattle.sb_node.specs.declared.findings.Findings.{Findings}
 use Rattle.sb_device.specs.Served.{answers_to}
 
@@ -49,9 +49,9 @@ pub record HasFoundNone (ring ring_then : RingSide) (port port_then : PortSide) 
   pub same_port : port_then ≡ port
 
 -- What a device did with its ring: it says whether it popped.
-abbrev pub IsRingServed : RingSide → RingSide → PortSide → PortSide → Findings → Findings → Bool → Type 0
-IsRingServed ring ring_then port port_then found found_then true = HasPopped ring ring_then found found_then
-IsRingServed ring ring_then port port_then found found_then false = HasWaited ring ring_then port port_then found found_then ⊎ HasFoundNone ring ring_then port port_then found found_then
+abbrev pub IsRingHandled : RingSide → RingSide → PortSide → PortSide → Findings → Findings → Bool → Type 0
+IsRingHandled ring ring_then port port_then found found_then true = HasPopped ring ring_then found found_then
+IsRingHandled ring ring_then port port_then found found_then false = HasWaited ring ring_then port port_then found found_then ⊎ HasFoundNone ring ring_then port port_then found found_then
 
 -- a device leaves its ring while its port owes an item, and the port's ring is full
 pub record IsBlockedPort (port : PortSide) : Type 0 where
@@ -65,3 +65,6 @@ pub record IsEndsTurn (ring : RingSide) (port : PortSide) (answer : Turn) (ring_
   pub idle : answer ≢ Moved → IsIdleAt (λ ring. IsBlockedPort port_then) (port_then ∷ []) (ring_then ∷ [])
   -- at most one item was popped
   pub one_item : length ring_then.received ≤ length ring.received + 1
+  -- the port had its turn, and the ring too where the port owed nothing
+  pub port_served : IsPortServed port port_then
+  pub ring_served : owes port.state ≡ false → IsRingServed ring ring_then

@@ -11,7 +11,7 @@ ghost use Rattle.sb_node.specs.Sides.{port_side, ring_side};
 ghost use Rattle.sb_node.specs.Kept.{IsKeptPort, IsKeptRing};
 ghost use Rattle.sb_device.specs.Plans.{IsInOrder};
 ghost use Rattle.sb_device.specs.Served.{HasServed};
-ghost use Rattle.sb_device.specs.Steps.{IsEndsTurn, IsRingServed, IsServedBy};
+ghost use Rattle.sb_device.specs.Steps.{IsEndsTurn, IsRingHandled, IsServedBy};
 ghost use Rattle.sb_device.specs.Devices.{IsJournalled};
 
 use crate::bank::Bank;
@@ -28,6 +28,7 @@ fn serve_request<T: TxEnd>(bank: &mut Bank, answers: &mut OutPort<T>, round: u32
     requires fit { IsFit (T.planned answers.old.tx) (state_of T.sent answers.old) }
     requires ready { owes (state_of T.sent answers.old) ≡ false }
     requires untold { answers.old.closing ≡ false }
+    ensures end { answers.new.tx ≡ answers.old.tx }
     ensures served { IsServedBy bank.old.memory (port_side T.TxEnd answers.old) (port_side T.TxEnd answers.new) request.now }
     ensures memory { bank.new.memory ≡ memory_after bank.old.memory (accesses_of request.now) }
     ensures base { bank.new.memory.base ≡ bank.old.memory.base }
@@ -55,7 +56,8 @@ pub(crate) fn serve_ring<T: TxEnd, U: RxEnd>(
 ) -> bool
     requires fit { IsFit (T.planned answers.old.tx) (state_of T.sent answers.old) }
     requires in_order { IsInOrder bank.old.number bank.old.memory bank.old.journal (ring_side U.RxEnd requests.old) (port_side T.TxEnd answers.old) }
-    ensures ring_served { IsRingServed (ring_side U.RxEnd requests.old) (ring_side U.RxEnd requests.new) (port_side T.TxEnd answers.old) (port_side T.TxEnd answers.new) found.old found.new result }
+    ensures end { answers.new.tx ≡ answers.old.tx }
+    ensures handled { IsRingHandled (ring_side U.RxEnd requests.old) (ring_side U.RxEnd requests.new) (port_side T.TxEnd answers.old) (port_side T.TxEnd answers.new) found.old found.new result }
     ensures serves { (opening : MemoryState) → HasServed opening bank.old.memory bank.old.journal.entries (ring_side U.RxEnd requests.old) (port_side T.TxEnd answers.old)
         → HasServed opening bank.new.memory bank.new.journal.entries (ring_side U.RxEnd requests.new) (port_side T.TxEnd answers.new) }
     ensures journalled { IsJournalled round bank.old.number bank.old.journal.entries bank.new.journal.entries }
