@@ -12,7 +12,7 @@ use Rattle.sb_node.specs.Sides.{PortSide, RingSide, has_rest, is_full, is_draine
 use Rattle.sb_node.specs.Kept.{IsKeptPort}
 use Rattle.sb_node.specs.Turns.{first_cause, empty_cause, idle_causes}
 use Rattle.sb_node.specs.Found.{or_else, IsTurnOf}
-use Rattle.sb_node.specs.Steps.{IsPortTurned, HasPortMoved, IsPortFull, IsPortClear, IsRingEmpty}
+use Rattle.sb_node.specs.Steps.{IsPortServed, IsPortTurned, HasPortMoved, IsPortFull, IsPortClear, IsRingEmpty, IsRingServed}
 use Rattle.sb_node.specs.declared.findings.Findings.{Findings}
 use Rattle.sb_node.proofs.Answering.{HasGone, HasStood, answered_by, moves_kept, untold}
 use Rattle.sb_host.specs.Steps.{HasOfferedNone, HasOfferedOne, IsEndsTurn, IsIdleHost, IsIssued, IsReceived, waits_for}
@@ -208,11 +208,16 @@ module _ (ring ring_then : RingSide) (port middle port_then : PortSide) where
   one_popped true found received = let one = received.one in omega (arith, one)
   one_popped false found received = let same = ap (λ (list : List Item). length list) received.same in omega (arith, same)
 
+  -- the ring was served
+  served_always : (popped : Bool) (found : Findings) → IsReceived ring ring_then no_findings found popped → IsRingServed ring ring_then
+  served_always true found received = inl received.one
+  served_always false found received = inr received.drained
+
   -- the turn, as it is answered
   pub ends_turned : (popped offered : Bool) (found_1 found_2 found_then : Findings) (answer : Turn) → IsReceived ring ring_then no_findings found_1 popped → IsIssued port middle found_1 found_2 offered
       → IsPortTurned found_2.moved middle port_then found_2 found_then → IsKeptPort port middle → IsKeptPort middle port_then
-      → IsTurnOf found_then (port_then.state.shut && has_ended ring_then) answer → IsEndsTurn ring port answer ring_then port_then
-  ends_turned popped offered found_1 found_2 found_then answer received issued turned kept kept_then told =
+      → IsTurnOf found_then (port_then.state.shut && has_ended ring_then) answer → IsPortServed port port_then → IsEndsTurn ring port answer ring_then port_then
+  ends_turned popped offered found_1 found_2 found_then answer received issued turned kept kept_then told port_served =
       let said = answered_by found_then before after done_then causes_then AtRest answer (came_of popped offered found_1 found_2 found_then received issued turned kept kept_then)
       (subst (λ d. IsTurnOf found_then d answer) (sym (done_by_both port_then ring_then)) told) in
-      record { answered = said.0; idle = said.1; one_item = one_popped popped found_1 received }
+      record { answered = said.0; idle = said.1; one_item = one_popped popped found_1 received; port_served = port_served; ring_served = served_always popped found_1 received }

@@ -8,6 +8,7 @@ use Rattle.sb_port.specs.Ports.{IsFit}
 use Rattle.sb_node.specs.Sides.{PortSide, RingSide, present, is_done, node_moves, offered_words, received_words, has_ended}
 use Rattle.sb_node.specs.Kept.{IsKeptPort, IsKeptRing, IsKeptAt, kept_port_same, kept_port_then, kept_ring_same, kept_ring_then, kept_at_same, kept_at_then}
 use Rattle.sb_node.specs.Turns.{IsAnswered, idle_causes}
+use Rattle.sb_node.specs.Steps.{IsPortServed, IsRingServed}
 use Rattle.sb_host.specs.declared.line.Line.{Line}
 use Rattle.sb_host.specs.declared.row.Row.{Row}
 use Rattle.sb_host.specs.Asked.{Asked}
@@ -76,6 +77,10 @@ pub record IsHostTurn (before : HostSide) (answer : Turn) (after : HostSide) : T
   pub idle : answer ≢ Moved → ForSome after.requests (λ port. ForSome after.answers (λ ring. IsIdleHost port ring))
   -- at most one item was popped
   pub one_item : ForSome before.answers (λ ring. ForSome after.answers (λ later. length later.received ≤ length ring.received + 1))
+  -- its port sent at most one item, and just one unless it owes nothing then or its ring is full
+  pub port_served : ForSome before.requests (λ port. ForSome after.requests (λ later. IsPortServed port later))
+  -- its ring gave just one item, or was found empty
+  pub ring_served : ForSome before.answers (λ ring. ForSome after.answers (λ later. IsRingServed ring later))
   -- it has passed over all that was next and is aimed at no device, and told its port to close where nothing is left
   pub aimed : (d : Line) → after.next < length after.asked.lines → (slice_index_or after.asked.lines after.next d).aimed ≡ true
   pub closes_when_due : after.next ≡ length after.asked.lines → ForSome after.requests (λ port. port.state.closing ≡ true)

@@ -7,7 +7,7 @@ use Rattle.sb_port.specs.Ports.{owes}
 use Rattle.sb_node.specs.Sides.{PortSide, RingSide, is_full, is_done, port_moves, node_moves}
 use Rattle.sb_node.specs.Turns.{IsAnswered, idle_causes}
 use Rattle.sb_node.specs.Idle.{IsIdleAt}
-use Rattle.sb_node.specs.Steps.{IsRingEmpty}
+use Rattle.sb_node.specs.Steps.{IsPortServed, IsRingEmpty, IsRingServed}
 use Rattle.sb_node.specs.declared.findings.Findings.{Findings}
 
 -- an item was popped: the host moved
@@ -57,3 +57,6 @@ pub record IsEndsTurn (ring : RingSide) (port : PortSide) (answer : Turn) (ring_
   pub idle : answer ≢ Moved → IsIdleHost port_then ring_then
   -- at most one item was popped
   pub one_item : length ring_then.received ≤ length ring.received + 1
+  -- both had their turn
+  pub port_served : IsPortServed port port_then
+  pub ring_served : IsRingServed ring ring_then

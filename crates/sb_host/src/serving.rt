@@ -44,6 +44,7 @@ fn offer_next<T: TxEnd>(desk: &mut Desk, requests: &mut OutPort<T>)
     requires ready { owes (state_of T.sent requests.old) ≡ false }
     requires some { desk.old.cursor.next < length desk.old.orders.lines.items }
     requires aimed { (d : Line) → (slice_index_or desk.old.orders.lines.items desk.old.cursor.next d).aimed ≡ true }
+    ensures end { requests.new.tx ≡ requests.old.tx }
     ensures more { port_moves (port_side T.TxEnd requests.old) < port_moves (port_side T.TxEnd requests.new) }
     ensures kept { IsKeptPort (port_side T.TxEnd requests.old) (port_side T.TxEnd requests.new) }
     ensures orders { desk.new.orders ≡ desk.old.orders }
@@ -67,6 +68,7 @@ pub(crate) fn issue_next<T: TxEnd>(
 ) -> bool
     requires in_order { (ring : RingSide) × IsInOrder (asked_of desk.old.orders) desk.old.table.rows.items desk.old.cursor.next desk.old.cursor.part desk.old.ended (port_side T.TxEnd requests.old) ring }
     requires fit { IsFit (T.planned requests.old.tx) (state_of T.sent requests.old) }
+    ensures end { requests.new.tx ≡ requests.old.tx }
     ensures issued { IsIssued (port_side T.TxEnd requests.old) (port_side T.TxEnd requests.new) found.old found.new result }
     ensures kept { IsKeptPort (port_side T.TxEnd requests.old) (port_side T.TxEnd requests.new) }
     ensures orders { desk.new.orders ≡ desk.old.orders }

@@ -5,6 +5,7 @@ use Rattle.sb_packet.specs.Accesses.{Access}
 use Rattle.sb_packet.specs.Plans.{RingPlan}
 use Rattle.sb_node.specs.Found.{IsTurnOf}
 use Rattle.sb_node.specs.Sides.{port_side, ring_side}
+use Rattle.sb_node.proofs.Serving.{served_since}
 use Rattle.sb_host.specs.Hosts.{IsInOrder}
 use Rattle.sb_host.specs.Issuing.{HasOffered, IsMadeFor}
 use Rattle.sb_host.specs.Places.{asked_of}
@@ -48,3 +49,4 @@ returns-clause-turned g c =
     (subst (λ f. IsReceived ring ring_then f r.new.found r.result) c.new-found.ensures r.ensures.received)
     s.ensures.issued c.turn_port.ensures.turned s.ensures.kept c.turn_port.ensures.kept
     (subst (λ b. IsTurnOf c.turn_port.new.found b c.turn.result) (c.is_done.ensures ∙ ap (λ (b : Bool). port_then.state.shut && b) ends) c.turn.ensures)
+    (served_since port middle port_then (ap g.T.TxEnd.sent s.ensures.end) c.turn_port.ensures.served)
