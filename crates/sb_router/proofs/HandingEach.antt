@@ -1,10 +1,10 @@
 -- Handing on what is held of one ring after another.
 use Rattle.std.proofs.Common.{◌≡◌, inl, inr, ℕ, ◌<◌, ◌≤◌, ◌+◌, ◌||◌, Bool, true, false, length, set, get_or, refl, sym, ◌∙◌, subst, arith}
-use Rattle.sb_router.specs.Lanes.{InletState, LaneState, Route, inlet_at, no_inlet}
+use Rattle.sb_router.specs.Lanes.{InletState, LaneState, OutletState, Route, inlet_at, no_inlet, no_outlet}
 use Rattle.sb_router.specs.Steps.{Step, Steps, drops, offers, none, further, emptied}
 use Rattle.sb_router.specs.Handing.{Drops, IsHanded, IsWaiting, Offers}
 use Rattle.sb_router.specs.Moves.{IsToldMoved}
-use Rattle.sb_router.specs.Turning.{HasHanded}
+use Rattle.sb_router.specs.Turning.{HasHanded, SendsNothing}
 use Rattle.sb_router.specs.Whole.{IsWholeLane}
 use Rattle.sb_router.proofs.Cases.{le_cases, or_false}
 use Rattle.sb_router.proofs.NextPlaces.{next_within}
@@ -20,6 +20,7 @@ record IsOneHanding (route : Route) (s t : LaneState) : Type 0 where
   step : Step route s t
   moved : IsToldMoved s t true
   rings : (j : ℕ) → (inlet_at t j).ring ≡ (inlet_at s j).ring
+  unsent : SendsNothing s t
 
 one_offer : {route : Route} (s t : LaneState) (i : ℕ) → IsWholeLane route s → i < length s.inlets → Offers route i s t → IsOneHanding route s t
 one_offer {route} s t i w lt offer =
@@ -28,6 +29,7 @@ one_offer {route} s t i w lt offer =
       step = offers i offer.place offer.packet offer.port lt within offer.held offer.next offer.given;
       moved = both_more s i offer.place offer.packet offer.port lt within offer.held offer.given.kept;
       rings = emptied_ring s i lt;
+      unsent = same_at_each s.outlets offer.place offer.port no_outlet within (λ (y : OutletState). y.port.state.sent) offer.given.sent;
     } in subst (λ (u : LaneState). IsOneHanding route s u) (sym offer.state) at
 
 one_drop : {route : Route} (s t : LaneState) (i : ℕ) → i < length s.inlets → Drops route i s t → IsOneHanding route s t
@@ -36,6 +38,7 @@ one_drop {route} s t i lt drop' =
       step = drops i drop'.packet lt drop'.held drop'.refused;
       moved = inlet_more s i (emptied (inlet_at s i)) lt (inlet_emptied (inlet_at s i) drop'.packet drop'.held);
       rings = emptied_ring s i lt;
+      unsent = λ o. refl;
     } in subst (λ (u : LaneState). IsOneHanding route s u) (sym drop'.state) at
 
 one_handing : {route : Route} (s t : LaneState) (i : ℕ) → IsWholeLane route s → i < length s.inlets → IsHanded route i s t true → IsOneHanding route s t
@@ -47,11 +50,12 @@ pub record HandsSoFar (route : Route) (s now : LaneState) (moved : Bool) (place 
   pub steps : Steps route s now
   pub moved_is : IsToldMoved s now moved
   pub rings : (j : ℕ) → (inlet_at now j).ring ≡ (inlet_at s j).ring
+  pub unsent : SendsNothing s now
   pub still : moved ≡ false → now ≡ s
   pub waiting : moved ≡ false → (i : ℕ) → i < place → IsWaiting route i now
 
 pub hands_none : (route : Route) (s : LaneState) → HandsSoFar route s s false 0
-hands_none route s = record { steps = none; moved_is = moved_none s; rings = λ j. refl; still = λ e. refl; waiting = λ e i lt. absurd (omega arith) }
+hands_none route s = record { steps = none; moved_is = moved_none s; rings = λ j. refl; unsent = λ o. refl; still = λ e. refl; waiting = λ e i lt. absurd (omega arith) }
 
 pub hands_more : {route : Route} {s now then : LaneState} (moved handed : Bool) {place : ℕ} → HandsSoFar route s now moved place → IsWholeLane route now → place < length now.inlets
     → IsHanded route place now then handed → HandsSoFar route s then (moved || handed) (place + 1)
@@ -61,6 +65,7 @@ hands_more {route} {s} {now} {then} moved true {place} h w lt is =
       steps = further h.steps one.step;
       moved_is = moved_then moved true h.moved_is one.moved;
       rings = λ j. one.rings j ∙ h.rings j;
+      unsent = λ o. one.unsent o ∙ h.unsent o;
       still = λ e. let two = or_false moved true e in let two' = two.1 in let no_way : ⊥ = cc in absurd no_way;
       waiting = λ e. let two = or_false moved true e in let two' = two.1 in let no_way : ⊥ = cc in absurd no_way;
     }
@@ -69,6 +74,7 @@ hands_more {route} {s} {now} {then} moved false {place} h w lt is =
       steps = h.steps;
       moved_is = moved_then moved false h.moved_is (moved_none now);
       rings = h.rings;
+      unsent = h.unsent;
       still = λ e. h.still (or_false moved false e).0;
       waiting = λ e i below. elim (le_cases i place below) [
         | inl before ↦ h.waiting (or_false moved false e).0 i before
@@ -81,6 +87,7 @@ hands_all {route} {s} {now} {moved} {place} h over = record {
   steps = h.steps;
   moved_is = h.moved_is;
   rings = h.rings;
+  unsent = h.unsent;
   still = h.still;
   waiting = λ e i lt. h.waiting e i (omega (arith, over, lt));
 }

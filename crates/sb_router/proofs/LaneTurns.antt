@@ -1,20 +1,22 @@
 -- One turn of a direction, of its parts.
-use Rattle.std.proofs.Common.{◌≡◌, ℕ, ◌<◌, ◌||◌, Bool, true, false, cond, is_some, List, [], ◌∷◌, length, map, get_or, All, Option, Some, None, refl, sym, ap, ◌∙◌, subst, arith}
+use Rattle.std.proofs.Common.{◌≡◌, ◌⊎◌, ℕ, ◌<◌, ◌≤◌, ◌+◌, ◌||◌, Bool, true, false, cond, is_some, List, [], ◌∷◌, length, map, get_or, All, Option, Some, None, refl, sym, ap, ◌∙◌, subst, arith}
 use Rattle.std.specs.List.{AllByRecursion}
 use Rattle.std.proofs.lemmas.List.{get_or_default}
 use Rattle.std.proofs.lemmas.List.Elements.{recursion_from_All}
 use Rattle.sb_link.specs.declared.answers.Cause.{Cause}
 use Rattle.sb_link.specs.declared.answers.Cause.TheVariants as causes
 use Rattle.sb_packet.specs.declared.packet.Packet.{Packet}
+use Rattle.sb_packet.specs.declared.item.Item.{Item}
 use Rattle.sb_port.specs.Ports.{owes}
 use Rattle.sb_node.specs.declared.findings.Findings.{Findings}
-use Rattle.sb_node.specs.Sides.{has_rest, is_full}
+use Rattle.sb_node.specs.Sides.{PortSide, has_rest, is_full}
+use Rattle.sb_node.specs.Steps.{IsPortServed}
 use Rattle.sb_node.specs.Turns.{empty_cause}
 use Rattle.sb_router.specs.Lanes.{InletState, LaneState, OutletState, Route, inlet_at, next_place, no_inlet, no_outlet, outlet_at}
 use Rattle.sb_router.specs.Steps.{IsSilent, Steps}
 use Rattle.sb_router.specs.Causes.{lowest}
 use Rattle.sb_router.specs.Moves.{IsToldMoved}
-use Rattle.sb_router.specs.Turning.{AwaitsFullPort, HasClosed, HasHanded, HasPopped, HasTurned, IsIdleLane, IsLaneTurn, IsSeen, IsServed, pop_cause}
+use Rattle.sb_router.specs.Turning.{AwaitsFullPort, HasClosed, HasHanded, HasPopped, HasTurned, IsIdleLane, IsLaneTurn, IsSeen, IsServed, SendsNothing, pop_cause}
 use Rattle.sb_router.specs.Whole.{IsWholeInlet, IsWholeLane}
 use Rattle.sb_router.proofs.Cases.{or_false}
 use Rattle.sb_router.proofs.KeptSteps.{steps_then}
@@ -22,6 +24,13 @@ use Rattle.sb_router.proofs.MoveSteps.{moved_then}
 use Rattle.sb_router.proofs.NextPlaces.{next_within}
 use Rattle.sb_router.proofs.Shapes.{steps_shape}
 use Rattle.sb_router.proofs.WholeSteps.{not_silent, whole_steps}
+
+-- a port that sent nothing just before its turn was served from that time on
+served_since : (x y z : PortSide) → y.state.sent ≡ x.state.sent → IsPortServed y z → IsPortServed x z
+served_since x y z e h = record {
+  one_item = subst (λ (sent : List Item). length z.state.sent ≤ length sent + 1) e h.one_item;
+  served = subst (λ (sent : List Item). (length z.state.sent ≡ length sent + 1) ⊎ ((owes z.state ≡ false) ⊎ (is_full z ≡ true))) e h.served;
+}
 
 or_none : (a : Bool) → (a || false) ≡ a
 or_none true = refl
@@ -53,6 +62,10 @@ module _ {route : Route} {s a b d t : LaneState} {popped turned : Findings} {han
 
   none_moved : ((popped.moved || handed) || turned.moved) ≡ false → (popped.moved ≡ false) × (handed ≡ false) × (turned.moved ≡ false)
   none_moved e = let two = or_false (popped.moved || handed) turned.moved e in let one = or_false popped.moved handed two.0 in (one.0, one.1, two.1)
+
+  -- no port sent anything before it was turned
+  unsent : SendsNothing s d
+  unsent o = closes.unsent o ∙ hands.unsent o ∙ ap (λ (l : List OutletState). (get_or l o no_outlet).port.state.sent) pops.outlets
 
   count_same : length t.outlets ≡ length s.outlets
   count_same = (steps_shape all_steps).outlets
@@ -95,6 +108,7 @@ module _ {route : Route} {s a b d t : LaneState} {popped turned : Findings} {han
         (subst (λ (x : Bool). IsToldMoved s d x) (or_none (popped.moved || handed)) (moved_then (popped.moved || handed) false (moved_then popped.moved handed pops.moved hands.moved_is) closes.moved)) turns.moved;
     one_item = λ i. let one = pops.one_item i in let first = ap (λ (x : InletState). length x.ring.received) (inlet_same i) in let second = ap (λ ring. length ring.received) (hands.rings i) in omega (arith, one, first, second);
     served = λ i lt. subst (λ ring. IsServed (inlet_at s i) ring) (sym (ap (λ (x : InletState). x.ring) (inlet_same i) ∙ hands.rings i)) (pops.served i lt);
+    served_ports = λ o lt. served_since (outlet_at s o).port (outlet_at d o).port (outlet_at t o).port (unsent o) (turns.served o (omega (arith, lt, count_same, (steps_shape turns.steps).outlets)));
     closed = λ silent o lt. turns.told o ∙ closes.told (subst (λ (l : List InletState). All IsSilent l) same_inlets silent) o (omega (arith, lt, (steps_shape turns.steps).outlets));
     idle = λ e. let none = none_moved e in is_idle none.0 none.1 none.2;
     full = λ e. turns.full (none_moved e).2;

@@ -258,4 +258,6 @@ module _ (down up : List (List (Option ℕ))) {p q p' q' : LaneState} {a b : Fin
     one_answer = turn_q.one_item;
     served_requests = turn_p.served;
     served_answers = turn_q.served;
+    sent_requests = turn_p.served_ports;
+    sent_answers = turn_q.served_ports;
   }

@@ -6,7 +6,7 @@ use Rattle.sb_link.specs.declared.answers.Cause.TheVariants as causes
 use Rattle.sb_port.specs.Ports.{PortState, let_go, port_accesses}
 use Rattle.sb_node.specs.declared.findings.Findings.{Findings}
 use Rattle.sb_node.specs.Sides.{PortSide, has_rest, port_moves}
-use Rattle.sb_node.specs.Steps.{IsPortTurned}
+use Rattle.sb_node.specs.Steps.{IsPortServed, IsPortTurned}
 use Rattle.sb_node.specs.Turns.{full_cause}
 use Rattle.sb_router.specs.Lanes.{LaneState, OutletState, Route, no_outlet, outlet_at}
 use Rattle.sb_router.specs.Steps.{Steps, turns, none, further}
@@ -16,6 +16,7 @@ use Rattle.sb_router.specs.Ports.{IsTurnedAt}
 use Rattle.sb_router.specs.Turning.{HasTurned, IsPortIdle}
 use Rattle.sb_router.proofs.Cases.{or_false}
 use Rattle.sb_router.proofs.Places.{ahead_same, at_each, so_far}
+use Rattle.sb_router.proofs.Shapes.{steps_shape}
 use Rattle.sb_router.proofs.Lowest.{lowest_next}
 use Rattle.sb_router.proofs.MoveSteps.{moved_none, moved_then, outlet_more, outlet_same}
 
@@ -65,6 +66,7 @@ pub record TurnsSoFar (route : Route) (s now : LaneState) (found : Findings) (pl
   pub inlets : now.inlets ≡ s.inlets
   pub moved : IsToldMoved s now found.moved
   pub told : (o : ℕ) → (outlet_at now o).port.state.closing ≡ (outlet_at s o).port.state.closing
+  pub served : (o : ℕ) → o < place → IsPortServed (outlet_at s o).port (outlet_at now o).port
   pub ahead : (o : ℕ) → place ≤ o → outlet_at now o ≡ outlet_at s o
   pub idle : found.moved ≡ false → (o : ℕ) → o < place → IsPortIdle (outlet_at s o) (outlet_at now o)
   pub full : found.moved ≡ false → found.full ≡ lowest (map outlet_cause (take place now.outlets))
@@ -75,6 +77,7 @@ turns_none route s nothing = subst (λ (f : Findings). TurnsSoFar route s s f 0)
   inlets = refl;
   moved = moved_none s;
   told = λ o. refl;
+  served = λ o lt. absurd (omega arith);
   ahead = λ o le. refl;
   idle = λ e o lt. absurd (omega arith);
   full = λ e. refl;
@@ -103,6 +106,8 @@ turns_more {route} {s} {now} {then} {found} {one} {both} {place} h lt at is =
       inlets = h.inlets;
       moved = moved_then found.moved one.moved h.moved turned.moved;
       told = at_each now.outlets place y no_outlet lt (λ o z. z.port.state.closing ≡ (outlet_at s o).port.state.closing) (at.turned.told ∙ h.told place) h.told;
+      served = so_far now.outlets place y no_outlet lt (λ o z. IsPortServed (outlet_at s o).port z.port)
+          (subst (λ (z : OutletState). IsPortServed z.port y.port) (h.ahead place (omega arith)) at.served) h.served;
       ahead = ahead_same now.outlets place y no_outlet lt (outlet_at s) h.ahead;
       idle = λ e. let two = or_false found.moved one.moved e in so_far now.outlets place y no_outlet lt (λ o z. IsPortIdle (outlet_at s o) z) (idle_here two.1) (h.idle two.0);
       full = λ e. let two = or_false found.moved one.moved e in lowest_next outlet_cause now.outlets place y found.full one.full lt (h.full two.0) (turned.cause two.1);
@@ -114,6 +119,7 @@ turns_all {route} {s} {now} {found} {place} h over = record {
   inlets = h.inlets;
   moved = h.moved;
   told = h.told;
+  served = λ o lt. h.served o (omega (arith, over, lt, (steps_shape h.steps).outlets));
   idle = λ e o lt. h.idle e o (omega (arith, over, lt));
   full = λ e. h.full e ∙ ap (λ (l : List OutletState). lowest (map outlet_cause l)) (take_all place now.outlets over);
 }

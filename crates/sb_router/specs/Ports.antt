@@ -1,6 +1,6 @@
 -- What is done to the port at a place of a direction.
 use Rattle.std.specs.Prelude.{◌≡◌, ℕ, false, set}
-use Rattle.sb_node.specs.Steps.{IsPortTurned}
+use Rattle.sb_node.specs.Steps.{IsPortServed, IsPortTurned}
 use Rattle.sb_node.specs.declared.findings.Findings.{Findings}
 use Rattle.sb_router.specs.Causes.{nothing_found}
 use Rattle.sb_router.specs.Lanes.{LaneState, OutletState, outlet_at}
@@ -17,4 +17,5 @@ pub record IsTurnedAt (o : ℕ) (s t : LaneState) (found : Findings) : Type 0 wh
   pub port : OutletState
   pub turned : IsTurned (outlet_at s o) port
   pub finds : IsPortTurned false (outlet_at s o).port port.port nothing_found found
+  pub served : IsPortServed (outlet_at s o).port port.port
   pub state : t ≡ record s { outlets = set s.outlets o port }

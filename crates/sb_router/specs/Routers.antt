@@ -11,7 +11,7 @@ use Rattle.sb_router.specs.Steps.{IsSilent}
 use Rattle.sb_router.specs.Whole.{IsWholeLane}
 use Rattle.sb_router.specs.Moves.{lane_moves}
 use Rattle.sb_router.specs.Causes.{lowest}
-use Rattle.sb_router.specs.Turning.{IsIdleLane, OneItemEach, ServesEach}
+use Rattle.sb_router.specs.Turning.{IsIdleLane, OneItemEach, ServesEach, ServesPorts}
 use Rattle.sb_router.specs.Kept.{IsKeptLane, kept_lane_same, kept_lane_then}
 use Rattle.sb_router.specs.Forwarding.{Forwards, IsLaid, Words}
 
@@ -79,6 +79,9 @@ pub record IsRouterTurn (before : RouterSide) (answer : Turn) (after : RouterSid
   -- and just one where something waited, the ring was open, and nothing of it was held
   pub served_requests : ServesEach before.requests.lane after.requests.lane
   pub served_answers : ServesEach before.answers.lane after.answers.lane
+  -- by each port at most one item was sent, and just one unless it owes nothing then or its ring is full
+  pub sent_requests : ServesPorts before.requests.lane after.requests.lane
+  pub sent_answers : ServesPorts before.answers.lane after.answers.lane
 
 -- nothing happened to a router
 pub kept_router_same : (r : RouterSide) → IsKeptRouter r r

@@ -47,6 +47,7 @@ pub record IsGiven (before after : OutletState) (p : Packet) : Type 0 where
   pub number : after.number ≡ before.number
   pub passes : MayPass before.port.plan (length (offered_words before.port)) (message_of p)
   pub words : offered_words after.port ≡ offered_words before.port ++ accesses_of p
+  pub sent : after.port.state.sent ≡ before.port.state.sent
   pub kept : IsKeptPort before.port after.port
   pub fit : IsFit after.port.plan after.port.state
   pub untold : after.port.state.closing ≡ false

@@ -5,6 +5,7 @@ use Rattle.sb_link.specs.declared.answers.Cause.TheVariants as causes
 use Rattle.sb_packet.specs.declared.packet.Packet.{Packet}
 use Rattle.sb_port.specs.Ports.{owes}
 use Rattle.sb_node.specs.Sides.{RingSide, has_rest, is_drained, is_full}
+use Rattle.sb_node.specs.Steps.{IsPortServed, IsRingServed}
 use Rattle.sb_node.specs.Turns.{empty_cause, full_cause}
 use Rattle.sb_node.specs.declared.findings.Findings.{Findings}
 use Rattle.sb_router.specs.Lanes.{InletState, LaneState, OutletState, Route, inlet_at, next_place, outlet_at}
@@ -23,11 +24,19 @@ OneItemEach s t = (i : ℕ) → length (inlet_at t i).ring.received ≤ length (
 
 -- by a ring that was open, and of which nothing was held, an item came, or it was found empty
 abbrev pub IsServed : InletState → RingSide → Type 0
-IsServed before ring = before.ended ≡ false → before.held ≡ None → (length ring.received ≡ length before.ring.received + 1) ⊎ (is_drained ring ≡ true)
+IsServed before ring = before.ended ≡ false → before.held ≡ None → IsRingServed before.ring ring
 
 -- so it is with each ring
 abbrev pub ServesEach : LaneState → LaneState → Type 0
 ServesEach s t = (i : ℕ) → i < length s.inlets → IsServed (inlet_at s i) (inlet_at t i).ring
+
+-- by each port at most one item was sent, and just one unless it owes nothing then or its ring is full
+abbrev pub ServesPorts : LaneState → LaneState → Type 0
+ServesPorts s t = (o : ℕ) → o < length s.outlets → IsPortServed (outlet_at s o).port (outlet_at t o).port
+
+-- no port sent anything
+abbrev pub SendsNothing : LaneState → LaneState → Type 0
+SendsNothing s t = (o : ℕ) → (outlet_at t o).port.state.sent ≡ (outlet_at s o).port.state.sent
 
 -- what was found by a pop of a ring that is empty
 abbrev pub pop_cause : InletState → Option Cause
@@ -48,6 +57,7 @@ pub record HasHanded (route : Route) (s t : LaneState) (moved : Bool) : Type 0 w
   pub steps : Steps route s t
   pub moved_is : IsToldMoved s t moved
   pub rings : (i : ℕ) → (inlet_at t i).ring ≡ (inlet_at s i).ring
+  pub unsent : SendsNothing s t
   pub still : moved ≡ false → t ≡ s
   pub waiting : moved ≡ false → (i : ℕ) → i < length t.inlets → IsWaiting route i t
 
@@ -56,6 +66,7 @@ pub record HasClosed (route : Route) (s t : LaneState) : Type 0 where
   pub steps : Steps route s t
   pub inlets : t.inlets ≡ s.inlets
   pub moved : IsToldMoved s t false
+  pub unsent : SendsNothing s t
   pub told : All IsSilent s.inlets → (o : ℕ) → o < length t.outlets → (outlet_at t o).port.state.closing ≡ true
   pub untold : (All IsSilent s.inlets → ⊥) → t ≡ s
 
@@ -70,6 +81,7 @@ pub record HasTurned (route : Route) (s t : LaneState) (found : Findings) : Type
   pub inlets : t.inlets ≡ s.inlets
   pub moved : IsToldMoved s t found.moved
   pub told : (o : ℕ) → (outlet_at t o).port.state.closing ≡ (outlet_at s o).port.state.closing
+  pub served : ServesPorts s t
   pub idle : found.moved ≡ false → (o : ℕ) → o < length t.outlets → IsPortIdle (outlet_at s o) (outlet_at t o)
   pub full : found.moved ≡ false → found.full ≡ lowest (map (λ y. full_cause y.port) t.outlets)
 
@@ -97,6 +109,8 @@ pub record IsLaneTurn (route : Route) (s t : LaneState) (found : Findings) : Typ
   -- each ring is popped where nothing of it is held
   pub one_item : OneItemEach s t
   pub served : ServesEach s t
+  -- each port is turned once
+  pub served_ports : ServesPorts s t
   -- all ports were told to close once nothing more comes
   pub closed : All IsSilent t.inlets → (o : ℕ) → o < length t.outlets → (outlet_at t o).port.state.closing ≡ true
   pub idle : found.moved ≡ false → IsIdleLane route t

@@ -3,7 +3,7 @@
 ghost use Rattle.std.specs.Prelude.{◌≡◌, false, not};
 ghost use Rattle.std.specs.List.{list_all};
 ghost use Rattle.sb_port.specs.Ports.{owes};
-ghost use Rattle.sb_node.specs.Steps.{IsHandedOn, IsPortTurned};
+ghost use Rattle.sb_node.specs.Steps.{IsHandedOn, IsPortServed, IsPortTurned};
 ghost use Rattle.sb_router.specs.Causes.{nothing_found};
 ghost use Rattle.sb_router.specs.OutletOf.{outlet_of};
 ghost use Rattle.sb_router.specs.Sending.{IsHandedTo};
@@ -20,6 +20,7 @@ pub fn turn_outlet<T: TxEnd>(seat: &mut Seat<OutPort<T>>) -> Findings
     requires whole { IsWholeOutlet (outlet_of T.TxEnd seat.old) }
     ensures turned { IsTurned (outlet_of T.TxEnd seat.old) (outlet_of T.TxEnd seat.new) }
     ensures found { IsPortTurned false (outlet_of T.TxEnd seat.old).port (outlet_of T.TxEnd seat.new).port nothing_found result }
+    ensures served { IsPortServed (outlet_of T.TxEnd seat.old).port (outlet_of T.TxEnd seat.new).port }
 {
     let mut found = Findings::new();
     let Some(port) = &mut seat.end else {

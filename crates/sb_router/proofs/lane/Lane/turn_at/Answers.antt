@@ -1,7 +1,7 @@
 -- turn_at: the port at the place is turned, and no other one.
 use Rattle.std.proofs.Common.{sym, ap, subst, List, arith, false}
 use Rattle.std.proofs.lemmas.List.{map-set}
-use Rattle.sb_node.specs.Steps.{IsPortTurned}
+use Rattle.sb_node.specs.Steps.{IsPortServed, IsPortTurned}
 use Rattle.sb_router.specs.Causes.{nothing_found}
 use Rattle.sb_router.specs.Lanes.{LaneState, OutletState, no_outlet}
 use Rattle.sb_router.specs.LaneOf.{lane_of}
@@ -25,5 +25,6 @@ returns-clause-turned g c =
       port = outlet_of g.T.TxEnd c.turn_outlet.new.seat;
       turned = subst (λ y. IsTurned y (outlet_of g.T.TxEnd c.turn_outlet.new.seat)) (sym at) c.turn_outlet.ensures.turned;
       finds = subst (λ y. IsPortTurned false y.port (outlet_of g.T.TxEnd c.turn_outlet.new.seat).port nothing_found c.turn_outlet.result) (sym at) c.turn_outlet.ensures.found;
+      served = subst (λ y. IsPortServed y.port (outlet_of g.T.TxEnd c.turn_outlet.new.seat).port) (sym at) c.turn_outlet.ensures.served;
       state = ap (λ (outlets : List OutletState). (let t : LaneState = record s { outlets = outlets } in t)) (map-set (outlet_of g.T.TxEnd) list.items c.args.place c.turn_outlet.new.seat);
     }
