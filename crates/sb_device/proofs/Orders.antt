@@ -20,12 +20,13 @@ use Rattle.sb_packet.proofs.Opcodes.{some_words}
 use Rattle.sb_port.specs.Ports.{PortState, port_accesses}
 use Rattle.sb_node.specs.Sides.{PortSide, RingSide, offered_words, received_words}
 use Rattle.sb_node.specs.Steps.{IsOffered, IsDropped}
+use Rattle.sb_node.proofs.Items.{item_more, packet_behind, close_behind}
 use Rattle.sb_device.specs.Plans.{IsPlannedFor, IsInOrder}
 use Rattle.sb_device.specs.Served.{entry_accesses, entry_packets, item_packets, answers_to, AreSound, HasServed}
 use Rattle.sb_device.specs.Steps.{IsServedBy, IsUnanswered, IsReplied}
 use Rattle.sb_device.proofs.SoundAnswers.{sound_answer}
 use Rattle.sb_device.proofs.PlannedPackets.{answer_planned}
-use Rattle.sb_device.proofs.Requests.{entry_more, item_more, front_sound, served_and_offered, served_and_dropped}
+use Rattle.sb_device.proofs.Requests.{entry_more, front_sound, served_and_offered, served_and_dropped}
 
 -- as many words as a packet's command counts
 word_total : (p : Packet) → length (accesses_of p) ≡ (message_of p).count
@@ -34,17 +35,6 @@ word_total p = length-map-range_with_len (access_at (message_of p)) 0 (message_o
 -- a packet has a word
 some_accesses : (p : Packet) → 0 < length (accesses_of p)
 some_accesses p = let some = some_words p.cmd.op p.cmd.len in let total = word_total p in omega (arith, some, total)
-
--- a packet more doesn't end a ring, and a Close does
-packet_behind : (list : List Item) (p : Packet) → has_close (list ++ items.Packet p ∷ []) ≡ has_close list
-packet_behind [] p = refl
-packet_behind (items.Packet q ∷ list) p = packet_behind list p
-packet_behind (items.Close ∷ list) p = refl
-
-close_behind : (list : List Item) → has_close (list ++ items.Close ∷ []) ≡ true
-close_behind [] = refl
-close_behind (items.Packet q ∷ list) = close_behind list
-close_behind (items.Close ∷ list) = refl
 
 -- the packets of two lists of items, one behind the other
 packets_joined : (xs ys : List Item) → item_packets (xs ++ ys) ≡ item_packets xs ++ item_packets ys

@@ -3,28 +3,24 @@ use Rattle.std.proofs.Common.{◌≡◌, ◌≤◌, ◌+◌, List, [], ◌∷◌
 use Rattle.std.specs.Prelude.{Some, None, filter_map, All}
 use Rattle.std.proofs.lemmas.Grind.{flat_map-append}
 use Rattle.std.proofs.lemmas.List.Elements.{filter_map-append, All-nil, All-cons, All-head, All-tail}
-use Rattle.sb_packet.specs.Accesses.{Access, accesses_of, accesses_of_item}
+use Rattle.sb_packet.specs.Accesses.{Access, accesses_of}
 use Rattle.sb_packet.specs.Memories.{MemoryState, memory_after, answers_in}
 use Rattle.sb_packet.specs.Messages.{message_of}
 use Rattle.sb_packet.specs.Prefixes.{IsSubsequence}
 use Rattle.sb_packet.specs.Soundness.{IsSound}
-use Rattle.sb_packet.specs.Traffic.{item_accesses, item_messages}
+use Rattle.sb_packet.specs.Traffic.{item_messages}
 use Rattle.sb_packet.specs.declared.entry.Entry.{Entry}
 use Rattle.sb_packet.specs.declared.packet.Packet.{Packet}
 use Rattle.sb_packet.specs.declared.item.Item.{Item}
 use Rattle.sb_packet.specs.declared.item.Item.TheVariants as items
 use Rattle.sb_packet.proofs.FoundAnswers.{answers_in-append, memory_after-append}
 use Rattle.sb_node.specs.Sides.{PortSide, RingSide, offered_words}
+use Rattle.sb_node.proofs.Subsequences.{more_kept, more_left_out}
 use Rattle.sb_device.specs.Served.{entry_accesses, answers_to, AreSound, HasServed}
-use Rattle.sb_device.proofs.Subsequences.{more_left_out, more_kept}
 
 -- an entry more, and so the words of its packet
 pub entry_more : (journal : List Entry) (e : Entry) → entry_accesses (journal ++ e ∷ []) ≡ entry_accesses journal ++ accesses_of e.packet
 entry_more journal e = flat_map-append (λ e. accesses_of e.packet) journal (e ∷ []) ∙ ap (λ xs. entry_accesses journal ++ xs) (append-nil (accesses_of e.packet))
-
--- an item more, and so its words
-pub item_more : (list : List Item) (item : Item) → item_accesses (list ++ item ∷ []) ≡ item_accesses list ++ accesses_of_item item
-item_more list item = flat_map-append accesses_of_item list (item ∷ []) ∙ ap (λ xs. item_accesses list ++ xs) (append-nil (accesses_of_item item))
 
 -- what is found in a list of places that are all filled, or all empty
 pub all_found : (xs : List Access) → filter_map (λ answer. answer) (map Some xs) ≡ xs

@@ -12,16 +12,16 @@ use Rattle.sb_packet.specs.declared.item.Item.{Item}
 use Rattle.sb_port.specs.Ports.{PortState, IsFit}
 use Rattle.sb_node.specs.Sides.{PortSide, RingSide, offered_words}
 use Rattle.sb_node.specs.Kept.{IsRestoredPort, IsRestoredRing}
+use Rattle.sb_node.proofs.Subsequences.{same_subsequence}
 use Rattle.sb_device.specs.Served.{HasServed}
 use Rattle.sb_device.specs.Plans.{IsInOrder}
 use Rattle.sb_device.specs.Devices.{DeviceSide, IsWholeDevice, Serves}
-use Rattle.sb_device.proofs.Subsequences.{all_kept}
 
 -- a device that has served nothing
 nothing_served : (m : MemoryState) (ring : RingSide) (port : PortSide) → offered_words port ≡ [] → HasServed m m [] ring port
 nothing_served m ring port none = record {
   stepped = refl;
-  answered_some = subst (λ (xs : List Access). IsSubsequence xs []) (sym none) (all_kept []);
+  answered_some = subst (λ (xs : List Access). IsSubsequence xs []) (sym none) (same_subsequence []);
   answered_all = λ sound few. none;
 }
 

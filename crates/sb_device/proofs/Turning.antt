@@ -1,34 +1,21 @@
 -- What a turn answers, by what the ring and the port did in it.
 use Rattle.std.proofs.Common.{◌≡◌, ◌⊎◌, inl, inr, ⊎_elim, ℕ, ◌+◌, ◌≤◌, Bool, true, false, true≢false, List, [], ◌∷◌, length, refl, sym, ap, ◌∙◌, subst, arith}
-use Rattle.std.specs.Prelude.{◌&&◌, Option, Some, None, All, if◌then◌else◌}
-use Rattle.std.proofs.lemmas.List.Elements.{All-nil, All-cons}
+use Rattle.std.specs.Prelude.{◌&&◌, Option, Some, None, if◌then◌else◌}
 use Rattle.sb_link.specs.declared.answers.Turn.{Turn}
 use Rattle.sb_link.specs.declared.answers.Cause.{Cause}
 use Rattle.sb_link.specs.declared.answers.Cause.TheVariants as causes
 use Rattle.sb_packet.specs.declared.item.Item.{Item}
 use Rattle.sb_port.specs.Waiting.{some_owed}
-use Rattle.sb_port.specs.Ports.{PortState, IsFit, owes}
-use Rattle.sb_node.specs.Sides.{PortSide, RingSide, has_rest, is_full, is_drained, has_ended, is_done, port_moves, node_moves}
+use Rattle.sb_port.specs.Ports.{IsFit, owes}
+use Rattle.sb_node.specs.Sides.{PortSide, RingSide, has_rest, is_full, is_drained, has_ended, is_done, node_moves}
 use Rattle.sb_node.specs.Kept.{IsKeptPort}
 use Rattle.sb_node.specs.Turns.{first_cause, empty_cause, idle_causes}
 use Rattle.sb_node.specs.Idle.{IsIdleAt}
 use Rattle.sb_node.specs.Found.{or_else, IsTurnOf}
-use Rattle.sb_node.specs.Steps.{IsPortServed, IsPortTurned, HasPortMoved, IsPortFull, IsPortClear, IsRingEmpty, IsRingServed}
+use Rattle.sb_node.specs.Steps.{IsPortServed, IsPortTurned, HasPortMoved, IsPortFull, IsPortClear, IsRingEmpty, IsRingServed, HasPopped, IsBlockedPort}
 use Rattle.sb_node.specs.declared.findings.Findings.{Findings}
-use Rattle.sb_node.proofs.Answering.{HasGone, HasStood, answered_by, moves_kept, untold}
-use Rattle.sb_device.specs.Steps.{IsRingHandled, HasPopped, IsBlockedPort, IsEndsTurn}
-
--- nothing was found yet
-abbrev pub no_findings : Findings
-no_findings = record { moved = false; full = None; waits = None; empty = None }
-
--- how much went through one ring and one port
-moves_of_two : (port : PortSide) (ring : RingSide) → node_moves (port ∷ []) (ring ∷ []) ≡ port_moves port + length ring.received
-moves_of_two port ring = omega arith
-
--- a port did as much as another one in the same state
-same_moves : (port port_then : PortSide) → port_then.state ≡ port.state → port_moves port_then ≡ port_moves port
-same_moves port port_then same = ap (λ (s : PortState). port_moves (record port { state = s })) same
+use Rattle.sb_node.proofs.Answering.{HasGone, HasStood, answered_by, moves_kept, untold, moves_of_two, no_findings, one_of, same_moves}
+use Rattle.sb_device.specs.Steps.{IsRingHandled, IsEndsTurn}
 
 -- a device is done where its port sent its Close, since it tells the port to where its ring gave Close
 done_by_port : (port : PortSide) (ring : RingSide) → IsFit port.plan port.state → port.state.closing ≡ has_ended ring → is_done (port ∷ []) (ring ∷ []) ≡ port.state.shut
@@ -37,10 +24,6 @@ done_by_port port ring fit closes = by_shut port.state.shut (has_ended ring) (λ
   by_shut true true f = refl
   by_shut true false f = absurd (true≢false (sym (f refl)))
   by_shut false ended f = refl
-
--- a list of one
-one_of : {A : Type 0} (P : A → Type 0) (x : A) → P x → All P (x ∷ [])
-one_of P x p = All-cons P x [] p (All-nil P)
 
 module _ (ring ring_then : RingSide) (port port_then : PortSide) where
   -- how much went through the device before the turn, and after it

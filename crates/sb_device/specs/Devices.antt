@@ -13,10 +13,9 @@ use Rattle.sb_node.specs.Sides.{PortSide, RingSide, present, is_done, node_moves
 use Rattle.sb_node.specs.Kept.{IsKeptPort, IsKeptRing, IsKeptAt, kept_port_same, kept_port_then, kept_ring_same, kept_ring_then, kept_at_same, kept_at_then}
 use Rattle.sb_node.specs.Turns.{IsAnswered, idle_causes}
 use Rattle.sb_node.specs.Idle.{IsIdleAt}
-use Rattle.sb_node.specs.Steps.{IsPortServed, IsRingServed}
+use Rattle.sb_node.specs.Steps.{IsBlockedPort, IsPortServed, IsRingServed}
 use Rattle.sb_device.specs.Served.{HasServed}
 use Rattle.sb_device.specs.Plans.{IsInOrder}
-use Rattle.sb_device.specs.Steps.{IsBlockedPort}
 
 -- a device, as rounds see it
 pub record DeviceSide : Type 0 where

@@ -7,10 +7,10 @@ use Rattle.sb_packet.specs.Memories.{MemoryState}
 use Rattle.sb_packet.specs.declared.packet.Packet.{Packet}
 use Rattle.sb_mem.specs.AnswerPackets.{IsAnswerTo}
 use Rattle.sb_port.specs.Ports.{owes}
-use Rattle.sb_node.specs.Sides.{PortSide, RingSide, offered_words, is_full, is_done, node_moves}
+use Rattle.sb_node.specs.Sides.{PortSide, RingSide, offered_words, is_done, node_moves}
 use Rattle.sb_node.specs.Turns.{IsAnswered, idle_causes}
 use Rattle.sb_node.specs.Idle.{IsIdleAt}
-use Rattle.sb_node.specs.Steps.{IsHandedOn, IsPortServed, IsRingEmpty, IsRingServed}
+use Rattle.sb_node.specs.Steps.{IsHandedOn, IsPortServed, IsRingEmpty, IsRingServed, HasPopped, IsBlockedPort}
 use Rattle.sb_node.specs.declared.findings.Findings.{Findings}
 use Rattle.sb_device.specs.Served.{answers_to}
 
@@ -30,11 +30,6 @@ pub record IsReplied (m : MemoryState) (before after : PortSide) (request : Pack
 abbrev pub IsServedBy : MemoryState → PortSide → PortSide → Packet → Type 0
 IsServedBy m before after request = IsUnanswered m before after request ⊎ IsReplied m before after request
 
--- an item was popped: the device moved
-pub record HasPopped (ring ring_then : RingSide) (found found_then : Findings) : Type 0 where
-  pub one : length ring_then.received ≡ length ring.received + 1
-  pub found_move : found_then ≡ record found { moved = true }
-
 -- the port wasn't ready, and the ring was left
 pub record HasWaited (ring ring_then : RingSide) (port port_then : PortSide) (found found_then : Findings) : Type 0 where
   pub owing : owes port.state ≡ true
@@ -52,11 +47,6 @@ pub record HasFoundNone (ring ring_then : RingSide) (port port_then : PortSide) 
 abbrev pub IsRingHandled : RingSide → RingSide → PortSide → PortSide → Findings → Findings → Bool → Type 0
 IsRingHandled ring ring_then port port_then found found_then true = HasPopped ring ring_then found found_then
 IsRingHandled ring ring_then port port_then found found_then false = HasWaited ring ring_then port port_then found found_then ⊎ HasFoundNone ring ring_then port port_then found found_then
-
--- a device leaves its ring while its port owes an item, and the port's ring is full
-pub record IsBlockedPort (port : PortSide) : Type 0 where
-  pub owing : owes port.state ≡ true
-  pub full : is_full port ≡ true
 
 -- What one turn did at a device's two ends, and answers.
 pub record IsEndsTurn (ring : RingSide) (port : PortSide) (answer : Turn) (ring_then : RingSide) (port_then : PortSide) : Type 0 where

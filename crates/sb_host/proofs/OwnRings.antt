@@ -17,18 +17,13 @@ use Rattle.sb_flow.specs.Accepted.{IsAccepted}
 use Rattle.sb_flow.specs.Ends.{is_width_now}
 use Rattle.sb_flow.specs.Limits.{is_limited, is_limited_host}
 use Rattle.sb_flow.specs.Ranges.{is_placed_device}
+use Rattle.sb_flow.proofs.AcceptedLinks.{got_below}
 use Rattle.sb_flow.proofs.Clashes.{all_pass}
 use Rattle.sb_host.specs.Asked.{asked_by}
 use Rattle.sb_host.specs.Issuing.{IsMadeFor}
 use Rattle.sb_host.proofs.Beginning.{host_limits, limits_of, passes_at}
 use Rattle.sb_host.proofs.MadeRings.{place_below, planned_host}
 use Rattle.sb_host.proofs.OwnBudget.{words_within}
-
--- what is got is in the list
-got_below : {X : Type 0} (xs : List X) (i : ℕ) (x : X) → slice_get xs i ≡ Some x → i < length xs
-got_below [] i x e = absurd (cc)
-got_below (y ∷ xs) zero x e = omega arith
-got_below (y ∷ xs) (suc i) x e = let rest = got_below xs i x e in omega (arith, rest)
 
 -- what all pass in a list one passes
 pass_at : {X : Type 0} (p : X → Bool) (xs : List X) (i : ℕ) (d : X) → AllByRecursion (λ x. p x ≡ true) xs → i < length xs → p (get_or xs i d) ≡ true

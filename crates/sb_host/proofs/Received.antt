@@ -1,32 +1,15 @@
 -- A host stays in order where an item comes in.
-use Rattle.std.proofs.Common.{◌≡◌, List, [], ◌∷◌, ◌++◌, Bool, true, ℕ, refl, sym, ap, subst, ◌∙◌, append-nil}
-use Rattle.std.proofs.lemmas.Grind.{flat_map-append}
-use Rattle.sb_packet.specs.Accesses.{Access, accesses_of, accesses_of_item}
+use Rattle.std.proofs.Common.{◌≡◌, List, [], ◌∷◌, ◌++◌, Bool, true, ℕ, sym, ap, subst, ◌∙◌, append-nil}
+use Rattle.sb_packet.specs.Accesses.{Access, accesses_of}
 use Rattle.sb_packet.specs.Traffic.{has_close, item_accesses}
-use Rattle.sb_packet.specs.declared.item.Item.{Item}
 use Rattle.sb_packet.specs.declared.item.Item.TheVariants as items
 use Rattle.sb_packet.specs.declared.packet.Packet.{Packet}
 use Rattle.sb_node.specs.Sides.{PortSide, RingSide, received_words}
+use Rattle.sb_node.proofs.Items.{item_more, packet_behind, close_behind}
 use Rattle.sb_host.specs.declared.row.Row.{Row}
 use Rattle.sb_host.specs.Asked.{Asked}
 use Rattle.sb_host.specs.Hosts.{IsInOrder}
 use Rattle.sb_host.specs.Rows.{IsTable}
-
--- the words of items and of one more
-pub item_more : (list : List Item) (item : Item) → item_accesses (list ++ item ∷ []) ≡ item_accesses list ++ accesses_of_item item
-item_more list item = flat_map-append accesses_of_item list (item ∷ []) ∙ ap (λ (rest : List Access). item_accesses list ++ rest) (append-nil (accesses_of_item item))
-
--- a packet ends no ring
-packet_behind : (list : List Item) (p : Packet) → has_close (list ++ items.Packet p ∷ []) ≡ has_close list
-packet_behind [] p = refl
-packet_behind (items.Packet q ∷ rest) p = packet_behind rest p
-packet_behind (items.Close ∷ rest) p = refl
-
--- a Close does
-close_behind : (list : List Item) → has_close (list ++ items.Close ∷ []) ≡ true
-close_behind [] = refl
-close_behind (items.Packet q ∷ rest) = close_behind rest
-close_behind (items.Close ∷ rest) = refl
 
 module _ (asked : Asked) (next part : ℕ) (ended : Bool) (port : PortSide) (ring ring_then : RingSide) where
   -- a packet came, and the table took it

@@ -1,7 +1,6 @@
 -- What a turn answers, by what the ring and the port did in it.
 use Rattle.std.proofs.Common.{◌≡◌, ◌⊎◌, inl, inr, ⊎_elim, ℕ, ◌+◌, ◌≤◌, Bool, true, false, true≢false, List, [], ◌∷◌, length, refl, sym, ap, ◌∙◌, subst, arith}
-use Rattle.std.specs.Prelude.{◌&&◌, Option, Some, None, All, if◌then◌else◌}
-use Rattle.std.proofs.lemmas.List.Elements.{All-nil, All-cons}
+use Rattle.std.specs.Prelude.{◌&&◌, Option, Some, None, if◌then◌else◌}
 use Rattle.sb_link.specs.declared.answers.Turn.{Turn}
 use Rattle.sb_link.specs.declared.answers.Cause.{Cause}
 use Rattle.sb_link.specs.declared.answers.Cause.TheVariants as causes
@@ -14,24 +13,8 @@ use Rattle.sb_node.specs.Turns.{first_cause, empty_cause, idle_causes}
 use Rattle.sb_node.specs.Found.{or_else, IsTurnOf}
 use Rattle.sb_node.specs.Steps.{IsPortServed, IsPortTurned, HasPortMoved, IsPortFull, IsPortClear, IsRingEmpty, IsRingServed}
 use Rattle.sb_node.specs.declared.findings.Findings.{Findings}
-use Rattle.sb_node.proofs.Answering.{HasGone, HasStood, answered_by, moves_kept, untold}
+use Rattle.sb_node.proofs.Answering.{HasGone, HasStood, answered_by, moves_kept, untold, moves_of_two, no_findings, one_of, same_moves}
 use Rattle.sb_host.specs.Steps.{HasOfferedNone, HasOfferedOne, IsEndsTurn, IsIdleHost, IsIssued, IsReceived, waits_for}
-
--- nothing was found yet
-abbrev pub no_findings : Findings
-no_findings = record { moved = false; full = None; waits = None; empty = None }
-
--- how much went through one port and one ring
-moves_of_two : (port : PortSide) (ring : RingSide) → node_moves (port ∷ []) (ring ∷ []) ≡ port_moves port + length ring.received
-moves_of_two port ring = omega arith
-
--- a port did as much as another one in the same state
-same_moves : (port port_then : PortSide) → port_then.state ≡ port.state → port_moves port_then ≡ port_moves port
-same_moves port port_then same = ap (λ (s : PortState). port_moves (record port { state = s })) same
-
--- a list of one
-one_of : {A : Type 0} (P : A → Type 0) (x : A) → P x → All P (x ∷ [])
-one_of P x p = All-cons P x [] p (All-nil P)
 
 -- a host is done where its port sent its Close, and its ring gave one
 pub done_by_both : (port : PortSide) (ring : RingSide) → is_done (port ∷ []) (ring ∷ []) ≡ (port.state.shut && has_ended ring)

@@ -4,16 +4,11 @@ use Rattle.sb_link.specs.declared.answers.Turn.{Turn}
 use Rattle.sb_link.specs.declared.answers.Turn.TheVariants.{Moved}
 use Rattle.sb_link.specs.declared.answers.Cause.{Cause}
 use Rattle.sb_port.specs.Ports.{owes}
-use Rattle.sb_node.specs.Sides.{PortSide, RingSide, is_full, is_done, port_moves, node_moves}
+use Rattle.sb_node.specs.Sides.{PortSide, RingSide, is_done, port_moves, node_moves}
 use Rattle.sb_node.specs.Turns.{IsAnswered, idle_causes}
 use Rattle.sb_node.specs.Idle.{IsIdleAt}
-use Rattle.sb_node.specs.Steps.{IsPortServed, IsRingEmpty, IsRingServed}
+use Rattle.sb_node.specs.Steps.{IsPortServed, IsRingEmpty, IsRingServed, HasPopped, IsBlockedPort}
 use Rattle.sb_node.specs.declared.findings.Findings.{Findings}
-
--- an item was popped: the host moved
-pub record HasPopped (ring ring_then : RingSide) (found found_then : Findings) : Type 0 where
-  pub one : length ring_then.received ≡ length ring.received + 1
-  pub found_move : found_then ≡ record found { moved = true }
 
 -- What a host did with its ring: it says whether it popped.
 abbrev pub IsReceived : RingSide → RingSide → Findings → Findings → Bool → Type 0
@@ -40,15 +35,11 @@ IsIssued port port_then found found_then false = HasOfferedNone port port_then f
 abbrev pub waits_for : Option Cause
 waits_for = None
 
--- a host that has packets left waits at its port, which owes an item, and whose ring is full
-pub record IsBlockedHost (port : PortSide) : Type 0 where
-  pub owing : owes port.state ≡ true
-  pub full : is_full port ≡ true
-
 -- What holds of a host after a turn in which it did nothing. It leaves no ring that isn't empty.
 pub record IsIdleHost (port : PortSide) (ring : RingSide) : Type 0 where
   pub at_rest : IsIdleAt (λ ring. ⊥) (port ∷ []) (ring ∷ [])
-  pub open_host_is_blocked : port.state.closing ≡ false → IsBlockedHost port
+  -- a host that has packets left waits at its port
+  pub open_host_is_blocked : port.state.closing ≡ false → IsBlockedPort port
 
 -- What one turn did at a host's two ends, and answers.
 pub record IsEndsTurn (ring : RingSide) (port : PortSide) (answer : Turn) (ring_then : RingSide) (port_then : PortSide) : Type 0 where

@@ -19,7 +19,10 @@ use Rattle.sb_net.specs.Moments.{Moment, arrived, ClosesLast}
 use Rattle.sb_net.specs.Courses.{Course, way_of, budget_over, came_for, AlongWay}
 use Rattle.sb_net.specs.Promises.{IsLink, IsPort, Forwards, Offers, KeepsPromises, KeepsOrder}
 use Rattle.sb_net.specs.Arrivals.{BeginsSources, PicksSources, CarriesSources, HasEnded}
-use Rattle.sb_net.proofs.Prefixes.{front_prefix, prefix_then, IsPrefix-filter, length-prefix, All-prefix, subsequence_then, length-subsequence, prefix_subsequence}
+use Rattle.sb_node.specs.Kept.{begins_further}
+use Rattle.sb_node.proofs.Answering.{prefix_length}
+use Rattle.sb_node.proofs.Subsequences.{subsequence_then}
+use Rattle.sb_net.proofs.Prefixes.{front_prefix, IsPrefix-filter, All-prefix, length-subsequence, prefix_subsequence}
 use Rattle.sb_net.proofs.Budgets.{IsModest, came_within}
 use Rattle.sb_net.proofs.Ways.{at_number, All-at_ring}
 
@@ -49,16 +52,16 @@ module _ (network : Network) (c : Course) (m : Moment) (links : (r : ℕ) → Is
   -- what came of a flow by a ring begins what the port in front of it was offered of the flow
   pub ring_prefix : (f : NetFlow) (r : ℕ) → IsPrefix (words_of network f (arrived m r)) (words_of network f (m.offered r))
   ring_prefix f r = IsPrefix-filter (is_of network f)
-      (prefix_then (IsPrefix-item_accesses (links r).in_order) (ports r).in_order)
+      (begins_further (IsPrefix-item_accesses (links r).in_order) (ports r).in_order)
 
   -- no more of a flow comes by any ring than its first port was offered
   pub counts_along : (f : NetFlow) (most k : ℕ) (js : List ℕ) → AlongWay (Forwards network c m f) k js → length (words_of network f (m.offered k)) ≤ most →
       All (λ r. length (words_of network f (arrived m r)) ≤ most) (k ∷ js)
   counts_along f most k [] ways h =
-      let few = length-prefix (ring_prefix f k) in
+      let few = prefix_length (ring_prefix f k) in
       All-cons (λ r. length (words_of network f (arrived m r)) ≤ most) k [] (omega arith) (All-nil (λ r. length (words_of network f (arrived m r)) ≤ most))
   counts_along f most k (j ∷ js) ways h =
-      let few = length-prefix (ring_prefix f k) in
+      let few = prefix_length (ring_prefix f k) in
       let next = length-subsequence ways.0.in_order in
       All-cons (λ r. length (words_of network f (arrived m r)) ≤ most) k (j ∷ js) (omega arith) (counts_along f most j js ways.1 (omega arith))
 
@@ -79,11 +82,11 @@ module _ (network : Network) (c : Course) (m : Moment) (links : (r : ℕ) → Is
   pub prefixes_along : (f : NetFlow) (source : List Access) → ((r : ℕ) → came_for network c m r ≤ budget_over c r) → (k : ℕ) (js : List ℕ) → AlongWay (Forwards network c m f) k js →
       IsPrefix (words_of network f (m.offered k)) source → All (λ r. IsPrefix (words_of network f (arrived m r)) source) (k ∷ js)
   prefixes_along f source room k [] ways h =
-      All-cons (λ r. IsPrefix (words_of network f (arrived m r)) source) k [] (prefix_then (ring_prefix f k) h) (All-nil (λ r. IsPrefix (words_of network f (arrived m r)) source))
+      All-cons (λ r. IsPrefix (words_of network f (arrived m r)) source) k [] (begins_further (ring_prefix f k) h) (All-nil (λ r. IsPrefix (words_of network f (arrived m r)) source))
   prefixes_along f source room k (j ∷ js) ways h =
-      let here = prefix_then (ring_prefix f k) h in
+      let here = begins_further (ring_prefix f k) h in
       let next = front_prefix (words_of network f (m.held k)) (ways.0.whole (λ i d below. all_sound (get_or (c.ins j) i d)) (room j)) in
-      All-cons (λ r. IsPrefix (words_of network f (arrived m r)) source) k (j ∷ js) here (prefixes_along f source room j js ways.1 (prefix_then next here))
+      All-cons (λ r. IsPrefix (words_of network f (arrived m r)) source) k (j ∷ js) here (prefixes_along f source room j js ways.1 (begins_further next here))
 
   -- a Close that came was sent
   pub closed_sender : (r : ℕ) → has_close (m.received r) ≡ true → has_close (m.sent r) ≡ true

@@ -3,8 +3,8 @@ use Rattle.std.proofs.Common.{◌≡◌, ◌<◌, ℕ, true, false, List, [], �
 use Rattle.std.specs.Prelude.{◌⊎◌, flat_map, Some, None}
 use Rattle.std.proofs.lemmas.List.Elements.{All-head}
 use Rattle.sb_device.specs.Served.{AreSound, HasServed, entry_accesses, entry_packets, item_packets, answers_to}
-use Rattle.sb_device.specs.Steps.{IsBlockedPort}
 use Rattle.sb_node.specs.Idle.{IsIdleAt}
+use Rattle.sb_node.specs.Steps.{IsBlockedPort}
 use Rattle.sb_node.specs.Sides.{PortSide, RingSide, has_rest, is_full, has_ended, is_drained}
 use Rattle.sb_packet.specs.Accesses.{Access, accesses_of}
 use Rattle.sb_packet.specs.Journals.{journal_accesses}

@@ -17,7 +17,8 @@ use Rattle.sb_net.specs.Promises.{Forwards, KeepsOrder}
 use Rattle.sb_net.specs.Runs.{IsHost, IsDevice, IsMomentOf}
 use Rattle.sb_net.specs.Endings.{MissesAnswer}
 use Rattle.sb_net.proofs.ClosedLists.{EndsAtClose, closes_last}
-use Rattle.sb_net.proofs.Prefixes.{front_prefix, same_prefix, same_subsequence}
+use Rattle.sb_node.proofs.Subsequences.{same_subsequence}
+use Rattle.sb_net.proofs.Prefixes.{front_prefix, same_prefix}
 use Rattle.sb_net.proofs.ExampleNetwork.{small, asking, write, posted, read, written}
 use Rattle.sb_net.proofs.ExampleLayout.{the_flow, is_request_ring, is_answer_ring, small_layout, of_one}
 use Rattle.sb_net.proofs.ExampleRun.{sound_write, sound_read, sound_written, sound_asking}

@@ -17,7 +17,8 @@ use Rattle.sb_net.specs.Runs.{IsHost, IsDevice, IsMomentOf, HasEntries}
 use Rattle.sb_net.specs.Wholes.{HasAllEnded}
 use Rattle.sb_net.proofs.Entries.{lawful_journal}
 use Rattle.sb_net.proofs.ClosedLists.{EndsAtClose, closes_last}
-use Rattle.sb_net.proofs.Prefixes.{same_prefix, same_subsequence}
+use Rattle.sb_node.proofs.Subsequences.{same_subsequence}
+use Rattle.sb_net.proofs.Prefixes.{same_prefix}
 use Rattle.sb_net.proofs.ExampleNetwork.{small, steps, asking, answering, write, posted, read, written, read_back}
 use Rattle.sb_net.proofs.ExampleLayout.{small_is_laid_out, the_flow, is_request_ring, is_answer_ring, small_layout, of_one}
 

@@ -1,10 +1,11 @@
 -- Lists that begin others, and lists that have some of others.
-use Rattle.std.proofs.Common.{◌≡◌, ◌≤◌, Bool, List, [], ◌∷◌, ◌++◌, length, refl, sym, ap, ◌∙◌, append_assoc, arith, length-append}
+use Rattle.std.proofs.Common.{◌≡◌, ◌≤◌, Bool, List, [], ◌∷◌, ◌++◌, length, refl, sym, ap, ◌∙◌, arith, length-append}
 use Rattle.std.specs.Prelude.{filter, All, AllPairs}
 use Rattle.std.proofs.lemmas.List.{append-nil, get_or_append_left}
 use Rattle.std.proofs.lemmas.List.Elements.{filter-append}
 use Rattle.sb_packet.proofs.Lists.{All-left}
 use Rattle.sb_packet.specs.Prefixes.{IsPrefix, IsSubsequence, none, kept, left_out}
+use Rattle.sb_node.proofs.Subsequences.{front_of}
 
 pub same_prefix : {A : Type 0} {xs ys : List A} → xs ≡ ys → IsPrefix xs ys
 same_prefix {A} {xs} {ys} e = record { rest = []; joined = append-nil xs ∙ e }
@@ -12,20 +13,11 @@ same_prefix {A} {xs} {ys} e = record { rest = []; joined = append-nil xs ∙ e }
 pub front_prefix : {A : Type 0} {xs ys : List A} (rest : List A) → ys ≡ xs ++ rest → IsPrefix xs ys
 front_prefix rest e = record { rest = rest; joined = sym e }
 
-pub prefix_then : {A : Type 0} {xs ys zs : List A} → IsPrefix xs ys → IsPrefix ys zs → IsPrefix xs zs
-prefix_then {A} {xs} {ys} {zs} p q = record {
-  rest = p.rest ++ q.rest;
-  joined = sym (append_assoc xs p.rest q.rest) ∙ ap (λ (l : List A). l ++ q.rest) p.joined ∙ q.joined;
-}
-
 pub IsPrefix-filter : {A : Type 0} (test : A → Bool) {xs ys : List A} → IsPrefix xs ys → IsPrefix (filter test xs) (filter test ys)
 IsPrefix-filter {A} test {xs} {ys} p = record {
   rest = filter test p.rest;
   joined = sym (filter-append test xs p.rest) ∙ ap (λ (l : List A). filter test l) p.joined;
 }
-
-pub length-prefix : {A : Type 0} {xs ys : List A} → IsPrefix xs ys → length xs ≤ length ys
-length-prefix {A} {xs} {ys} p = omega (arith, length-append xs p.rest, ap length p.joined)
 
 pub All-prefix : {A : Type 0} (P : A → Type 0) {xs ys : List A} → IsPrefix xs ys → All P ys → All P xs
 All-prefix {A} P {xs} {ys} p h = All-left P xs p.rest (rw p.joined h)
@@ -49,24 +41,10 @@ whole_prefix {A} {xs} {ys} p h =
     let none : p.rest ≡ [] = nothing p.rest (omega (arith, length-append xs p.rest, ap length p.joined)) in
     sym (append-nil xs) ∙ ap (λ (l : List A). xs ++ l) (sym none) ∙ p.joined
 
-pub same_subsequence : {A : Type 0} (xs : List A) → IsSubsequence xs xs
-same_subsequence [] = none
-same_subsequence (x ∷ xs) = kept (same_subsequence xs)
-
-pub subsequence_then : {A : Type 0} {xs ys zs : List A} → IsSubsequence xs ys → IsSubsequence ys zs → IsSubsequence xs zs
-subsequence_then p (left_out q) = left_out (subsequence_then p q)
-subsequence_then none q = none
-subsequence_then (kept p) (kept q) = kept (subsequence_then p q)
-subsequence_then (left_out p) (kept q) = left_out (subsequence_then p q)
-
 pub length-subsequence : {A : Type 0} {xs ys : List A} → IsSubsequence xs ys → length xs ≤ length ys
 length-subsequence none = omega arith
 length-subsequence (kept p) = let h = length-subsequence p in omega arith
 length-subsequence (left_out p) = let h = length-subsequence p in omega arith
 
-front_subsequence : {A : Type 0} (xs rest : List A) → IsSubsequence xs (xs ++ rest)
-front_subsequence [] rest = none
-front_subsequence (x ∷ xs) rest = kept (front_subsequence xs rest)
-
 pub prefix_subsequence : {A : Type 0} {xs ys : List A} → IsPrefix xs ys → IsSubsequence xs ys
-prefix_subsequence {A} {xs} {ys} p = rw (← p.joined) (front_subsequence xs p.rest)
+prefix_subsequence {A} {xs} {ys} p = rw (← p.joined) (front_of xs p.rest)

@@ -22,7 +22,8 @@ use Rattle.sb_net.specs.Arrivals.{HasEnded, CarriesSources}
 use Rattle.sb_net.specs.Layouts.{Layout, IsLayout}
 use Rattle.sb_net.specs.Runs.{IsMomentOf}
 use Rattle.sb_net.specs.Wholes.{IsWholeRun}
-use Rattle.sb_net.proofs.Prefixes.{IsPrefix-filter, length-prefix, same_prefix}
+use Rattle.sb_node.proofs.Answering.{prefix_length}
+use Rattle.sb_net.proofs.Prefixes.{IsPrefix-filter, same_prefix}
 use Rattle.sb_net.proofs.Sums.{sum_by_le, sum_by_same}
 use Rattle.sb_net.proofs.FlowMembers.{of_device}
 use Rattle.sb_net.proofs.Counts.{is_of_some, flows_cover}
@@ -72,7 +73,7 @@ module _ (network : Network) (layout : Layout) (journal : List Entry) (m : Momen
   few_answers : (f : NetFlow) → length (given_to network journal f) ≤ length (answered_of network f)
   few_answers f =
       let given = answers_are_few network f (opening_memory network f.device) (journal_accesses journal f.device) in
-      let asked = length-prefix (IsPrefix-filter (λ a. is_answered a.op) (history network layout journal m laid now f)) in
+      let asked = prefix_length (IsPrefix-filter (λ a. is_answered a.op) (history network layout journal m laid now f)) in
       omega arith
 
   -- a device's answers are no more than the ring out of it may carry

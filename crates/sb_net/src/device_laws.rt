@@ -2,7 +2,7 @@
 
 ghost use Rattle.std.specs.Prelude.{◌≡◌, ◌<◌, ℕ, false, List, [], ◌∷◌, None};
 ghost use Rattle.sb_device.specs.Served.{HasServed, entry_accesses, entry_packets, item_packets};
-ghost use Rattle.sb_device.specs.Steps.{IsBlockedPort};
+ghost use Rattle.sb_node.specs.Steps.{IsBlockedPort};
 ghost use Rattle.sb_node.specs.Idle.{IsIdleAt};
 ghost use Rattle.sb_node.specs.Sides.{PortSide, RingSide, has_ended};
 ghost use Rattle.sb_packet.specs.Journals.{journal_accesses};

@@ -1,13 +1,14 @@
 -- What a node's turn answers: by what it found, and by how much went through it.
-use Rattle.std.proofs.Common.{◌≡◌, ◌≢◌, ◌⊎◌, inl, inr, ℕ, ◌<◌, ◌≤◌, Bool, true, false, true≢false, List, [], ◌∷◌, length, refl, sym, ap, ◌∙◌, arith, length-append}
-use Rattle.std.specs.Prelude.{◌&&◌, ◌||◌, not, Option, Some, None, is_some}
+use Rattle.std.proofs.Common.{◌≡◌, ◌≢◌, ◌⊎◌, inl, inr, ℕ, ◌+◌, ◌<◌, ◌≤◌, Bool, true, false, true≢false, List, [], ◌∷◌, length, refl, sym, ap, ◌∙◌, arith, length-append}
+use Rattle.std.specs.Prelude.{◌&&◌, ◌||◌, not, All, Option, Some, None, is_some}
+use Rattle.std.proofs.lemmas.List.Elements.{All-nil, All-cons}
 use Rattle.sb_link.specs.declared.answers.Turn.{Turn}
 use Rattle.sb_link.specs.declared.answers.Turn.TheVariants.{Moved, Idle, Done}
 use Rattle.sb_link.specs.declared.answers.Cause.{Cause}
 use Rattle.sb_packet.specs.Prefixes.{IsPrefix}
 use Rattle.sb_port.specs.Waiting.{Waiting, some_owed}
-use Rattle.sb_port.specs.Ports.{IsFit}
-use Rattle.sb_node.specs.Sides.{PortSide, has_rest, port_moves}
+use Rattle.sb_port.specs.Ports.{IsFit, PortState}
+use Rattle.sb_node.specs.Sides.{PortSide, RingSide, has_rest, node_moves, port_moves}
 use Rattle.sb_node.specs.Kept.{IsKeptPort}
 use Rattle.sb_node.specs.Turns.{first_cause, IsAnswered}
 use Rattle.sb_node.specs.Found.{IsTurnOf}
@@ -47,6 +48,22 @@ untold true closing shut e unshut = absurd (true≢false e)
 untold false false shut e unshut = refl
 untold false true false e unshut = absurd (true≢false e)
 untold false true true e unshut = absurd (true≢false unshut)
+
+-- nothing was found yet
+abbrev pub no_findings : Findings
+no_findings = record { moved = false; full = None; waits = None; empty = None }
+
+-- how much went through one port and one ring
+pub moves_of_two : (port : PortSide) (ring : RingSide) → node_moves (port ∷ []) (ring ∷ []) ≡ port_moves port + length ring.received
+moves_of_two port ring = omega arith
+
+-- a port did as much as another one in the same state
+pub same_moves : (port port_then : PortSide) → port_then.state ≡ port.state → port_moves port_then ≡ port_moves port
+same_moves port port_then same = ap (λ (s : PortState). port_moves (record port { state = s })) same
+
+-- a list of one
+pub one_of : {A : Type 0} (P : A → Type 0) (x : A) → P x → All P (x ∷ [])
+one_of P x p = All-cons P x [] p (All-nil P)
 
 -- what a node found moved it, and something went through
 pub record HasGone (found : Findings) (before after : ℕ) : Type 0 where

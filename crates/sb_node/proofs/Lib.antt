@@ -1,3 +1,5 @@
 pub mod Answering
+pub mod Items
 pub mod Serving
+pub mod Subsequences
 pub mod TurnExamples

@@ -23,6 +23,11 @@ pub record IsPortFull (before after : PortSide) (found found_then : Findings) : 
   pub full : is_full after ≡ true
   pub found_full : found_then ≡ record found { full = or_else found.full (causes.Full after.plan.ring (length after.state.sent) after.taken) }
 
+-- a port owes an item, and its ring is full
+pub record IsBlockedPort (port : PortSide) : Type 0 where
+  pub owing : owes port.state ≡ true
+  pub full : is_full port ≡ true
+
 -- a port had nothing to send: nothing at all, or what it holds waits for more
 pub record IsPortClear (more : Bool) (before after : PortSide) (found found_then : Findings) : Type 0 where
   pub same : after.state ≡ before.state
@@ -44,6 +49,11 @@ pub record IsPortServed (before after : PortSide) : Type 0 where
 pub record IsItemPopped (before after : RingSide) (item : Item) (found found_then : Findings) : Type 0 where
   pub lawful : MayFollow before.plan before.received item
   pub received : after.received ≡ before.received ++ item ∷ []
+  pub found_move : found_then ≡ record found { moved = true }
+
+-- an item was popped, whichever it was: the node moved
+pub record HasPopped (before after : RingSide) (found found_then : Findings) : Type 0 where
+  pub one : length after.received ≡ length before.received + 1
   pub found_move : found_then ≡ record found { moved = true }
 
 -- a ring was found empty

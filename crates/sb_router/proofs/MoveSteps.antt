@@ -1,11 +1,11 @@
 -- How much goes through with each step.
-use Rattle.std.proofs.Common.{◌≡◌, ℕ, ◌<◌, ◌≤◌, ◌+◌, ◌||◌, Bool, true, false, List, [], ◌∷◌, length, set, Some, refl, ap, ◌∙◌, arith, length-append}
+use Rattle.std.proofs.Common.{◌≡◌, ℕ, ◌<◌, ◌+◌, ◌||◌, Bool, true, false, [], ◌∷◌, length, set, Some, refl, ap, ◌∙◌, arith, length-append}
 use Rattle.std.proofs.lemmas.List.Sums.{sum_by-set}
-use Rattle.sb_packet.specs.Prefixes.{IsPrefix}
 use Rattle.sb_packet.specs.declared.packet.Packet.{Packet}
 use Rattle.sb_packet.specs.declared.item.Item.{Item}
 use Rattle.sb_node.specs.Kept.{IsKeptPort}
-use Rattle.sb_node.specs.Sides.{PortSide, port_moves}
+use Rattle.sb_node.specs.Sides.{port_moves}
+use Rattle.sb_node.proofs.Answering.{moves_kept}
 use Rattle.sb_router.specs.Lanes.{InletState, LaneState, OutletState, inlet_at, no_inlet, no_outlet, outlet_at}
 use Rattle.sb_router.specs.Steps.{IsReceived, IsUnmoved, emptied}
 use Rattle.sb_router.specs.Moves.{IsToldMoved, free_count, inlet_moves, lane_moves}
@@ -20,13 +20,6 @@ moved_then {s} {t} {u} true true x y = record { more = λ _. let p = x.more refl
 moved_then {s} {t} {u} true false x y = record { more = λ _. let p = x.more refl in let q = y.none refl in omega (arith, p, q); none = λ e. let no_way : ⊥ = cc in absurd no_way }
 moved_then {s} {t} {u} false true x y = record { more = λ _. let p = x.none refl in let q = y.more refl in omega (arith, p, q); none = λ e. let no_way : ⊥ = cc in absurd no_way }
 moved_then {s} {t} {u} false false x y = record { more = λ e. let no_way : ⊥ = cc in absurd no_way; none = λ _. y.none refl ∙ x.none refl }
-
-prefix_length : {A : Type 0} {xs ys : List A} → IsPrefix xs ys → length xs ≤ length ys
-prefix_length {A} {xs} {ys} p = omega (arith, length-append xs p.rest, ap length p.joined)
-
--- a port never did less
-pub port_more : (before after : PortSide) → IsKeptPort before after → port_moves before ≤ port_moves after
-port_more before after kept = let a = prefix_length kept.offered_more in let b = prefix_length kept.let_more_go in let c = prefix_length kept.sent_more in omega (arith, a, b, c)
 
 pub inlet_received : (before after : InletState) (item : Item) → IsReceived before after item → inlet_moves before < inlet_moves after
 inlet_received before after item is = let long = ap length is.received ∙ length-append before.ring.received (item ∷ []) in let free = ap free_count is.free in omega (arith, long, free)
@@ -64,6 +57,6 @@ module _ (s : LaneState) where
     more = λ _.
         let in_sum = sum_by-set inlet_moves s.inlets i (emptied (inlet_at s i)) no_inlet lt in
         let out_sum = sum_by-set (λ z. port_moves z.port) s.outlets o y no_outlet within in
-        let more = inlet_emptied (inlet_at s i) p held in let port = port_more (outlet_at s o).port y.port kept in omega (arith, in_sum, out_sum, more, port);
+        let more = inlet_emptied (inlet_at s i) p held in let port = moves_kept kept in omega (arith, in_sum, out_sum, more, port);
     none = λ e. let no_way : ⊥ = cc in absurd no_way;
   }
