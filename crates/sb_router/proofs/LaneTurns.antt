@@ -1,17 +1,16 @@
 -- One turn of a direction, of its parts.
-use Rattle.std.proofs.Common.{◌≡◌, ◌⊎◌, ℕ, ◌<◌, ◌≤◌, ◌+◌, ◌||◌, Bool, true, false, cond, is_some, List, [], ◌∷◌, length, map, get_or, All, Option, Some, None, refl, sym, ap, ◌∙◌, subst, arith}
+use Rattle.std.proofs.Common.{◌≡◌, ℕ, ◌<◌, ◌||◌, Bool, true, false, cond, is_some, List, [], ◌∷◌, length, map, get_or, All, Option, Some, None, refl, sym, ap, ◌∙◌, subst, arith}
 use Rattle.std.specs.List.{AllByRecursion}
 use Rattle.std.proofs.lemmas.List.{get_or_default}
 use Rattle.std.proofs.lemmas.List.Elements.{recursion_from_All}
 use Rattle.sb_link.specs.declared.answers.Cause.{Cause}
 use Rattle.sb_link.specs.declared.answers.Cause.TheVariants as causes
 use Rattle.sb_packet.specs.declared.packet.Packet.{Packet}
-use Rattle.sb_packet.specs.declared.item.Item.{Item}
 use Rattle.sb_port.specs.Ports.{owes}
 use Rattle.sb_node.specs.declared.findings.Findings.{Findings}
-use Rattle.sb_node.specs.Sides.{PortSide, has_rest, is_full}
-use Rattle.sb_node.specs.Steps.{IsPortServed}
+use Rattle.sb_node.specs.Sides.{has_rest, is_full}
 use Rattle.sb_node.specs.Turns.{empty_cause}
+use Rattle.sb_node.proofs.Serving.{served_since}
 use Rattle.sb_router.specs.Lanes.{InletState, LaneState, OutletState, Route, inlet_at, next_place, no_inlet, no_outlet, outlet_at}
 use Rattle.sb_router.specs.Steps.{IsSilent, Steps}
 use Rattle.sb_router.specs.Causes.{lowest}
@@ -24,13 +23,6 @@ use Rattle.sb_router.proofs.MoveSteps.{moved_then}
 use Rattle.sb_router.proofs.NextPlaces.{next_within}
 use Rattle.sb_router.proofs.Shapes.{steps_shape}
 use Rattle.sb_router.proofs.WholeSteps.{not_silent, whole_steps}
-
--- a port that sent nothing just before its turn was served from that time on
-served_since : (x y z : PortSide) → y.state.sent ≡ x.state.sent → IsPortServed y z → IsPortServed x z
-served_since x y z e h = record {
-  one_item = subst (λ (sent : List Item). length z.state.sent ≤ length sent + 1) e h.one_item;
-  served = subst (λ (sent : List Item). (length z.state.sent ≡ length sent + 1) ⊎ ((owes z.state ≡ false) ⊎ (is_full z ≡ true))) e h.served;
-}
 
 or_none : (a : Bool) → (a || false) ≡ a
 or_none true = refl
