@@ -2,3 +2,4 @@ pub mod Places
 pub mod Turned
 pub mod Ended
 pub mod OrderExamples
+pub mod Sweeps

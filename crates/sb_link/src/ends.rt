@@ -34,6 +34,14 @@ pub trait TxEnd: Drop {
         ensures plan { planned self.new ≡ planned self.old }
         ensures mark { mark self.new ≡ mark self.old };
 
+    /// Publishes what is stored and not yet published, so that the other end can learn of it. It changes nothing that
+    /// was sent and learns nothing. Takes no memory.
+    fn flush(&mut self)
+        ensures sent { sent self.new ≡ sent self.old }
+        ensures taken { taken self.new ≡ taken self.old }
+        ensures plan { planned self.new ≡ planned self.old }
+        ensures mark { mark self.new ≡ mark self.old };
+
     // whatever was sent was sent in turn
     ghost in_turn: { (end : Self) → AreInTurn (planned end) (sent end) };
 }

@@ -30,6 +30,10 @@ impl<T: TxEnd> TxEnd for PassOnTx<T> {
         self.inner.try_push(item)
     }
 
+    fn flush(&mut self) {
+        self.inner.flush();
+    }
+
     ghost in_turn = { λ end. T.in_turn end.inner };
 }
 

@@ -1,6 +1,6 @@
 //! Rings on one thread.
 
-ghost use Rattle.std.specs.Prelude.{◌≡◌, [], false, IfOk, ℕ};
+ghost use Rattle.std.specs.Prelude.{◌≡◌, [], false, true, IfOk, ℕ};
 ghost use Rattle.sb_link.specs.PlanOf.{plan_of};
 
 use crate::ends::{RxEnd, TxEnd};
@@ -26,6 +26,7 @@ impl SerialFabric {
     pub fn new(alloc: Global) -> SerialFabric
         ensures made { ⟦<SerialFabric as Fabric>⟧.made result ≡ [] }
         ensures settled { (ring : ℕ) → ⟦<SerialFabric as Fabric>⟧.settled result ring ≡ false }
+        ensures prompt { ⟦<SerialFabric as Fabric>⟧.prompt ≡ true }
     {
         SerialFabric {
             shelf: Shelf::new(alloc),

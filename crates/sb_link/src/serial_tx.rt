@@ -60,5 +60,8 @@ impl TxEnd for SerialTx {
         Push::Done
     }
 
+    // every item waits for the meeting, so that there is nothing to publish before
+    fn flush(&mut self) {}
+
     ghost in_turn = { λ end. end.in_turn };
 }

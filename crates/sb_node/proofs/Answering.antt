@@ -7,8 +7,8 @@ use Rattle.sb_link.specs.declared.answers.Turn.TheVariants.{Moved, Idle, Done}
 use Rattle.sb_link.specs.declared.answers.Cause.{Cause}
 use Rattle.sb_packet.specs.Prefixes.{IsPrefix}
 use Rattle.sb_port.specs.Waiting.{Waiting, some_owed}
-use Rattle.sb_port.specs.Ports.{IsFit, PortState}
-use Rattle.sb_node.specs.Sides.{PortSide, RingSide, has_rest, node_moves, port_moves}
+use Rattle.sb_port.specs.Ports.{IsFit, PortSide, PortState}
+use Rattle.sb_node.specs.Sides.{RingSide, has_rest, node_moves, port_moves}
 use Rattle.sb_node.specs.Kept.{IsKeptPort}
 use Rattle.sb_node.specs.Turns.{first_cause, IsAnswered}
 use Rattle.sb_node.specs.Found.{IsTurnOf}

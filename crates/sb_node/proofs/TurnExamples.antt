@@ -6,7 +6,8 @@ use Rattle.sb_link.specs.declared.answers.Cause.TheVariants as causes
 use Rattle.sb_packet.specs.Plans.{RingPlan}
 use Rattle.sb_packet.specs.declared.item.Item.TheVariants as items
 use Rattle.sb_port.specs.Waiting.{nothing_waits}
-use Rattle.sb_node.specs.Sides.{PortSide, RingSide, has_rest, is_full, is_done, node_moves}
+use Rattle.sb_port.specs.Ports.{PortSide}
+use Rattle.sb_node.specs.Sides.{RingSide, has_rest, is_full, is_done, node_moves}
 use Rattle.sb_node.specs.Turns.{first_cause, idle_causes}
 
 -- rings 4 and 5, of one place each

@@ -1,6 +1,7 @@
 -- What holds of a node after a turn in which it did nothing.
 use Rattle.std.specs.Prelude.{◌≡◌, ◌⊎◌, true, false, List, All}
-use Rattle.sb_node.specs.Sides.{PortSide, RingSide, has_rest, is_full, has_ended, is_drained}
+use Rattle.sb_port.specs.Ports.{PortSide}
+use Rattle.sb_node.specs.Sides.{RingSide, has_rest, is_full, has_ended, is_drained}
 
 -- each port that has something left to send found its ring full
 abbrev pub OwingPortsAreFull : List PortSide → Type 0

@@ -1,9 +1,9 @@
 -- What stays of a node's ports and rings, whatever turns it takes: nothing is taken back.
-use Rattle.std.specs.Prelude.{◌≡◌, ◌≤◌, true, List, [], ◌++◌, Option, None, Some}
+use Rattle.std.specs.Prelude.{◌≡◌, ◌≤◌, true, List, [], ◌++◌}
 use Rattle.std.proofs.Common.{refl, sym, ap, ◌∙◌, append_assoc, append-nil, arith}
 use Rattle.sb_packet.specs.Prefixes.{IsPrefix}
-use Rattle.sb_port.specs.Ports.{let_go}
-use Rattle.sb_node.specs.Sides.{PortSide, RingSide, offered_words}
+use Rattle.sb_port.specs.Ports.{PortSide, let_go, offered_words}
+use Rattle.sb_node.specs.Sides.{RingSide}
 
 -- a port is as it was, but for what it was offered, let go, sent and learnt since
 pub record IsKeptPort (before after : PortSide) : Type 0 where
@@ -22,14 +22,14 @@ pub record IsKeptRing (before after : RingSide) : Type 0 where
   pub received_more : IsPrefix before.received after.received
   pub learnt : before.known ≤ after.known
 
--- A port was put back as it was taken out: nothing was offered to it or sent, and no less is known of what was taken.
-pub record IsRestoredPort (before after : PortSide) : Type 0 where
+-- The end of a port met the other end of its ring: nothing was offered or sent, and no less is known of what was taken.
+pub record IsPortMet (before after : PortSide) : Type 0 where
   pub plan : after.plan ≡ before.plan
   pub state : after.state ≡ before.state
   pub learnt : before.taken ≤ after.taken
 
--- A ring's end was put back as it was taken out: nothing was received, and no less is known of what was sent.
-pub record IsRestoredRing (before after : RingSide) : Type 0 where
+-- The end of a ring met the other one: nothing was received, and no less is known of what was sent.
+pub record IsRingMet (before after : RingSide) : Type 0 where
   pub plan : after.plan ≡ before.plan
   pub received : after.received ≡ before.received
   pub learnt : before.known ≤ after.known
@@ -81,24 +81,3 @@ kept_ring_then {x} {y} {z} a b = record {
   received_more = begins_further a.received_more b.received_more;
   learnt = let first = a.learnt in let second = b.learnt in omega (arith, first, second);
 }
-
--- What stands at a place of a node is kept so; an empty place stays empty.
-abbrev pub IsKeptAt : {A : Type 0} → (A → A → Type 0) → Option A → Option A → Type 0
-IsKeptAt kept None None = Unit {0}
-IsKeptAt kept None (Some y) = ⊥
-IsKeptAt kept (Some x) None = ⊥
-IsKeptAt kept (Some x) (Some y) = kept x y
-
--- nothing happened at a place
-pub kept_at_same : {A : Type 0} (kept : A → A → Type 0) → ((x : A) → kept x x) → (place : Option A) → IsKeptAt kept place place
-kept_at_same kept same None = tt
-kept_at_same kept same (Some x) = same x
-
--- one thing after another happened at a place
-pub kept_at_then : {A : Type 0} (kept : A → A → Type 0) → ((x y z : A) → kept x y → kept y z → kept x z) → (p q r : Option A) → IsKeptAt kept p q → IsKeptAt kept q r → IsKeptAt kept p r
-kept_at_then kept join None None None a b = tt
-kept_at_then kept join None None (Some z) a b = absurd b
-kept_at_then kept join None (Some y) r a b = absurd a
-kept_at_then kept join (Some x) None r a b = absurd a
-kept_at_then kept join (Some x) (Some y) None a b = absurd b
-kept_at_then kept join (Some x) (Some y) (Some z) a b = join x y z a b

@@ -1,26 +1,13 @@
 -- What a node has of its rings: of those that it sends on, and of those that it receives from.
-use Rattle.std.specs.Prelude.{ℕ, ◌+◌, Bool, false, ◌&&◌, ◌||◌, ◌==◌, List, [], ◌∷◌, length, Option, None, Some, is_some}
+use Rattle.std.specs.Prelude.{ℕ, ◌+◌, Bool, ◌&&◌, ◌||◌, ◌==◌, List, length, is_some}
 use Rattle.std.specs.List.{sum_by, list_all}
 use Rattle.sb_link.specs.Ends.{Mark}
 use Rattle.sb_link.specs.declared.ends.RxEnd as rx
-use Rattle.sb_link.specs.declared.ends.TxEnd as tx
 use Rattle.sb_packet.specs.Plans.{RingPlan}
 use Rattle.sb_packet.specs.Accesses.{Access}
 use Rattle.sb_packet.specs.Traffic.{item_accesses, has_close}
 use Rattle.sb_packet.specs.declared.item.Item.{Item}
-use Rattle.sb_port.specs.Waiting.{nothing_waits}
-use Rattle.sb_port.specs.Ports.{PortState, port_accesses, let_go, owes}
-use Rattle.sb_port.specs.StateOf.{state_of}
-use Rattle.sb_port.specs.declared.port.OutPort.{OutPort}
-
--- a port of a node, with what its end knows
-pub record PortSide : Type 0 where
-  pub plan : RingPlan
-  pub mark : Mark
-  -- how many items it has learnt to have been taken
-  pub taken : ℕ
-  -- what was sent, what is to be sent, and whether it was told to close
-  pub state : PortState
+use Rattle.sb_port.specs.Ports.{PortSide, offered_words, let_go, owes}
 
 -- a ring that comes into a node
 pub record RingSide : Type 0 where
@@ -30,26 +17,9 @@ pub record RingSide : Type 0 where
   -- how many items it has learnt to have been sent
   pub known : ℕ
 
--- a port as its node has it
-abbrev pub port_side : {T : Type 0} → tx.Ghosts T → OutPort T → PortSide
-port_side end port = record { plan = end.planned port.tx; mark = end.mark port.tx; taken = end.taken port.tx; state = state_of end.sent port }
-
--- a port over an end at which nothing was sent
-abbrev pub fresh_port : {T : Type 0} → tx.Ghosts T → T → PortSide
-fresh_port end t = record {
-  plan = end.planned t;
-  mark = end.mark t;
-  taken = end.taken t;
-  state = record { sent = []; waiting = nothing_waits (end.planned t).width; closing = false; shut = false; claimed = 0 };
-}
-
 -- the receiving end of a ring as its node has it
 abbrev pub ring_side : {U : Type 0} → rx.Ghosts U → U → RingSide
 ring_side end ring = record { plan = end.planned ring; mark = end.mark ring; received = end.received ring; known = end.known ring }
-
--- the words that a port was offered so far
-abbrev pub offered_words : PortSide → List Access
-offered_words port = port_accesses port.state
 
 -- a port has something left to send: it owes an item, or holds a message for merging
 abbrev pub has_rest : PortSide → Bool
@@ -82,8 +52,3 @@ port_moves port = length (offered_words port) + length (let_go port.state) + len
 -- How much went through a node so far: with what its ports did, the items that it popped.
 abbrev pub node_moves : List PortSide → List RingSide → ℕ
 node_moves ports rings = sum_by port_moves ports + sum_by (λ ring. length ring.received) rings
-
--- what stands at a place, where it wasn't taken out
-abbrev pub present : {A : Type 0} → Option A → List A
-present None = []
-present (Some x) = x ∷ []

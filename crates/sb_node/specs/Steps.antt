@@ -1,15 +1,19 @@
 -- What one turn of a port, or one pop, does to a node's side of it, and what the node finds by it.
-use Rattle.std.specs.Prelude.{◌≡◌, ◌≤◌, ◌<◌, ◌+◌, ◌⊎◌, Bool, true, false, ◌∷◌, [], ◌++◌, length, Option, None, Some}
+use Rattle.std.specs.Prelude.{ℕ, ◌≡◌, ◌≤◌, ◌<◌, ◌+◌, ◌⊎◌, Bool, true, false, ◌∷◌, [], ◌++◌, length, Option, None, Some}
 use Rattle.sb_link.specs.declared.answers.Cause.TheVariants as causes
 use Rattle.sb_packet.specs.Accesses.{accesses_of}
 use Rattle.sb_packet.specs.Messages.{message_of}
 use Rattle.sb_packet.specs.Traffic.{MayFollow, MayPass}
 use Rattle.sb_packet.specs.declared.packet.Packet.{Packet}
 use Rattle.sb_packet.specs.declared.item.Item.{Item}
-use Rattle.sb_port.specs.Ports.{owes}
-use Rattle.sb_node.specs.Sides.{PortSide, RingSide, has_rest, is_full, is_drained, port_moves, offered_words}
+use Rattle.sb_port.specs.Ports.{PortSide, offered_words, owes}
+use Rattle.sb_node.specs.Sides.{RingSide, has_rest, is_full, is_drained, port_moves}
 use Rattle.sb_node.specs.Found.{or_else}
 use Rattle.sb_node.specs.declared.findings.Findings.{Findings}
+
+-- how many items a turn takes of a ring at most, and sends by a port
+abbrev pub items_a_turn : ℕ
+items_a_turn = 1
 
 -- a port sent an item, or let go what it held: the node moved
 pub record HasPortMoved (before after : PortSide) (found found_then : Findings) : Type 0 where
@@ -40,10 +44,10 @@ abbrev pub IsPortTurned : Bool → PortSide → PortSide → Findings → Findin
 IsPortTurned more before after found found_then =
     HasPortMoved before after found found_then ⊎ (IsPortFull before after found found_then ⊎ IsPortClear more before after found found_then)
 
--- A port was served: it sent at most one item, and just one unless it owes nothing then or its ring is full.
+-- A port was served: it sent at most so many items as a turn sends, and just as many unless it owes nothing then or its ring is full.
 pub record IsPortServed (before after : PortSide) : Type 0 where
-  pub one_item : length after.state.sent ≤ length before.state.sent + 1
-  pub served : (length after.state.sent ≡ length before.state.sent + 1) ⊎ ((owes after.state ≡ false) ⊎ (is_full after ≡ true))
+  pub few : length after.state.sent ≤ length before.state.sent + items_a_turn
+  pub served : (length after.state.sent ≡ length before.state.sent + items_a_turn) ⊎ ((owes after.state ≡ false) ⊎ (is_full after ≡ true))
 
 -- an item was popped
 pub record IsItemPopped (before after : RingSide) (item : Item) (found found_then : Findings) : Type 0 where
@@ -62,9 +66,13 @@ pub record IsRingEmpty (before after : RingSide) (found found_then : Findings) :
   pub drained : is_drained after ≡ true
   pub found_empty : found_then ≡ record found { empty = or_else found.empty (causes.Empty after.plan.ring (length after.received) after.known) }
 
--- A ring was served: it gave just one item, or was found empty.
+-- At most so many items came by a ring as a turn takes.
+abbrev pub HasFewMore : RingSide → RingSide → Type 0
+HasFewMore before after = length after.received ≤ length before.received + items_a_turn
+
+-- A ring was served: it gave just so many items as a turn takes, or was found empty.
 abbrev pub IsRingServed : RingSide → RingSide → Type 0
-IsRingServed before after = (length after.received ≡ length before.received + 1) ⊎ (is_drained after ≡ true)
+IsRingServed before after = (length after.received ≡ length before.received + items_a_turn) ⊎ (is_drained after ≡ true)
 
 -- A ring was popped.
 abbrev pub IsRingPopped : RingSide → RingSide → Option Item → Findings → Findings → Type 0

@@ -4,7 +4,8 @@ use Rattle.sb_link.specs.declared.answers.Turn.{Turn}
 use Rattle.sb_link.specs.declared.answers.Turn.TheVariants.{Moved, Idle, Done}
 use Rattle.sb_link.specs.declared.answers.Cause.{Cause}
 use Rattle.sb_link.specs.declared.answers.Cause.TheVariants as causes
-use Rattle.sb_node.specs.Sides.{PortSide, RingSide, has_rest, has_ended}
+use Rattle.sb_port.specs.Ports.{PortSide}
+use Rattle.sb_node.specs.Sides.{RingSide, has_rest, has_ended}
 
 -- the first cause of a list that has some empty places
 abbrev pub first_cause : List (Option Cause) → Option Cause

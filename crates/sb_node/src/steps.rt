@@ -1,10 +1,10 @@
 //! What a node does with a port or a ring in its turn.
 
 ghost use Rattle.std.specs.Prelude.{◌≡◌, false};
-ghost use Rattle.sb_port.specs.Ports.{IsFit, owes, port_accesses};
-ghost use Rattle.sb_port.specs.StateOf.{state_of};
-ghost use Rattle.sb_node.specs.Sides.{port_side, ring_side};
+ghost use Rattle.sb_port.specs.Ports.{IsFit, offered_words, owes};
+ghost use Rattle.sb_node.specs.Sides.{ring_side};
 ghost use Rattle.sb_node.specs.Kept.{IsKeptPort, IsKeptRing};
+ghost use Rattle.sb_node.specs.Rested.{IsRestedPort, IsRestedRing};
 ghost use Rattle.sb_node.specs.Steps.{IsHandedOn, IsPortServed, IsPortTurned, IsRingPopped, IsRingServed};
 
 use crate::findings::Findings;
@@ -15,15 +15,16 @@ use sb_port::{OutPort, PortTurn};
 /// Turns a port, and notes what it found. `more` says that the node popped or offered something in this turn, so that
 /// more may come. Takes no memory.
 pub fn turn_port<T: TxEnd>(port: &mut OutPort<T>, more: bool, found: &mut Findings)
-    requires fit { IsFit (T.planned port.old.tx) (state_of T.sent port.old) }
-    ensures turned { IsPortTurned more (port_side T.TxEnd port.old) (port_side T.TxEnd port.new) found.old found.new }
-    ensures served { IsPortServed (port_side T.TxEnd port.old) (port_side T.TxEnd port.new) }
-    ensures kept { IsKeptPort (port_side T.TxEnd port.old) (port_side T.TxEnd port.new) }
-    ensures words { port_accesses (state_of T.sent port.new) ≡ port_accesses (state_of T.sent port.old) }
-    ensures told { port.new.closing ≡ port.old.closing }
-    ensures fit { IsFit (T.planned port.new.tx) (state_of T.sent port.new) }
+    requires fit { IsFit port.old.plan port.old.state }
+    ensures turned { IsPortTurned more port.old port.new found.old found.new }
+    ensures served { IsPortServed port.old port.new }
+    ensures kept { IsKeptPort port.old port.new }
+    ensures still { found.new.moved ≡ false → IsRestedPort port.old port.new }
+    ensures words { offered_words port.new ≡ offered_words port.old }
+    ensures told { port.new.state.closing ≡ port.old.state.closing }
+    ensures fit { IsFit port.new.plan port.new.state }
 {
-    let ring = port.tx.plan().ring;
+    let ring = port.plan().ring;
     match port.turn(more) {
         PortTurn::Moved => found.add_move(),
         PortTurn::Full { sent, taken } => found.add_full(ring, sent, taken),
@@ -36,6 +37,7 @@ pub fn pop_ring<U: RxEnd>(ring: &mut U, found: &mut Findings) -> Option<Item>
     ensures popped { IsRingPopped (ring_side U.RxEnd ring.old) (ring_side U.RxEnd ring.new) result found.old found.new }
     ensures served { IsRingServed (ring_side U.RxEnd ring.old) (ring_side U.RxEnd ring.new) }
     ensures kept { IsKeptRing (ring_side U.RxEnd ring.old) (ring_side U.RxEnd ring.new) }
+    ensures still { found.new.moved ≡ false → IsRestedRing (ring_side U.RxEnd ring.old) (ring_side U.RxEnd ring.new) }
 {
     let number = ring.plan().ring;
     match ring.try_pop() {
@@ -52,14 +54,13 @@ pub fn pop_ring<U: RxEnd>(ring: &mut U, found: &mut Findings) -> Option<Item>
 
 /// Offers a packet to a port that is ready, where it passes, and drops it elsewhere. Takes no memory.
 pub fn hand_on<T: TxEnd>(port: &mut OutPort<T>, packet: &Packet)
-    requires fit { IsFit (T.planned port.old.tx) (state_of T.sent port.old) }
-    requires ready { owes (state_of T.sent port.old) ≡ false }
-    requires untold { port.old.closing ≡ false }
-    ensures end { port.new.tx ≡ port.old.tx }
-    ensures handed { IsHandedOn (port_side T.TxEnd port.old) (port_side T.TxEnd port.new) packet.now }
-    ensures kept { IsKeptPort (port_side T.TxEnd port.old) (port_side T.TxEnd port.new) }
-    ensures told { port.new.closing ≡ false }
-    ensures fit { IsFit (T.planned port.new.tx) (state_of T.sent port.new) }
+    requires fit { IsFit port.old.plan port.old.state }
+    requires ready { owes port.old.state ≡ false }
+    requires untold { port.old.state.closing ≡ false }
+    ensures handed { IsHandedOn port.old port.new packet.now }
+    ensures kept { IsKeptPort port.old port.new }
+    ensures told { port.new.state.closing ≡ false }
+    ensures fit { IsFit port.new.plan port.new.state }
 {
     if port.passes(packet) {
         port.offer(packet);

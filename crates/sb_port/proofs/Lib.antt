@@ -2,4 +2,5 @@ pub mod Items
 pub mod PortWords
 pub mod Fitness
 pub mod SameState
+pub mod Seen
 pub mod Turned

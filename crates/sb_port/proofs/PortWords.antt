@@ -8,15 +8,11 @@ use Rattle.sb_packet.specs.Prefixes.{IsPrefix}
 use Rattle.sb_packet.specs.Traffic.{item_messages}
 use Rattle.sb_packet.specs.declared.item.Item.TheVariants as items
 use Rattle.sb_port.specs.Waiting.{listed, released}
-use Rattle.sb_port.specs.Ports.{PortState, port_messages, port_accesses, let_go}
+use Rattle.sb_port.specs.Ports.{PortSide, PortState, port_messages, port_accesses, offered_words, let_go}
 use Rattle.sb_port.specs.Turns.{SendsFirst, SendsClose, LetsGo, Turned}
 use Rattle.sb_port.specs.declared.port_turn.PortTurn.{PortTurn}
 use Rattle.sb_port.specs.declared.port_turn.PortTurn.TheVariants as turns
 use Rattle.sb_port.proofs.Items.{item_messages-packet, item_messages-close}
-
--- a list begins itself
-pub begins_itself : {A : Type 0} (xs : List A) → IsPrefix xs xs
-begins_itself xs = record { rest = []; joined = append-nil xs }
 
 -- equal lists begin each other
 pub begins_equal : {A : Type 0} (xs ys : List A) → ys ≡ xs → IsPrefix xs ys
@@ -50,43 +46,43 @@ closes_let_go before after closes = ap let_go closes.state ∙ ap (λ (list : Li
 closes_messages : (before after : PortState) → SendsClose before after → port_messages after ≡ port_messages before
 closes_messages before after closes = ap port_messages closes.state ∙ ap (λ (list : List Message). list ++ (before.waiting.owed ++ listed before.waiting.held)) (item_messages-close before.sent)
 
-lets_go_messages : (capacity knew : _) (more : _) (before after : PortState) → LetsGo capacity knew more before after → port_messages after ≡ port_messages before
-lets_go_messages capacity knew more before after lets = elim lets.state [
-  | inl e ↦ ap port_messages e.0 ∙ released_messages before
-  | inr sends ↦ sends_messages (record before { waiting = released before.waiting }) after sends ∙ released_messages before
+lets_go_messages : (more : _) (before after : PortSide) → LetsGo more before after → port_messages after.state ≡ port_messages before.state
+lets_go_messages more before after lets = elim lets.state [
+  | inl e ↦ ap port_messages e.state ∙ released_messages before.state
+  | inr sends ↦ sends_messages (record before.state { waiting = released before.state.waiting }) after.state sends ∙ released_messages before.state
 ]
 
-lets_go_on : (capacity knew : _) (more : _) (before after : PortState) → LetsGo capacity knew more before after → IsPrefix (let_go before) (let_go after)
-lets_go_on capacity knew more before after lets = elim lets.state [
-  | inl e ↦ record { rest = listed before.waiting.held; joined = sym (released_let_go before) ∙ sym (ap let_go e.0) }
-  | inr sends ↦ record { rest = listed before.waiting.held; joined = sym (released_let_go before) ∙ sym (sends_let_go (record before { waiting = released before.waiting }) after sends) }
+lets_go_on : (more : _) (before after : PortSide) → LetsGo more before after → IsPrefix (let_go before.state) (let_go after.state)
+lets_go_on more before after lets = elim lets.state [
+  | inl e ↦ record { rest = listed before.state.waiting.held; joined = sym (released_let_go before.state) ∙ sym (ap let_go e.state) }
+  | inr sends ↦ record { rest = listed before.state.waiting.held; joined = sym (released_let_go before.state) ∙ sym (sends_let_go (record before.state { waiting = released before.state.waiting }) after.state sends) }
 ]
 
 -- a turn keeps the messages
-turned_messages : (capacity knew : _) (more : _) (before after : PortState) (answer : PortTurn) → Turned capacity knew more before after answer → port_messages after ≡ port_messages before
-turned_messages capacity knew more before after (turns.Full s t) turned = ap port_messages turned.state
-turned_messages capacity knew more before after turns.Clear turned = ap port_messages turned.state
-turned_messages capacity knew more before after turns.Moved turned = elim turned [
-  | inl sends ↦ sends_messages before after sends
+turned_messages : (more : _) (before after : PortSide) (answer : PortTurn) → Turned more before after answer → port_messages after.state ≡ port_messages before.state
+turned_messages more before after (turns.Full s t) turned = ap port_messages turned.state
+turned_messages more before after turns.Clear turned = ap port_messages turned.state
+turned_messages more before after turns.Moved turned = elim turned [
+  | inl sends ↦ sends_messages before.state after.state sends
   | inr more_cases ↦ elim more_cases [
-    | inl lets ↦ lets_go_messages capacity knew more before after lets
-    | inr closes ↦ closes_messages before after closes
+    | inl lets ↦ lets_go_messages more before after lets
+    | inr closes ↦ closes_messages before.state after.state closes
   ]
 ]
 
 -- A turn keeps the words that were offered.
-pub turned_accesses : (capacity knew : _) (more : _) (before after : PortState) (answer : PortTurn) → Turned capacity knew more before after answer → port_accesses after ≡ port_accesses before
-turned_accesses capacity knew more before after answer turned = ap (λ (list : List Message). flat_map message_accesses list) (turned_messages capacity knew more before after answer turned)
+pub turned_words : (more : _) (before after : PortSide) (answer : PortTurn) → Turned more before after answer → offered_words after ≡ offered_words before
+turned_words more before after answer turned = ap (λ (list : List Message). flat_map message_accesses list) (turned_messages more before after answer turned)
 
 -- A turn takes nothing back of what was let go.
-pub turned_goes_on : (capacity knew : _) (more : _) (before after : PortState) (answer : PortTurn) → Turned capacity knew more before after answer → IsPrefix (let_go before) (let_go after)
-turned_goes_on capacity knew more before after (turns.Full s t) turned = begins_equal (let_go before) (let_go after) (ap let_go turned.state)
-turned_goes_on capacity knew more before after turns.Clear turned = begins_equal (let_go before) (let_go after) (ap let_go turned.state)
-turned_goes_on capacity knew more before after turns.Moved turned = elim turned [
-  | inl sends ↦ begins_equal (let_go before) (let_go after) (sends_let_go before after sends)
+pub turned_goes_on : (more : _) (before after : PortSide) (answer : PortTurn) → Turned more before after answer → IsPrefix (let_go before.state) (let_go after.state)
+turned_goes_on more before after (turns.Full s t) turned = begins_equal (let_go before.state) (let_go after.state) (ap let_go turned.state)
+turned_goes_on more before after turns.Clear turned = begins_equal (let_go before.state) (let_go after.state) (ap let_go turned.state)
+turned_goes_on more before after turns.Moved turned = elim turned [
+  | inl sends ↦ begins_equal (let_go before.state) (let_go after.state) (sends_let_go before.state after.state sends)
   | inr more_cases ↦ elim more_cases [
-    | inl lets ↦ lets_go_on capacity knew more before after lets
-    | inr closes ↦ begins_equal (let_go before) (let_go after) (closes_let_go before after closes)
+    | inl lets ↦ lets_go_on more before after lets
+    | inr closes ↦ begins_equal (let_go before.state) (let_go after.state) (closes_let_go before.state after.state closes)
   ]
 ]
 
@@ -100,10 +96,3 @@ closes_accesses before after closes = ap (λ (list : List Message). flat_map mes
 -- what was held is let go: the words are the same
 pub released_accesses : (before : PortState) → port_accesses (record before { waiting = released before.waiting }) ≡ port_accesses before
 released_accesses before = ap (λ (list : List Message). flat_map message_accesses list) (released_messages before)
-
--- the first message is sent: nothing that was let go is taken back
-pub sends_goes_on : (before after : PortState) → SendsFirst before after → IsPrefix (let_go before) (let_go after)
-sends_goes_on before after sends = begins_equal (let_go before) (let_go after) (sends_let_go before after sends)
-
-pub closes_goes_on : (before after : PortState) → SendsClose before after → IsPrefix (let_go before) (let_go after)
-closes_goes_on before after closes = begins_equal (let_go before) (let_go after) (closes_let_go before after closes)

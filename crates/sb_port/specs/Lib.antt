@@ -1,4 +1,3 @@
 pub mod Waiting
 pub mod Ports
 pub mod Turns
-pub mod StateOf

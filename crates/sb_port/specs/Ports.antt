@@ -1,12 +1,14 @@
--- When a port is fit: what it says of itself is true of its end.
-use Rattle.std.specs.Prelude.{◌≡◌, ℕ, ◌≤◌, Bool, true, not, ◌&&◌, ◌||◌, List, [], ◌++◌, length, flat_map, All, None}
+-- What a port is to contracts, and when it is fit: what it says of itself is true of its end.
+use Rattle.std.specs.Prelude.{◌≡◌, ℕ, ◌≤◌, Bool, true, false, not, ◌&&◌, ◌||◌, List, [], ◌++◌, length, flat_map, All, None}
 use Rattle.sb_packet.specs.Accesses.{Access, message_accesses}
 use Rattle.sb_packet.specs.Messages.{Message}
 use Rattle.sb_packet.specs.Plans.{RingPlan}
 use Rattle.sb_packet.specs.Traffic.{IsPlanned, has_close, item_messages}
 use Rattle.sb_packet.specs.Soundness.{IsSound, IsFine}
 use Rattle.sb_packet.specs.declared.item.Item.{Item}
-use Rattle.sb_port.specs.Waiting.{Waiting, IsWidth, listed, some_owed}
+use Rattle.sb_link.specs.Ends.{Mark}
+use Rattle.sb_link.specs.declared.ends.TxEnd as tx
+use Rattle.sb_port.specs.Waiting.{Waiting, IsWidth, listed, nothing_waits, some_owed}
 
 -- what a port goes by
 pub record PortState : Type 0 where
@@ -21,6 +23,33 @@ pub record PortState : Type 0 where
   -- how many words it was offered in all
   pub claimed : ℕ
 
+-- A port, with what its end knows.
+pub record PortSide : Type 0 where
+  pub plan : RingPlan
+  pub mark : Mark
+  -- how many items it has learnt to have been taken
+  pub taken : ℕ
+  -- what was sent, what is to be sent, and whether it was told to close
+  pub state : PortState
+
+-- a port over an end at which nothing was sent
+abbrev pub fresh_port : {T : Type 0} → tx.Ghosts T → T → PortSide
+fresh_port sending end = record {
+  plan = sending.planned end;
+  mark = sending.mark end;
+  taken = sending.taken end;
+  state = record { sent = []; waiting = nothing_waits (sending.planned end).width; closing = false; shut = false; claimed = 0 };
+}
+
+-- the same port over this end, which has met the other one
+abbrev pub with_end : {T : Type 0} → tx.Ghosts T → PortSide → T → PortSide
+with_end sending port end = record {
+  plan = sending.planned end;
+  mark = sending.mark end;
+  taken = sending.taken end;
+  state = record port.state { sent = sending.sent end };
+}
+
 -- the messages that were sent, then those that are owed, then the one that is held
 abbrev pub port_messages : PortState → List Message
 port_messages s = item_messages s.sent ++ (s.waiting.owed ++ listed s.waiting.held)
@@ -28,6 +57,10 @@ port_messages s = item_messages s.sent ++ (s.waiting.owed ++ listed s.waiting.he
 -- The words that a port was offered, in order: those sent, then those owed, then those held.
 abbrev pub port_accesses : PortState → List Access
 port_accesses s = flat_map message_accesses (port_messages s)
+
+-- the words that a port was offered so far
+abbrev pub offered_words : PortSide → List Access
+offered_words port = port_accesses port.state
 
 -- the messages that were let go: sent, or to be sent next
 abbrev pub let_go : PortState → List Message

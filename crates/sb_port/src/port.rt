@@ -1,6 +1,6 @@
 //! The port through which a node sends over a ring.
 
-ghost use Rattle.std.specs.Prelude.{◌≡◌, ◌≤◌, ◌+◌, Bool, true, false, not, [], ◌∷◌, ◌++◌, None, drop, length};
+ghost use Rattle.std.specs.Prelude.{◌≡◌, ◌≤◌, ◌+◌, true, false, not, [], ◌∷◌, ◌++◌, None, drop, length};
 ghost use Rattle.std.specs.Borrow.{sem, Lends};
 ghost use Rattle.sb_packet.specs.Accesses.{accesses_of};
 ghost use Rattle.sb_packet.specs.Journals.{is_request};
@@ -9,31 +9,39 @@ ghost use Rattle.sb_packet.specs.Prefixes.{IsPrefix};
 ghost use Rattle.sb_packet.specs.Spans.{word_count_of};
 ghost use Rattle.sb_packet.specs.Traffic.{IsPlanned, MayPass};
 ghost use Rattle.sb_link.specs.PlanOf.{plan_of};
-ghost use Rattle.sb_port.specs.Waiting.{IsWidth, nothing_waits, offered};
-ghost use Rattle.sb_port.specs.Ports.{IsFit, let_go, owes, port_accesses};
+ghost use Rattle.sb_port.specs.Waiting.{IsWidth, offered};
+ghost use Rattle.sb_port.specs.Ports.{IsFit, fresh_port, let_go, offered_words, owes, with_end};
 ghost use Rattle.sb_port.specs.Turns.{TriesClose, TriesFirst, Turned};
-ghost use Rattle.sb_port.specs.StateOf.{state_of};
 ghost use Rattle.sb_port.specs.contracts.port.OutPort.{the_row};
 
 use crate::outbox::Outbox;
 use crate::port_turn::PortTurn;
 use crate::sound::is_sound;
 use sb_link::{LinkPlan, Push, TxEnd};
-use sb_packet::{Item, Op, Packet, span, word_count};
+use sb_packet::{Item, Op, Packet, word_count};
+use std::marker::Model;
 
 /// The port through which a node sends over a ring: what it is offered goes out in that order, and a Close behind it.
 #[derive(Drop)]
 pub struct OutPort<T: TxEnd> {
-    /// The sending end of the ring.
-    pub tx: T,
-    /// What is to be sent.
-    pub outbox: Outbox,
-    /// The port was told to close.
-    pub closing: bool,
-    /// The Close was sent.
-    pub shut: bool,
-    /// The number of words that were offered.
-    pub claimed: u32,
+    // the sending end of the ring
+    tx: T,
+    // what is to be sent
+    outbox: Outbox,
+    // the port was told to close
+    closing: bool,
+    // the Close was sent
+    shut: bool,
+    // the number of words that were offered
+    claimed: u32,
+}
+
+impl<T: TxEnd> Model for OutPort<T> {
+    ghost use Rattle.sb_port.specs.Ports.{PortSide};
+
+    ghost Value = { PortSide };
+
+    ghost view = { λ p. record { plan = T.planned p.tx; mark = T.mark p.tx; taken = T.taken p.tx; state = record { sent = T.sent p.tx; waiting = p.outbox; closing = p.closing; shut = p.shut; claimed = p.claimed } } };
 }
 
 // the packet is an answer
@@ -42,7 +50,7 @@ fn is_answer(packet: &Packet) -> bool
 {
     match packet.cmd.op {
         Op::RespRd | Op::RespWr => true,
-        _ => false,
+        Op::ReqRd | Op::ReqWr | Op::ReqWrPosted | Op::ReqAtomic => false,
     }
 }
 
@@ -62,9 +70,8 @@ impl<T: TxEnd> OutPort<T> {
     pub fn new(tx: T) -> OutPort<T>
         requires unsent { T.sent tx ≡ [] }
         requires wide { IsWidth (T.planned tx).width }
-        ensures end { result.tx ≡ tx }
-        ensures state { state_of T.sent result ≡ record { sent = []; waiting = nothing_waits (T.planned tx).width; closing = false; shut = false; claimed = 0 } }
-        ensures fit { IsFit (T.planned tx) (state_of T.sent result) }
+        ensures fresh { result ≡ fresh_port T.TxEnd tx }
+        ensures fit { IsFit result.plan result.state }
     {
         let width = tx.plan().width;
         OutPort {
@@ -76,9 +83,16 @@ impl<T: TxEnd> OutPort<T> {
         }
     }
 
+    /// The plan of the port's ring.
+    pub fn plan(&self) -> &LinkPlan
+        ensures plan { plan_of result.now ≡ self.now.plan }
+    {
+        self.tx.plan()
+    }
+
     /// Whether the port owes no item, so that it can be offered one.
     pub fn ready(&self) -> bool
-        ensures ready { result ≡ not (owes (state_of T.sent self.now)) }
+        ensures ready { result ≡ not (owes self.now.state) }
     {
         match self.outbox.first() {
             Some(_) => false,
@@ -89,9 +103,9 @@ impl<T: TxEnd> OutPort<T> {
     /// Whether a packet may be offered: it is sound, of the ring's direction and of one of its flows, and its words are
     /// within the ring's budget, behind all that were offered before.
     pub fn passes(&self, packet: &Packet) -> bool
-        requires fit { IsFit (T.planned self.now.tx) (state_of T.sent self.now) }
-        ensures yes { result ≡ true → MayPass (T.planned self.now.tx) (length (port_accesses (state_of T.sent self.now))) (message_of packet.now) }
-        ensures no { MayPass (T.planned self.now.tx) (length (port_accesses (state_of T.sent self.now))) (message_of packet.now) → result ≡ true }
+        requires fit { IsFit self.now.plan self.now.state }
+        ensures yes { result ≡ true → MayPass self.now.plan (length (offered_words self.now)) (message_of packet.now) }
+        ensures no { MayPass self.now.plan (length (offered_words self.now)) (message_of packet.now) → result ≡ true }
     {
         if !is_sound(packet) {
             return false;
@@ -108,14 +122,15 @@ impl<T: TxEnd> OutPort<T> {
 
     /// Takes a packet to send. The port is ready and was not told to close, and the packet passes.
     pub fn offer(&mut self, packet: &Packet)
-        requires fit { IsFit (T.planned self.old.tx) (state_of T.sent self.old) }
-        requires ready { owes (state_of T.sent self.old) ≡ false }
-        requires untold { self.old.closing ≡ false }
-        requires passes { MayPass (T.planned self.old.tx) (length (port_accesses (state_of T.sent self.old))) (message_of packet.now) }
-        ensures end { self.new.tx ≡ self.old.tx }
-        ensures state { state_of T.sent self.new ≡ record (state_of T.sent self.old) { waiting = offered self.old.outbox (message_of packet.now); claimed = self.old.claimed + word_count_of packet.now.cmd } }
-        ensures words { port_accesses (state_of T.sent self.new) ≡ port_accesses (state_of T.sent self.old) ++ accesses_of packet.now }
-        ensures fit { IsFit (T.planned self.new.tx) (state_of T.sent self.new) }
+        requires fit { IsFit self.old.plan self.old.state }
+        requires ready { owes self.old.state ≡ false }
+        requires untold { self.old.state.closing ≡ false }
+        requires passes { MayPass self.old.plan (length (offered_words self.old)) (message_of packet.now) }
+        ensures offered { self.new.state.waiting ≡ offered self.old.state.waiting (message_of packet.now) }
+        ensures claimed { self.new.state.claimed ≡ self.old.state.claimed + word_count_of packet.now.cmd }
+        ensures rest { self.new ≡ record self.old { state = record self.old.state { waiting = self.new.state.waiting; claimed = self.new.state.claimed } } }
+        ensures words { offered_words self.new ≡ offered_words self.old ++ accesses_of packet.now }
+        ensures fit { IsFit self.new.plan self.new.state }
     {
         self.outbox.offer(packet);
         self.claimed += word_count(&packet.cmd);
@@ -123,42 +138,39 @@ impl<T: TxEnd> OutPort<T> {
 
     // sends the first packet that is owed, where the ring has room
     fn send(&mut self, packet: &Packet) -> PortTurn
-        requires fit { IsFit (T.planned self.old.tx) (state_of T.sent self.old) }
-        requires first { self.old.outbox.owed ≡ message_of packet.now ∷ drop 1 self.old.outbox.owed }
-        ensures plan { T.planned self.new.tx ≡ T.planned self.old.tx }
-        ensures mark { T.mark self.new.tx ≡ T.mark self.old.tx }
-        ensures learnt { T.taken self.old.tx ≤ T.taken self.new.tx }
-        ensures words { port_accesses (state_of T.sent self.new) ≡ port_accesses (state_of T.sent self.old) }
-        ensures goes_on { IsPrefix (let_go (state_of T.sent self.old)) (let_go (state_of T.sent self.new)) }
-        ensures tried { TriesFirst (T.planned self.old.tx).capacity (T.taken self.new.tx) (state_of T.sent self.old) (state_of T.sent self.new) result }
-        ensures fit { IsFit (T.planned self.new.tx) (state_of T.sent self.new) }
+        requires fit { IsFit self.old.plan self.old.state }
+        requires first { self.old.state.waiting.owed ≡ message_of packet.now ∷ drop 1 self.old.state.waiting.owed }
+        ensures tried { TriesFirst self.old self.new result }
+        ensures plan { self.new.plan ≡ self.old.plan }
+        ensures mark { self.new.mark ≡ self.old.mark }
+        ensures learnt { self.old.taken ≤ self.new.taken }
+        ensures fit { IsFit self.new.plan self.new.state }
     {
         match self.tx.try_push(&Item::Packet(*packet)) {
             Push::Done => {
                 self.outbox.advance();
                 PortTurn::Moved
             }
-            Push::Full { sent, taken } => PortTurn::Full { sent, taken },
+            Push::Full { sent, taken } => {
+                self.tx.flush();
+                PortTurn::Full { sent, taken }
+            }
         }
     }
 
     // sends the Close, where the port was told to and the ring has room
     fn send_close(&mut self) -> PortTurn
-        requires fit { IsFit (T.planned self.old.tx) (state_of T.sent self.old) }
-        requires none_owed { self.old.outbox.owed ≡ [] }
-        requires none_held { self.old.outbox.held ≡ None }
-        ensures plan { T.planned self.new.tx ≡ T.planned self.old.tx }
-        ensures mark { T.mark self.new.tx ≡ T.mark self.old.tx }
-        ensures learnt { T.taken self.old.tx ≤ T.taken self.new.tx }
-        ensures words { port_accesses (state_of T.sent self.new) ≡ port_accesses (state_of T.sent self.old) }
-        ensures goes_on { IsPrefix (let_go (state_of T.sent self.old)) (let_go (state_of T.sent self.new)) }
-        ensures tried { TriesClose (T.planned self.old.tx).capacity (T.taken self.new.tx) (state_of T.sent self.old) (state_of T.sent self.new) result }
-        ensures fit { IsFit (T.planned self.new.tx) (state_of T.sent self.new) }
+        requires fit { IsFit self.old.plan self.old.state }
+        requires none_owed { self.old.state.waiting.owed ≡ [] }
+        requires none_held { self.old.state.waiting.held ≡ None }
+        ensures tried { TriesClose self.old self.new result }
+        ensures plan { self.new.plan ≡ self.old.plan }
+        ensures mark { self.new.mark ≡ self.old.mark }
+        ensures learnt { self.old.taken ≤ self.new.taken }
+        ensures fit { IsFit self.new.plan self.new.state }
     {
-        if !self.closing {
-            return PortTurn::Clear;
-        }
-        if self.shut {
+        if !self.closing || self.shut {
+            self.tx.flush();
             return PortTurn::Clear;
         }
         match self.tx.try_push(&Item::Close) {
@@ -166,27 +178,28 @@ impl<T: TxEnd> OutPort<T> {
                 self.shut = true;
                 PortTurn::Moved
             }
-            Push::Full { sent, taken } => PortTurn::Full { sent, taken },
+            Push::Full { sent, taken } => {
+                self.tx.flush();
+                PortTurn::Full { sent, taken }
+            }
         }
     }
 
-    /// Sends at most one item. What is held for merging is let go where nothing was owed and either `more` is false, so
-    /// that no more is to be expected, or the port was told to close.
-    pub fn turn(&mut self, more: bool) -> PortTurn
-        requires fit { IsFit (T.planned self.old.tx) (state_of T.sent self.old) }
-        ensures turned { Turned (T.planned self.old.tx).capacity (T.taken self.new.tx) more (state_of T.sent self.old) (state_of T.sent self.new) result }
-        ensures words { port_accesses (state_of T.sent self.new) ≡ port_accesses (state_of T.sent self.old) }
-        ensures goes_on { IsPrefix (let_go (state_of T.sent self.old)) (let_go (state_of T.sent self.new)) }
-        ensures told { self.new.closing ≡ self.old.closing }
-        ensures learnt { T.taken self.old.tx ≤ T.taken self.new.tx }
-        ensures plan { T.planned self.new.tx ≡ T.planned self.old.tx }
-        ensures mark { T.mark self.new.tx ≡ T.mark self.old.tx }
-        ensures fit { IsFit (T.planned self.new.tx) (state_of T.sent self.new) }
+    // sends at most one item, or lets go what is held
+    fn step(&mut self, more: bool) -> PortTurn
+        requires fit { IsFit self.old.plan self.old.state }
+        ensures turned { Turned more self.old self.new result }
+        ensures told { self.new.state.closing ≡ self.old.state.closing }
+        ensures learnt { self.old.taken ≤ self.new.taken }
+        ensures plan { self.new.plan ≡ self.old.plan }
+        ensures mark { self.new.mark ≡ self.old.mark }
+        ensures fit { IsFit self.new.plan self.new.state }
     {
         if let Some(packet) = self.outbox.first() {
             return self.send(&packet);
         }
         if more && !self.closing {
+            self.tx.flush();
             return PortTurn::Clear;
         }
         if let Some(packet) = self.outbox.let_go() {
@@ -196,20 +209,44 @@ impl<T: TxEnd> OutPort<T> {
         self.send_close()
     }
 
+    /// Sends at most one item. What is held for merging is let go where nothing was owed and either `more` is false, so
+    /// that no more is to be expected, or the port was told to close. Where it answers Clear or Full, all that was sent
+    /// is published.
+    #[tactic(auto, using(crate::proofs::PortWords::turned_words, crate::proofs::PortWords::turned_goes_on))]
+    pub fn turn(&mut self, more: bool) -> PortTurn
+        requires fit { IsFit self.old.plan self.old.state }
+        ensures turned { Turned more self.old self.new result }
+        ensures words { offered_words self.new ≡ offered_words self.old }
+        ensures goes_on { IsPrefix (let_go self.old.state) (let_go self.new.state) }
+        ensures told { self.new.state.closing ≡ self.old.state.closing }
+        ensures learnt { self.old.taken ≤ self.new.taken }
+        ensures plan { self.new.plan ≡ self.old.plan }
+        ensures mark { self.new.mark ≡ self.old.mark }
+        ensures fit { IsFit self.new.plan self.new.state }
+    {
+        self.step(more)
+    }
+
     /// Tells the port to send a Close behind all that it owes and holds. It wasn't told before.
     pub fn close(&mut self)
-        requires fit { IsFit (T.planned self.old.tx) (state_of T.sent self.old) }
-        requires untold { self.old.closing ≡ false }
-        ensures end { self.new.tx ≡ self.old.tx }
-        ensures state { state_of T.sent self.new ≡ record (state_of T.sent self.old) { closing = true } }
-        ensures fit { IsFit (T.planned self.new.tx) (state_of T.sent self.new) }
+        requires fit { IsFit self.old.plan self.old.state }
+        requires untold { self.old.state.closing ≡ false }
+        ensures told { self.new ≡ record self.old { state = record self.old.state { closing = true } } }
+        ensures fit { IsFit self.new.plan self.new.state }
     {
         self.closing = true;
     }
 
+    /// Whether the port was told to close.
+    pub fn closing(&self) -> bool
+        ensures closing { result ≡ self.now.state.closing }
+    {
+        self.closing
+    }
+
     /// Whether the Close was sent.
     pub fn closed(&self) -> bool
-        ensures closed { result ≡ self.now.shut }
+        ensures closed { result ≡ self.now.state.shut }
     {
         self.shut
     }
@@ -217,15 +254,21 @@ impl<T: TxEnd> OutPort<T> {
     /// Lends the sending end, so that it can meet the receiving one. The port stays fit where the end keeps its plan and
     /// what was sent.
     pub fn end(&mut self) -> &mut T
-        ensures value { result.now ≡ self.old.tx }
-        ensures* writes_back { sem 𝓛 (Lends (the_row T.row) T.row self.entry result (λ w. record self.old { tx = w })) }
+        ensures plan { T.planned result.now ≡ self.old.plan }
+        ensures mark { T.mark result.now ≡ self.old.mark }
+        ensures taken { T.taken result.now ≡ self.old.taken }
+        ensures sent { T.sent result.now ≡ self.old.state.sent }
+        ensures* writes_back { sem 𝓛 (Lends (the_row T.row T.TxEnd) T.row self.entry result (λ end. with_end T.TxEnd self.old end)) }
     {
         &mut self.tx
     }
 
     /// Gives the port up, and hands its end out.
     pub fn into_end(self) -> T
-        ensures end { result ≡ self.tx }
+        ensures plan { T.planned result ≡ self.plan }
+        ensures mark { T.mark result ≡ self.mark }
+        ensures taken { T.taken result ≡ self.taken }
+        ensures sent { T.sent result ≡ self.state.sent }
     {
         let OutPort {
             tx,

@@ -3,7 +3,6 @@
 ghost use Rattle.std.specs.Prelude.{◌≡◌, ◌≤◌, ◌<◌, ◌⊎◌, []};
 ghost use Rattle.sb_port.specs.Waiting.{IsWidth};
 ghost use Rattle.sb_port.specs.Ports.{IsFit};
-ghost use Rattle.sb_port.specs.StateOf.{state_of};
 
 use crate::{OutPort, PortTurn};
 use sb_link::{Fabric, Flows, LinkPlan, Pop, RxEnd, SerialFabric};
@@ -68,11 +67,11 @@ fn word(op: Op, host: u8, dst: u64) -> Packet
 
 // hands over what was sent, takes an item out, tells the port so, and gives it a turn
 fn deliver<F: Fabric>(port: &mut OutPort<F::Tx>, rx: &mut F::Rx) -> Pop
-    requires ring { F.Tx.mark port.old.tx ≡ F.Rx.mark rx.old }
-    requires fit { IsFit (F.Tx.planned port.old.tx) (state_of F.Tx.sent port.old) }
-    ensures ring { F.Tx.mark port.new.tx ≡ F.Rx.mark rx.new }
-    ensures fit { IsFit (F.Tx.planned port.new.tx) (state_of F.Tx.sent port.new) }
-    ensures plan { F.Tx.planned port.new.tx ≡ F.Tx.planned port.old.tx }
+    requires ring { port.old.mark ≡ F.Rx.mark rx.old }
+    requires fit { IsFit port.old.plan port.old.state }
+    ensures ring { port.new.mark ≡ F.Rx.mark rx.new }
+    ensures fit { IsFit port.new.plan port.new.state }
+    ensures plan { port.new.plan ≡ port.old.plan }
 {
     F::hand(port.end(), rx);
     let popped = rx.try_pop();

@@ -1,5 +1,5 @@
 -- carries: the parts of a message that a ring can carry.
-use Rattle.std.proofs.Common.{rules, ◌≡◌, ◌≤◌, arith, not, true, false, Bool}
+use Rattle.std.proofs.Common.{rules, arith}
 use Rattle.sb_link.proofs.bench.carries.Goals as goal
 
 pub returns : goal.returns

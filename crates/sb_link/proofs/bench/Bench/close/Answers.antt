@@ -1,5 +1,5 @@
 -- close: a Close has no words.
-use Rattle.std.proofs.Common.{rules, ◌≡◌, ◌≤◌, arith, not, true, false, Bool}
+use Rattle.std.proofs.Common.{rules, arith}
 use Rattle.sb_packet.specs.declared.item.Item.TheVariants as items
 use Rattle.sb_link.proofs.Pushes.{words_after}
 use Rattle.sb_link.proofs.bench.Bench.close.Goals as goal

@@ -1,5 +1,5 @@
 -- push: the packet may follow, and what is counted stays counted.
-use Rattle.std.proofs.Common.{rules, ◌≡◌, ◌≤◌, arith, not, true, false, Bool, subst, ap, refl}
+use Rattle.std.proofs.Common.{rules, ◌≡◌, arith, subst, ap, refl}
 use Rattle.sb_packet.specs.Plans.{RingPlan}
 use Rattle.sb_packet.specs.declared.item.Item.TheVariants as items
 use Rattle.sb_packet.specs.Messages.{message_of}
