@@ -13,8 +13,9 @@ use Rattle.sb_packet.specs.Traffic.{has_close, item_accesses}
 use Rattle.sb_packet.specs.Ways.{first_link}
 use Rattle.sb_packet.specs.declared.transaction.Txn.{Txn}
 use Rattle.sb_packet.proofs.Lists.{All-made, filter_all, filter_none}
-use Rattle.sb_port.specs.Ports.{IsFit}
-use Rattle.sb_node.specs.Sides.{PortSide, RingSide, has_ended, has_rest, is_drained, is_full, offered_words, received_words}
+use Rattle.sb_packet.specs.Plans.{RingPlan}
+use Rattle.sb_port.specs.Ports.{IsFit, PortSide, offered_words}
+use Rattle.sb_node.specs.Sides.{RingSide, has_ended, has_rest, is_drained, is_full, received_words}
 use Rattle.sb_host.specs.Asked.{accesses_from, asked_accesses, asked_by, line_in, sent_accesses}
 use Rattle.sb_host.specs.Hosts.{HostSide, IsHostTurn, IsKeptHost, IsWholeHost}
 use Rattle.sb_host.specs.Rows.{IsTable}
@@ -24,7 +25,6 @@ use Rattle.sb_net.specs.Flows.{aimed_script}
 use Rattle.sb_net.specs.HostSides.{IsHostBuiltFor, IsHostOf}
 use Rattle.sb_net.specs.Layouts.{HasScripts, Layout}
 use Rattle.sb_net.specs.Moments.{Moment, arrived}
-use Rattle.sb_net.specs.NetworkLayouts.{answer_ring, request_ring}
 use Rattle.sb_net.specs.RoundSides.{HasPort, HasRing, ShowsPort, ShowsRing}
 use Rattle.sb_net.specs.Runs.{IsHost}
 use Rattle.sb_net.specs.Stages.{Stages}
@@ -72,29 +72,25 @@ module _ (network : Network) where
       aimed_lines pages host 0 host.script (at_listed (λ h. All IsTransaction h.script) network.hosts host scripts.transactions inside)
       ∙ ap (λ (o : Option NetHost). filter is_aimed (option_map_or script_accesses o [])) (sym (at_listed (λ h. find (λ x. x.id == h.id) network.hosts ≡ Some h) network.hosts host (found_by_id network.hosts scripts.ids) inside))
 
--- what stands at a place is one thing
-one_there : {X : Type 0} (o : Option X) (x y : X) → o ≡ Some x → o ≡ Some y → x ≡ y
-one_there o x y a b = let same : Some x ≡ Some y = sym a ∙ b in cc
-
 -- what the laws of hosts say: what a whole host offered begins what it asks for, and is all of it once its Close was sent
 abbrev pub HostsOffer : Type 0
-HostsOffer = (h : HostSide) (port : PortSide) → IsWholeHost h → h.requests ≡ Some port → IsPrefix (offered_words port) (asked_accesses h.asked)
+HostsOffer = (h : HostSide) → IsWholeHost h → IsPrefix (offered_words h.requests) (asked_accesses h.transactions.asked)
 
 abbrev pub HostsOfferAll : Type 0
-HostsOfferAll = (h : HostSide) (port : PortSide) → IsWholeHost h → h.requests ≡ Some port → has_close port.state.sent ≡ true → offered_words port ≡ asked_accesses h.asked
+HostsOfferAll = (h : HostSide) → IsWholeHost h → has_close h.requests.state.sent ≡ true → offered_words h.requests ≡ asked_accesses h.transactions.asked
 
-pub host_promise : HostsOffer → HostsOfferAll → (network : Network) (layout : Layout) (m : Moment) (host : NetHost) (h : HostSide) (port : PortSide) → HasScripts network → All (λ d. d.base % 4096 ≡ 0) network.devices →
-    IsHostOf network layout host h → IsWholeHost h → h.requests ≡ Some port → HasPort m h.asks_by port → All (λ f. f.host ≡ host.id → IsHost network layout m f) layout.requests.flows
-host_promise offer offer_all network layout m host h port scripts pages of whole there has k f below mine =
+pub host_promise : HostsOffer → HostsOfferAll → (network : Network) (layout : Layout) (m : Moment) (host : NetHost) (h : HostSide) → HasScripts network → All (λ d. d.base % 4096 ≡ 0) network.devices →
+    IsHostOf network layout host h → IsWholeHost h → HasPort m h.requests.plan.ring h.requests → All (λ f. f.host ≡ host.id → IsHost network layout m f) layout.requests.flows
+host_promise offer offer_all network layout m host h scripts pages of whole has k f below mine =
     let flow = get_or layout.requests.flows k f in
-    let first : layout.requests.first flow ≡ h.asks_by = of.asks k f below mine in
-    let script : asked_accesses h.asked ≡ aimed_script network flow.host = ap asked_accesses of.asked ∙ asked_script network host scripts pages of.listed ∙ ap (aimed_script network) (sym mine) in
-    let offered : m.offered (layout.requests.first flow) ≡ offered_words port = ap m.offered first ∙ has.offered in
-    let sent : m.sent (layout.requests.first flow) ≡ port.state.sent = ap m.sent first ∙ has.sent in
-    let begins = offer h port whole there in
+    let first : layout.requests.first flow ≡ h.requests.plan.ring = of.asks k f below mine in
+    let script : asked_accesses h.transactions.asked ≡ aimed_script network flow.host = ap asked_accesses of.asked ∙ asked_script network host scripts pages of.listed ∙ ap (aimed_script network) (sym mine) in
+    let offered : m.offered (layout.requests.first flow) ≡ offered_words h.requests = ap m.offered first ∙ has.offered in
+    let sent : m.sent (layout.requests.first flow) ≡ h.requests.state.sent = ap m.sent first ∙ has.sent in
+    let begins = offer h whole in
     record {
       in_order = record { rest = begins.rest; joined = ap (λ (l : List Access). l ++ begins.rest) offered ∙ begins.joined ∙ script };
-      closed = λ shut. offered ∙ offer_all h port whole there (ap has_close (sym sent) ∙ shut) ∙ script;
+      closed = λ shut. offered ∙ offer_all h whole (ap has_close (sym sent) ∙ shut) ∙ script;
     }
 
 pub idle_host_sends : (stages : Stages) (s : RoundEnd) (r : ℕ) (port : PortSide) (ring : RingSide) → ShowsPort s r port → stages.leaves_host r ≡ true → IsFit port.plan port.state → IsIdleHost port ring → IsIdleSender stages s r
@@ -115,42 +111,26 @@ idle_host_receives stages s r port ring got holds none idle = record {
     by_cause (inl empty) = inl (got.empty ∙ empty)
     by_cause (inr never) = absurd never
 
--- a host that didn't move is idle, at the port and the ring that stand at its places
-pub unmoved_sends : (stages : Stages) (s : RoundEnd) (before after : HostSide) (answer : Turn) (port : PortSide) → IsWholeHost after → IsHostTurn before answer after → answer ≢ Moved → after.requests ≡ Some port →
-    ShowsPort s after.asks_by port → stages.leaves_host after.asks_by ≡ true → IsIdleSender stages s after.asks_by
-unmoved_sends stages s before after answer port whole turn still there shows leaves =
-    let fit = subst (λ (p : PortSide). IsFit p.plan p.state) (one_there after.requests whole.port port whole.has_port there) whole.fit in
-    idle_host_sends stages s after.asks_by port whole.ring shows leaves fit (turn.idle still port there whole.ring whole.has_ring)
+-- a host that didn't move is idle, at its port and at its ring
+pub unmoved_sends : (stages : Stages) (s : RoundEnd) (before after : HostSide) (round : ℕ) (answer : Turn) → IsWholeHost after → IsHostTurn before round answer after → answer ≢ Moved →
+    ShowsPort s after.requests.plan.ring after.requests → stages.leaves_host after.requests.plan.ring ≡ true → IsIdleSender stages s after.requests.plan.ring
+unmoved_sends stages s before after round answer whole turn still shows leaves = idle_host_sends stages s after.requests.plan.ring after.requests after.answers shows leaves whole.fit (turn.idle still)
 
-pub unmoved_receives : (stages : Stages) (s : RoundEnd) (before after : HostSide) (answer : Turn) (ring : RingSide) → IsWholeHost after → IsHostTurn before answer after → answer ≢ Moved → after.answers ≡ Some ring →
-    ShowsRing s after.answered_by ring → s.holds after.answered_by ≡ None → s.at.held after.answered_by ≡ [] → IsIdleReceiver stages s after.answered_by
-unmoved_receives stages s before after answer ring whole turn still here got holds none =
-    idle_host_receives stages s after.answered_by whole.port ring got holds none (turn.idle still whole.port whole.has_port ring here)
+pub unmoved_receives : (stages : Stages) (s : RoundEnd) (before after : HostSide) (round : ℕ) (answer : Turn) → IsWholeHost after → IsHostTurn before round answer after → answer ≢ Moved →
+    ShowsRing s after.answers.plan.ring after.answers → s.holds after.answers.plan.ring ≡ None → s.at.held after.answers.plan.ring ≡ [] → IsIdleReceiver stages s after.answers.plan.ring
+unmoved_receives stages s before after round answer whole turn still got holds none = idle_host_receives stages s after.answers.plan.ring after.requests after.answers got holds none (turn.idle still)
 
 -- a whole host that told its port to close has come to the end of its script
-pub told_at_end : (h : HostSide) (port : PortSide) → IsWholeHost h → h.requests ≡ Some port → port.state.closing ≡ true → h.next ≡ length h.asked.lines
-told_at_end h port whole there told = whole.in_order.closes (ap (λ (p : PortSide). p.state.closing) (one_there h.requests whole.port port whole.has_port there) ∙ told)
+pub told_at_end : (h : HostSide) → IsWholeHost h → h.requests.state.closing ≡ true → h.transactions.next ≡ length h.transactions.asked.lines
+told_at_end h whole told = whole.in_order.closes told
 
 -- its table has the answers to its words among those that came by its ring
-pub table_of_ring : (m : Moment) (h : HostSide) (ring : RingSide) → IsWholeHost h → h.answers ≡ Some ring → HasRing m h.answered_by ring → IsTable h.asked (arrived m h.answered_by) h.rows
-table_of_ring m h ring whole here got =
-    let same : received_words whole.ring ≡ arrived m h.answered_by = ap received_words (one_there h.answers whole.ring ring whole.has_ring here) ∙ ap item_accesses (sym got.received) in
-    subst (λ (l : List Access). IsTable h.asked l h.rows) same whole.in_order.table
+pub table_of_ring : (m : Moment) (h : HostSide) → IsWholeHost h → HasRing m h.answers.plan.ring h.answers → IsTable h.transactions.asked (arrived m h.answers.plan.ring) h.transactions.rows
+table_of_ring m h whole got = subst (λ (l : List Access). IsTable h.transactions.asked l h.transactions.rows) (ap item_accesses (sym got.received)) whole.in_order.table
 
--- a host at the rings of the link from a place is built for it
-pub is_built : (network : Network) (place : ℕ) (h : HostSide) (port : PortSide) (ring : RingSide) → IsWholeHost h → h.requests ≡ Some port → h.answers ≡ Some ring →
-    ((host : NetHost) → slice_get network.hosts place ≡ Some host → h.asked ≡ asked_by network host) →
-    ((k : ℕ) → first_link network place ≡ Some k → port.plan.ring ≡ request_ring k) →
-    ((k : ℕ) → first_link network place ≡ Some k → ring.plan.ring ≡ answer_ring k) → IsHostBuiltFor network place h
-is_built network place h port ring whole there here asked asks_by answered_by = record {
-  asked = asked;
-  asks_by = λ k e. sym whole.port_number ∙ ap (λ (p : PortSide). p.plan.ring) (one_there h.requests whole.port port whole.has_port there) ∙ asks_by k e;
-  answered_by = λ k e. sym whole.ring_number ∙ ap (λ (r : RingSide). r.plan.ring) (one_there h.answers whole.ring ring whole.has_ring here) ∙ answered_by k e;
-}
-
-pub stays_built : (network : Network) (place : ℕ) (before after : HostSide) → IsKeptHost before after → IsHostBuiltFor network place before → IsHostBuiltFor network place after
-stays_built network place before after kept built = record {
+pub stays_built : (network : Network) (place round : ℕ) (before after : HostSide) → IsKeptHost round before after → IsHostBuiltFor network place before → IsHostBuiltFor network place after
+stays_built network place round before after kept built = record {
   asked = λ host at. kept.asked ∙ built.asked host at;
-  asks_by = λ k e. kept.asks_by ∙ built.asks_by k e;
-  answered_by = λ k e. kept.answered_by ∙ built.answered_by k e;
+  asks_by = λ k e. ap (λ (plan : RingPlan). plan.ring) kept.requests.plan ∙ built.asks_by k e;
+  answered_by = λ k e. ap (λ (plan : RingPlan). plan.ring) kept.answers.plan ∙ built.answered_by k e;
 }

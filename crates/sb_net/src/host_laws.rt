@@ -8,7 +8,8 @@ ghost use Rattle.sb_host.specs.Rows.{IsTable};
 ghost use Rattle.sb_host.specs.Steps.{IsIdleHost};
 ghost use Rattle.sb_link.specs.declared.answers.Turn.{Turn};
 ghost use Rattle.sb_link.specs.declared.answers.Turn.TheVariants.{Moved};
-ghost use Rattle.sb_node.specs.Sides.{PortSide, RingSide, received_words};
+ghost use Rattle.sb_port.specs.Ports.{IsFit, PortSide};
+ghost use Rattle.sb_node.specs.Sides.{RingSide, received_words};
 ghost use Rattle.sb_packet.specs.Networks.{NetHost, Network, device_at};
 ghost use Rattle.sb_packet.specs.Outcomes.{host_outcomes};
 ghost use Rattle.sb_packet.specs.Rings.{is_upward, ring_budget, ring_flows, ring_plan};
@@ -19,12 +20,11 @@ ghost use Rattle.sb_packet.specs.Traffic.{IsPlanned};
 ghost use Rattle.sb_packet.specs.declared.transaction.Txn.{Txn};
 ghost use Rattle.sb_packet.specs.Ways.{first_link};
 ghost use Rattle.sb_packet.specs.declared.entry.Entry.{Entry};
-ghost use Rattle.sb_port.specs.Ports.{IsFit};
 ghost use Rattle.sb_net.specs.Flows.{aimed_script};
 ghost use Rattle.sb_net.specs.HostSides.{IsHostAt, IsHostBuiltFor, IsHostOf};
 ghost use Rattle.sb_net.specs.Layouts.{HasScripts, IsLayout, Layout};
 ghost use Rattle.sb_net.specs.Moments.{Moment, arrived};
-ghost use Rattle.sb_net.specs.NetworkLayouts.{answer_ring, network_flows, network_layout, request_ring};
+ghost use Rattle.sb_net.specs.NetworkLayouts.{network_flows, network_layout, request_ring};
 ghost use Rattle.sb_net.specs.Routed.{IsRouted};
 ghost use Rattle.sb_net.specs.RoundSides.{HasPort, HasRing, ShowsPort, ShowsRing};
 ghost use Rattle.sb_net.specs.Runs.{IsHost, IsMomentOf};
@@ -40,9 +40,9 @@ pub fn hosts_keep_their_promise()
     ensures script { (network : Network) (host : NetHost)
         → HasScripts network → All (λ d. d.base % 4096 ≡ 0) network.devices → Contains network.hosts host
         → asked_accesses (asked_by network host) ≡ aimed_script network host.id }
-    ensures promise { (network : Network) (layout : Layout) (m : Moment) (host : NetHost) (h : HostSide) (port : PortSide)
+    ensures promise { (network : Network) (layout : Layout) (m : Moment) (host : NetHost) (h : HostSide)
         → HasScripts network → All (λ d. d.base % 4096 ≡ 0) network.devices
-        → IsHostOf network layout host h → IsWholeHost h → h.requests ≡ Some port → HasPort m h.asks_by port
+        → IsHostOf network layout host h → IsWholeHost h → HasPort m h.requests.plan.ring h.requests
         → All (λ f. f.host ≡ host.id → IsHost network layout m f) layout.requests.flows }
 {
     hosts_offer_their_scripts();
@@ -60,44 +60,36 @@ pub fn idle_hosts_are_idle()
 
 /// So is a whole host after a turn in which it didn't move.
 pub fn unmoved_hosts_are_idle()
-    ensures sender { (stages : Stages) (s : RoundEnd) (before after : HostSide) (answer : Turn) (port : PortSide)
-        → IsWholeHost after → IsHostTurn before answer after → answer ≢ Moved
-        → after.requests ≡ Some port → ShowsPort s after.asks_by port → stages.leaves_host after.asks_by ≡ true
-        → IsIdleSender stages s after.asks_by }
-    ensures receiver { (stages : Stages) (s : RoundEnd) (before after : HostSide) (answer : Turn) (ring : RingSide)
-        → IsWholeHost after → IsHostTurn before answer after → answer ≢ Moved
-        → after.answers ≡ Some ring → ShowsRing s after.answered_by ring
-        → s.holds after.answered_by ≡ None → s.at.held after.answered_by ≡ []
-        → IsIdleReceiver stages s after.answered_by }
+    ensures sender { (stages : Stages) (s : RoundEnd) (before after : HostSide) (round : ℕ) (answer : Turn)
+        → IsWholeHost after → IsHostTurn before round answer after → answer ≢ Moved
+        → ShowsPort s after.requests.plan.ring after.requests → stages.leaves_host after.requests.plan.ring ≡ true
+        → IsIdleSender stages s after.requests.plan.ring }
+    ensures receiver { (stages : Stages) (s : RoundEnd) (before after : HostSide) (round : ℕ) (answer : Turn)
+        → IsWholeHost after → IsHostTurn before round answer after → answer ≢ Moved
+        → ShowsRing s after.answers.plan.ring after.answers
+        → s.holds after.answers.plan.ring ≡ None → s.at.held after.answers.plan.ring ≡ []
+        → IsIdleReceiver stages s after.answers.plan.ring }
 {}
 
 /// Where each ring has given its Close, a host that told its port to close knows of each of its transactions what the
 /// journal says: by the words that came to it, each is found by its reply address, its opcode and its size.
 pub fn hosts_find_the_journals_outcomes()
     ensures outcomes { (network : Network) (layout : Layout) (journal : List Entry) (m : Moment) (host : NetHost) (h : HostSide)
-        (port : PortSide) (ring : RingSide)
         → IsLayout network layout → All (λ d. d.base % 4096 ≡ 0) network.devices
         → IsMomentOf network layout journal m → HasAllEnded layout m
-        → IsHostOf network layout host h → IsWholeHost h → h.requests ≡ Some port → port.state.closing ≡ true
-        → HasRing m h.answered_by ring
-        → outcomes_so_far h.asked (received_words ring) h.next ≡ host_outcomes network journal host }
-    ensures table { (m : Moment) (h : HostSide) (ring : RingSide)
-        → IsWholeHost h → h.answers ≡ Some ring → HasRing m h.answered_by ring
-        → IsTable h.asked (arrived m h.answered_by) h.rows }
+        → IsHostOf network layout host h → IsWholeHost h → h.requests.state.closing ≡ true
+        → HasRing m h.answers.plan.ring h.answers
+        → outcomes_so_far h.transactions.asked (received_words h.answers) h.transactions.next ≡ host_outcomes network journal host }
+    ensures table { (m : Moment) (h : HostSide)
+        → IsWholeHost h → HasRing m h.answers.plan.ring h.answers
+        → IsTable h.transactions.asked (arrived m h.answers.plan.ring) h.transactions.rows }
 {}
 
-/// A whole host at the two rings of the link from a place of a network, which asks for the script there, is built for
-/// that place, and stays so in its turns. It belongs to the network: all its flows begin at its one ring, and all their
-/// answers come by its other.
+/// A host at the two rings of the link from a place of a network, which asks for the script there, stays so in its turns.
+/// It belongs to the network: all its flows begin at its one ring, and all their answers come by its other.
 pub fn built_hosts_belong_to_their_networks()
-    ensures built { (network : Network) (place : ℕ) (h : HostSide) (port : PortSide) (ring : RingSide)
-        → IsWholeHost h → h.requests ≡ Some port → h.answers ≡ Some ring
-        → ((host : NetHost) → slice_get network.hosts place ≡ Some host → h.asked ≡ asked_by network host)
-        → ((k : ℕ) → first_link network place ≡ Some k → port.plan.ring ≡ request_ring k)
-        → ((k : ℕ) → first_link network place ≡ Some k → ring.plan.ring ≡ answer_ring k)
-        → IsHostBuiltFor network place h }
-    ensures kept { (network : Network) (place : ℕ) (before after : HostSide)
-        → IsKeptHost before after → IsHostBuiltFor network place before → IsHostBuiltFor network place after }
+    ensures kept { (network : Network) (place round : ℕ) (before after : HostSide)
+        → IsKeptHost round before after → IsHostBuiltFor network place before → IsHostBuiltFor network place after }
     ensures belongs { (network : Network) (place : ℕ) (host : NetHost) (h : HostSide)
         → IsRouted network → slice_get network.hosts place ≡ Some host → IsHostBuiltFor network place h
         → IsHostOf network (network_layout network) host h }

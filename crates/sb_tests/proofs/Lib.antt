@@ -1,8 +1,3 @@
-pub mod Crossings
-pub mod Handed
-pub mod HostAgain
-pub mod Marks
-pub mod NewLine
 pub mod NewRings
+pub mod NewLine
 pub mod SampleRings
-pub mod Turned

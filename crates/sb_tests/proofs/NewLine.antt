@@ -1,76 +1,69 @@
--- The nodes as they are made stand at their links.
-use Rattle.std.proofs.Common.{◌≡◌, ℕ, Some, [], ◌∷◌, refl, sym, ap, ◌∙◌}
-use Rattle.std.proofs.lemmas.Option.{same_Some}
-use Rattle.std.specs.Prelude.{List, Option, length, slice_index_or}
-use Rattle.std.specs.Option.{option_map}
-use Rattle.sb_link.specs.declared.ends.RxEnd as rx
-use Rattle.sb_link.specs.declared.ends.TxEnd as tx
-use Rattle.sb_packet.specs.Plans.{RingPlan}
-use Rattle.sb_packet.specs.Rings.{ring_plan}
-use Rattle.sb_node.specs.Sides.{PortSide, RingSide, fresh_port, ring_side}
+-- The nodes as they are made stand at their rings.
+use Rattle.std.proofs.Common.{◌≡◌, lit<, ℕ, zero, suc, ◌<◌, List, [], ◌∷◌, sym, ap, ◌∙◌, arith, length, subst}
+use Rattle.std.specs.Prelude.{slice_index_or}
+use Rattle.std.proofs.lemmas.List.Elements.{All-from_recursion}
+use Rattle.sb_port.specs.Ports.{PortSide}
+use Rattle.sb_node.specs.Sides.{RingSide}
 use Rattle.sb_device.specs.Devices.{DeviceSide, IsWholeDevice}
-use Rattle.sb_host.specs.Asked.{asked_by}
 use Rattle.sb_host.specs.Hosts.{HostSide, IsWholeHost}
-use Rattle.sb_router.specs.Fresh.{fresh_inlet, fresh_outlet}
-use Rattle.sb_router.specs.Lanes.{InletState, OutletState, no_inlet, no_outlet}
-use Rattle.sb_router.specs.Routers.{DirectionSide, IsWholeRouter, RouterSide}
-use Rattle.sb_tests.specs.Lines.{IsCrossing, IsLine}
-use Rattle.sb_tests.specs.Samples.{sample, sample_host}
+use Rattle.sb_router.specs.Lanes.{no_port, no_ring}
+use Rattle.sb_router.specs.Routers.{IsWholeRouter, RouterSide, router_ports, router_rings}
+use Rattle.sb_member.specs.Members.{IsWholeMember}
+use Rattle.sb_member.specs.Joints.{IsJoined, IsPlaced, joint_at, receiver_of, sender_of}
+use Rattle.sb_member.specs.declared.member.Member.{Member}
+use Rattle.sb_member.specs.declared.member.Member.TheVariants.{Host, Router, Device}
+use Rattle.sb_tests.specs.Lines.{sample_joints}
 
--- the first of the rings that come in, and of those that go out
-abbrev first_in : List InletState → InletState
-first_in xs = slice_index_or xs 0 no_inlet
+-- the two ends of ring n, as they stand in their nodes
+pub record AreEnds (n : ℕ) (port : PortSide) (ring : RingSide) : Type 0 where
+  pub sent_by : port.plan.ring ≡ n
+  pub received_by : ring.plan.ring ≡ n
+  pub marks : port.mark ≡ ring.mark
 
-abbrev first_out : List OutletState → OutletState
-first_out xs = slice_index_or xs 0 no_outlet
+module _ {F T U : Type 0} (h : HostSide) (r : RouterSide) (d : DeviceSide) (host : IsWholeHost h) (router : IsWholeRouter r) (device : IsWholeDevice d)
+    (near_hear far_learn : RingSide) (far_ask near_answer : PortSide) (rings : router_rings r ≡ near_hear ∷ far_learn ∷ []) (ports : router_ports r ≡ far_ask ∷ near_answer ∷ [])
+    (asks : AreEnds 0 h.requests near_hear) (learns : AreEnds 1 near_answer h.answers) (hears : AreEnds 2 far_ask d.requests) (answers : AreEnds 3 d.answers far_learn) where
+  abbrev line : List (Member F T U)
+  line = Host h ∷ Router r ∷ Device d ∷ []
 
--- a whole host's rings have the numbers of their plans, and so have those of a device
-pub host_asks_by : (h : HostSide) (port : PortSide) → IsWholeHost h → h.requests ≡ Some port → h.asks_by ≡ port.plan.ring
-host_asks_by h port w is = sym w.port_number ∙ ap (λ (p : PortSide). p.plan.ring) (same_Some _ _ (sym w.has_port ∙ is))
+  -- what stands at the places of the router
+  ring_there : (k : ℕ) → slice_index_or (router_rings r) k no_ring ≡ slice_index_or (near_hear ∷ far_learn ∷ []) k no_ring
+  ring_there k = ap (λ (list : List RingSide). slice_index_or list k no_ring) rings
 
-pub host_answered_by : (h : HostSide) (ring : RingSide) → IsWholeHost h → h.answers ≡ Some ring → h.answered_by ≡ ring.plan.ring
-host_answered_by h ring w is = sym w.ring_number ∙ ap (λ (p : RingSide). p.plan.ring) (same_Some _ _ (sym w.has_ring ∙ is))
+  port_there : (k : ℕ) → slice_index_or (router_ports r) k no_port ≡ slice_index_or (far_ask ∷ near_answer ∷ []) k no_port
+  port_there k = ap (λ (list : List PortSide). slice_index_or list k no_port) ports
 
-pub device_asked_by : (d : DeviceSide) (ring : RingSide) → IsWholeDevice d → d.requests ≡ Some ring → d.asked_by ≡ ring.plan.ring
-device_asked_by d ring w is = sym w.ring_number ∙ ap (λ (p : RingSide). p.plan.ring) (same_Some _ _ (sym w.has_ring ∙ is))
+  ring_within : (k : ℕ) → k < 2 → k < length (router_rings r)
+  ring_within k lt = subst (λ (list : List RingSide). k < length list) (sym rings) lt
 
-pub device_answers_by : (d : DeviceSide) (port : PortSide) → IsWholeDevice d → d.answers ≡ Some port → d.answers_by ≡ port.plan.ring
-device_answers_by d port w is = sym w.port_number ∙ ap (λ (p : PortSide). p.plan.ring) (same_Some _ _ (sym w.has_port ∙ is))
+  port_within : (k : ℕ) → k < 2 → k < length (router_ports r)
+  port_within k lt = subst (λ (list : List PortSide). k < length list) (sym ports) lt
 
--- a direction that begins with one ring each way
-fresh_crossing : {T U : Type 0} (sending : tx.Ghosts T) (receiving : rx.Ghosts U) (came went : ℕ) (d : DirectionSide) (from : U) (to : T)
-    → d.lane.inlets ≡ fresh_inlet receiving from ∷ [] → d.lane.outlets ≡ fresh_outlet sending to ∷ [] → receiving.planned from ≡ ring_plan sample came → sending.planned to ≡ ring_plan sample went → (ring_plan sample came).ring ≡ came → (ring_plan sample went).ring ≡ went → IsCrossing came went d
-fresh_crossing sending receiving came went d from to inlets outlets from_plan to_plan came_is went_is = record {
-  inlets = ap length inlets;
-  inlet = ap (λ (xs : List InletState). (first_in xs).number) inlets ∙ ap (λ (p : RingPlan). p.ring) from_plan ∙ came_is;
-  outlets = ap length outlets;
-  outlet = ap (λ (xs : List OutletState). (first_out xs).number) outlets ∙ ap (λ (p : RingPlan). p.ring) to_plan ∙ went_is;
-}
+  placed : (n : ℕ) → n < 4 → IsPlaced line (joint_at sample_joints n)
+  placed zero lt = record { from = lit< tt; to = lit< tt; apart = λ e. cc; out = lit< tt; into = ring_within 0 (lit< tt); marks = asks.marks ∙ sym (ap (λ (x : RingSide). x.mark) (ring_there 0)) }
+  placed (suc zero) lt = record { from = lit< tt; to = lit< tt; apart = λ e. cc; out = port_within 1 (lit< tt); into = lit< tt; marks = ap (λ (x : PortSide). x.mark) (port_there 1) ∙ learns.marks }
+  placed (suc (suc zero)) lt = record { from = lit< tt; to = lit< tt; apart = λ e. cc; out = port_within 0 (lit< tt); into = lit< tt; marks = ap (λ (x : PortSide). x.mark) (port_there 0) ∙ hears.marks }
+  placed (suc (suc (suc zero))) lt = record { from = lit< tt; to = lit< tt; apart = λ e. cc; out = lit< tt; into = ring_within 1 (lit< tt); marks = answers.marks ∙ sym (ap (λ (x : RingSide). x.mark) (ring_there 1)) }
+  placed (suc (suc (suc (suc n)))) lt = absurd (omega (arith, lt))
 
--- the ends of the four rings: asks to hears, answers to learns, each over its own
-module _ {T U : Type 0} (sending : tx.Ghosts T) (receiving : rx.Ghosts U) (near_ask : T) (near_hear : U) (near_answer : T) (near_learn : U) (far_ask : T) (far_hear : U) (far_answer : T) (far_learn : U)
-    (near_ask_plan : sending.planned near_ask ≡ ring_plan sample 0) (near_hear_plan : receiving.planned near_hear ≡ ring_plan sample 0) (near_answer_plan : sending.planned near_answer ≡ ring_plan sample 1) (near_learn_plan : receiving.planned near_learn ≡ ring_plan sample 1)
-    (far_ask_plan : sending.planned far_ask ≡ ring_plan sample 2) (far_hear_plan : receiving.planned far_hear ≡ ring_plan sample 2) (far_answer_plan : sending.planned far_answer ≡ ring_plan sample 3) (far_learn_plan : receiving.planned far_learn ≡ ring_plan sample 3)
-    (near_down : sending.mark near_ask ≡ receiving.mark near_hear) (near_up : sending.mark near_answer ≡ receiving.mark near_learn) (far_down : sending.mark far_ask ≡ receiving.mark far_hear) (far_up : sending.mark far_answer ≡ receiving.mark far_learn)
-    (h : HostSide) (r : RouterSide) (d : DeviceSide)
-    (host : IsWholeHost h) (asked : h.asked ≡ asked_by sample sample_host) (host_requests : h.requests ≡ Some (fresh_port sending near_ask)) (host_answers : h.answers ≡ Some (ring_side receiving near_learn))
-    (router : IsWholeRouter r) (requests_in : r.requests.lane.inlets ≡ fresh_inlet receiving near_hear ∷ []) (requests_out : r.requests.lane.outlets ≡ fresh_outlet sending far_ask ∷ [])
-    (answers_in : r.answers.lane.inlets ≡ fresh_inlet receiving far_learn ∷ []) (answers_out : r.answers.lane.outlets ≡ fresh_outlet sending near_answer ∷ [])
-    (device : IsWholeDevice d) (device_requests : d.requests ≡ Some (ring_side receiving far_hear)) (device_answers : d.answers ≡ Some (fresh_port sending far_answer)) where
-  pub new_line : IsLine h r d
+  sent_by : (n : ℕ) → n < 4 → (sender_of line (joint_at sample_joints n)).plan.ring ≡ n
+  sent_by zero lt = asks.sent_by
+  sent_by (suc zero) lt = ap (λ (x : PortSide). x.plan.ring) (port_there 1) ∙ learns.sent_by
+  sent_by (suc (suc zero)) lt = ap (λ (x : PortSide). x.plan.ring) (port_there 0) ∙ hears.sent_by
+  sent_by (suc (suc (suc zero))) lt = answers.sent_by
+  sent_by (suc (suc (suc (suc n)))) lt = absurd (omega (arith, lt))
+
+  received_by : (n : ℕ) → n < 4 → (receiver_of line (joint_at sample_joints n)).plan.ring ≡ n
+  received_by zero lt = ap (λ (x : RingSide). x.plan.ring) (ring_there 0) ∙ asks.received_by
+  received_by (suc zero) lt = learns.received_by
+  received_by (suc (suc zero)) lt = hears.received_by
+  received_by (suc (suc (suc zero))) lt = ap (λ (x : RingSide). x.plan.ring) (ring_there 1) ∙ answers.received_by
+  received_by (suc (suc (suc (suc n)))) lt = absurd (omega (arith, lt))
+
+  pub new_line : IsJoined sample_joints line
   new_line = record {
-    host = host;
-    asked = asked;
-    asks_by = host_asks_by h (fresh_port sending near_ask) host host_requests ∙ ap (λ (p : RingPlan). p.ring) near_ask_plan;
-    answered_by = host_answered_by h (ring_side receiving near_learn) host host_answers ∙ ap (λ (p : RingPlan). p.ring) near_learn_plan;
-    router = router;
-    requests = fresh_crossing sending receiving 0 2 r.requests near_hear far_ask requests_in requests_out near_hear_plan far_ask_plan refl refl;
-    answers = fresh_crossing sending receiving 3 1 r.answers far_learn near_answer answers_in answers_out far_learn_plan near_answer_plan refl refl;
-    device = device;
-    heard_by = device_asked_by d (ring_side receiving far_hear) device device_requests ∙ ap (λ (p : RingPlan). p.ring) far_hear_plan;
-    answers_by = device_answers_by d (fresh_port sending far_answer) device device_answers ∙ ap (λ (p : RingPlan). p.ring) far_answer_plan;
-    asks = ap (λ (o : Option PortSide). option_map (λ port. port.mark) o) host_requests ∙ ap Some (near_down ∙ sym (ap (λ (xs : List InletState). (first_in xs).ring.mark) requests_in));
-    hears = ap (λ (o : Option RingSide). option_map (λ ring. ring.mark) o) device_requests ∙ ap Some (sym far_down ∙ sym (ap (λ (xs : List OutletState). (first_out xs).port.mark) requests_out));
-    replies = ap (λ (o : Option PortSide). option_map (λ port. port.mark) o) device_answers ∙ ap Some (far_up ∙ sym (ap (λ (xs : List InletState). (first_in xs).ring.mark) answers_in));
-    learns = ap (λ (o : Option RingSide). option_map (λ ring. ring.mark) o) host_answers ∙ ap Some (sym near_up ∙ sym (ap (λ (xs : List OutletState). (first_out xs).port.mark) answers_out));
+    whole = All-from_recursion IsWholeMember line (host, (router, (device, tt)));
+    placed = placed;
+    sent_by = sent_by;
+    received_by = received_by;
   }

@@ -1,120 +1,55 @@
 //! A network run to its end: one host, one router and one device.
 
-ghost use Rattle.sb_device.specs.SideOf.{device_side};
-ghost use Rattle.sb_host.specs.SideOf.{host_side};
-ghost use Rattle.std.specs.Prelude.{◌≡◌, [], IfOk, length};
+ghost use Rattle.std.specs.Prelude.{◌≡◌, ◌<◌, [], IfOk, length, vec_len};
 ghost use Rattle.sb_flow.specs.NetworkOf.{network_of};
+ghost use Rattle.sb_member.specs.Joints.{IsJoined};
+ghost use Rattle.sb_tests.specs.Lines.{sample_joints};
 ghost use Rattle.sb_tests.specs.Samples.{sample};
-ghost use Rattle.sb_router.specs.SideOf.{router_side};
-ghost use Rattle.sb_tests.specs.Lines.{IsLine};
 
-use crate::network::{
-    DEVICE_ANSWERS, DEVICE_HEARS, HOST_ASKS, HOST_LEARNS, device_answers, device_at, device_hears,
-    host_asks, host_at, host_learns, link, router_at, turn_device, turn_host,
-};
+use crate::network::{device_at, host_at, link, router_at};
 use crate::sample::{bundle, forty};
-use sb_device::Device;
-use sb_drive::Node;
+use sb_drive::{Group, round_serial};
 use sb_flow::{Bundle, Paths};
 use sb_host::Host;
 use sb_link::{Fabric, SerialFabric, Turn};
+use sb_member::{Joint, Member, hand_rings};
 use sb_packet::{Code, TxnState};
-use sb_router::Router;
 use std::alloc::{AllocError, Global};
 use std::test::Fail;
 
 /// More rounds than the run takes.
 const ROUNDS: u32 = 100;
 
-/// The nodes of the network.
-#[derive(Drop)]
-struct Nodes<F: Fabric> {
-    host: Host<F>,
-    router: Router<F>,
-    device: Device<F>,
-}
-
-/// The host's requests are handed over to the router.
-fn hand_asked<F: Fabric>(nodes: &mut Nodes<F>)
-    requires line { IsLine (host_side F.Tx.TxEnd F.Rx.RxEnd nodes.old.host) (router_side F.Tx.TxEnd F.Rx.RxEnd nodes.old.router) (device_side F.Tx.TxEnd F.Rx.RxEnd nodes.old.device) }
-    ensures line { IsLine (host_side F.Tx.TxEnd F.Rx.RxEnd nodes.new.host) (router_side F.Tx.TxEnd F.Rx.RxEnd nodes.new.router) (device_side F.Tx.TxEnd F.Rx.RxEnd nodes.new.device) }
+/// Where the rings stand: the host is node 0, the router node 1 and the device node 2. At the router requests come first.
+fn joints() -> [Joint; 4]
+    ensures { result ≡ sample_joints }
 {
-    let Some(mut ring) = nodes.router.take_in(HOST_ASKS) else {
-        unreachable!();
+    let joint = |from, out, to, into| Joint {
+        from,
+        out,
+        to,
+        into,
     };
-    host_asks(&mut nodes.host, &mut ring);
-    nodes.router.put_in(HOST_ASKS, ring);
+    [
+        joint(0, 0, 1, 0),
+        joint(1, 1, 0, 0),
+        joint(1, 0, 2, 0),
+        joint(2, 0, 1, 1),
+    ]
 }
 
-/// The router's requests are handed over to the device.
-fn hand_heard<F: Fabric>(nodes: &mut Nodes<F>)
-    requires line { IsLine (host_side F.Tx.TxEnd F.Rx.RxEnd nodes.old.host) (router_side F.Tx.TxEnd F.Rx.RxEnd nodes.old.router) (device_side F.Tx.TxEnd F.Rx.RxEnd nodes.old.device) }
-    ensures line { IsLine (host_side F.Tx.TxEnd F.Rx.RxEnd nodes.new.host) (router_side F.Tx.TxEnd F.Rx.RxEnd nodes.new.router) (device_side F.Tx.TxEnd F.Rx.RxEnd nodes.new.device) }
+/// Rounds until no node moved, and whether it came to that: each node takes its turn, and then the ends of each ring meet.
+fn run<F: Fabric>(group: &mut Group<Member<F>>) -> bool
+    requires some { 0 < vec_len group.old.nodes }
+    requires joined { IsJoined sample_joints group.old.nodes.items }
+    ensures joined { IsJoined sample_joints group.new.nodes.items }
 {
-    let Some(mut port) = nodes.router.take_out(DEVICE_HEARS) else {
-        unreachable!();
-    };
-    device_hears(&mut nodes.device, &mut port);
-    nodes.router.put_out(DEVICE_HEARS, port);
-}
-
-/// The device's answers are handed over to the router.
-fn hand_answered<F: Fabric>(nodes: &mut Nodes<F>)
-    requires line { IsLine (host_side F.Tx.TxEnd F.Rx.RxEnd nodes.old.host) (router_side F.Tx.TxEnd F.Rx.RxEnd nodes.old.router) (device_side F.Tx.TxEnd F.Rx.RxEnd nodes.old.device) }
-    ensures line { IsLine (host_side F.Tx.TxEnd F.Rx.RxEnd nodes.new.host) (router_side F.Tx.TxEnd F.Rx.RxEnd nodes.new.router) (device_side F.Tx.TxEnd F.Rx.RxEnd nodes.new.device) }
-{
-    let Some(mut ring) = nodes.router.take_in(DEVICE_ANSWERS) else {
-        unreachable!();
-    };
-    device_answers(&mut nodes.device, &mut ring);
-    nodes.router.put_in(DEVICE_ANSWERS, ring);
-}
-
-/// The router's answers are handed over to the host.
-fn hand_learnt<F: Fabric>(nodes: &mut Nodes<F>)
-    requires line { IsLine (host_side F.Tx.TxEnd F.Rx.RxEnd nodes.old.host) (router_side F.Tx.TxEnd F.Rx.RxEnd nodes.old.router) (device_side F.Tx.TxEnd F.Rx.RxEnd nodes.old.device) }
-    ensures line { IsLine (host_side F.Tx.TxEnd F.Rx.RxEnd nodes.new.host) (router_side F.Tx.TxEnd F.Rx.RxEnd nodes.new.router) (device_side F.Tx.TxEnd F.Rx.RxEnd nodes.new.device) }
-{
-    let Some(mut port) = nodes.router.take_out(HOST_LEARNS) else {
-        unreachable!();
-    };
-    host_learns(&mut nodes.host, &mut port);
-    nodes.router.put_out(HOST_LEARNS, port);
-}
-
-/// Turns each node once, in the order of host, router and device; says whether all were done.
-fn turn_all<F: Fabric>(nodes: &mut Nodes<F>, number: u32) -> bool
-    requires line { IsLine (host_side F.Tx.TxEnd F.Rx.RxEnd nodes.old.host) (router_side F.Tx.TxEnd F.Rx.RxEnd nodes.old.router) (device_side F.Tx.TxEnd F.Rx.RxEnd nodes.old.device) }
-    ensures line { IsLine (host_side F.Tx.TxEnd F.Rx.RxEnd nodes.new.host) (router_side F.Tx.TxEnd F.Rx.RxEnd nodes.new.router) (device_side F.Tx.TxEnd F.Rx.RxEnd nodes.new.device) }
-{
-    let host = turn_host(&mut nodes.host, number);
-    let router = nodes.router.turn(number);
-    let device = turn_device(&mut nodes.device, number);
-    [host, router, device] == [Turn::Done; 3]
-}
-
-/// One round: each node turns, and what they sent is handed over; says whether all were done.
-fn round<F: Fabric>(nodes: &mut Nodes<F>, number: u32) -> bool
-    requires line { IsLine (host_side F.Tx.TxEnd F.Rx.RxEnd nodes.old.host) (router_side F.Tx.TxEnd F.Rx.RxEnd nodes.old.router) (device_side F.Tx.TxEnd F.Rx.RxEnd nodes.old.device) }
-    ensures line { IsLine (host_side F.Tx.TxEnd F.Rx.RxEnd nodes.new.host) (router_side F.Tx.TxEnd F.Rx.RxEnd nodes.new.router) (device_side F.Tx.TxEnd F.Rx.RxEnd nodes.new.device) }
-{
-    let done = turn_all(nodes, number);
-    hand_asked(nodes);
-    hand_heard(nodes);
-    hand_answered(nodes);
-    hand_learnt(nodes);
-    done
-}
-
-/// Runs the nodes until all are done, and says whether they came to that.
-fn run<F: Fabric>(nodes: &mut Nodes<F>) -> bool
-    requires line { IsLine (host_side F.Tx.TxEnd F.Rx.RxEnd nodes.old.host) (router_side F.Tx.TxEnd F.Rx.RxEnd nodes.old.router) (device_side F.Tx.TxEnd F.Rx.RxEnd nodes.old.device) }
-    ensures line { IsLine (host_side F.Tx.TxEnd F.Rx.RxEnd nodes.new.host) (router_side F.Tx.TxEnd F.Rx.RxEnd nodes.new.router) (device_side F.Tx.TxEnd F.Rx.RxEnd nodes.new.device) }
-{
+    let joints = joints();
     for number in 0..ROUNDS {
-        if round(nodes, number) {
+        if !round_serial(group, 0, number) {
             return true;
         }
+        hand_rings(&mut group.nodes, &joints);
     }
     false
 }
@@ -124,25 +59,31 @@ fn nodes_of<F: Fabric>(
     alloc: Global,
     fabric: &mut F,
     bundle: &Bundle,
-) -> Result<Nodes<F>, AllocError>
+) -> Result<Group<Member<F>>, AllocError>
     requires network { network_of bundle.now ≡ sample }
     requires new { F.made fabric.old ≡ [] }
-    ensures line { IfOk result (λ nodes. IsLine (host_side F.Tx.TxEnd F.Rx.RxEnd nodes.host) (router_side F.Tx.TxEnd F.Rx.RxEnd nodes.router) (device_side F.Tx.TxEnd F.Rx.RxEnd nodes.device)) }
+    ensures joined { IfOk result (λ group. IsJoined sample_joints group.nodes.items) }
+    ensures count { IfOk result (λ group. vec_len group.nodes ≡ 3) }
 {
     let paths = Paths::new(alloc, bundle)?;
-    let near_down = paths.plan(bundle, HOST_ASKS);
-    let near_up = paths.plan(bundle, HOST_LEARNS);
-    let far_down = paths.plan(bundle, DEVICE_HEARS);
-    let far_up = paths.plan(bundle, DEVICE_ANSWERS);
+    let near_down = paths.plan(bundle, 0);
+    let near_up = paths.plan(bundle, 1);
+    let far_down = paths.plan(bundle, 2);
+    let far_up = paths.plan(bundle, 3);
     let (host_leg, leg_in) = link(alloc, fabric, 0, &near_down, &near_up)?;
     let (leg_out, device_leg) = link(alloc, fabric, 1, &far_down, &far_up)?;
     let host = host_at(alloc, bundle, host_leg)?;
     let device = device_at(alloc, device_leg)?;
     let router = router_at(alloc, bundle, &paths, leg_in, leg_out)?;
-    Ok(Nodes {
-        host,
-        router,
-        device,
+    let mut nodes = Vec::new(alloc);
+    nodes.push(Member::Host(host))?;
+    nodes.push(Member::Router(router))?;
+    nodes.push(Member::Device(device))?;
+    let last = Vec::from_array(alloc, [Turn::Moved; 3])?;
+    Ok(Group {
+        nodes,
+        last,
+        moved: false,
     })
 }
 

@@ -1,0 +1,4 @@
+pub mod EndsChanged
+pub mod RingsHanded
+pub mod RingsJoined
+pub mod Turned

@@ -1,0 +1,20 @@
+-- The two nodes in either order.
+use Rattle.std.proofs.Common.{subst}
+use Rattle.sb_member.specs.Joints.{HasHanded}
+use Rattle.sb_member.proofs.RingsHanded.{handed, set_swap}
+use Rattle.sb_member.proofs.joint.hand_ring.Goals as goal
+
+pub returns-then-joint : goal.returns-then-joint
+returns-then-joint g c = record {
+  handed = handed g.F.Fabric.prompt c.args.nodes.now c.args.joint.now c.two-from.result.0.now c.hand_over.new.from c.two-from.result.1.now c.hand_over.new.to
+      c.requires.placed c.two-from.ensures.first c.two-from.ensures.second c.hand_over.ensures.met;
+}
+
+pub returns-else-joint : goal.returns-else-joint
+returns-else-joint g c =
+    let j = c.args.joint.now in
+    let list = c.args.nodes.now in
+    let h = c.hand_over-else-joint in
+    record { handed = subst (λ nodes. HasHanded g.F.Fabric.prompt j list nodes) (set_swap list j.from j.to h.new.from h.new.to c.requires.placed.apart)
+        (handed g.F.Fabric.prompt list j c.two-to.result.1.now h.new.from c.two-to.result.0.now h.new.to
+        c.requires.placed c.two-to.ensures.second c.two-to.ensures.first h.ensures.met) }

@@ -1,0 +1,14 @@
+//! The nodes of a network in one type, and the rings between them: what takes turns in a round, and whose ends meet.
+#![tactic(auto)]
+
+mod joint;
+mod laws;
+mod member;
+mod pair;
+mod rings;
+
+pub use joint::{Joint, hand_ring};
+pub use laws::rings_stay_joined;
+pub use member::Member;
+pub use pair::two;
+pub use rings::hand_rings;
