@@ -5,11 +5,12 @@ use Rattle.std.specs.Option.{option_map_or}
 use Rattle.std.proofs.lemmas.List.Elements.{All-from_recursion}
 use Rattle.sb_packet.specs.Networks.{NetHost, has_address}
 use Rattle.sb_packet.specs.Ways.{aims_at, route_at, router_before, router_after, way_links}
-use Rattle.sb_net.specs.NetworkLayouts.{network_flows, network_requests, network_answers}
+use Rattle.sb_net.specs.NetworkLayouts.{network_flows, network_requests, network_answers, network_layout}
 use Rattle.sb_net.specs.NetworkStages.{network_stages}
 use Rattle.sb_net.specs.NetworkWays.{is_link_to}
 use Rattle.sb_net.specs.Routed.{IsFirstLink, IsRoute, IsRouted}
 use Rattle.sb_net.specs.Courses.{way_of}
+use Rattle.sb_net.specs.RouterLayouts.{request_ins, request_outs, answer_ins, answer_outs}
 use Rattle.sb_net.proofs.ExampleNetwork.{small}
 use Rattle.sb_net.proofs.ExampleLayout.{the_flow, of_one, scripts_of_small}
 
@@ -83,6 +84,16 @@ way_of_small = refl
 
 pub way_back_of_small : way_of (network_answers small) the_flow ≡ 3 ∷ 1 ∷ []
 way_back_of_small = refl
+
+-- To its router requests come by ring 0, and go on by ring 2 to the device; answers come by ring 3, and go on by ring 1.
+pub request_rings_of_router : (request_ins small 0 ≡ 0 ∷ []) × (request_outs small 0 ≡ 2 ∷ [])
+request_rings_of_router = (refl, refl)
+
+pub answer_rings_of_router : (answer_ins small 0 ≡ 3 ∷ []) × (answer_outs small 0 ≡ 1 ∷ [])
+answer_rings_of_router = (refl, refl)
+
+pub into_device_of_small : (network_layout small).into 0 ≡ 2
+into_device_of_small = refl
 
 pub stages_of_small : map (network_stages small).from (0 ∷ 2 ∷ 3 ∷ 1 ∷ []) ≡ 0 ∷ 1 ∷ 2 ∷ 3 ∷ []
 stages_of_small = refl

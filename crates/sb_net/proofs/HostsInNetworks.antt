@@ -1,6 +1,6 @@
 -- Hosts that are built for their places belong to their network, and keep the promise for all flows.
 use Rattle.std.proofs.Common.{◌≡◌, ◌≢◌, ◌≤◌, ◌<◌, ℕ, suc, List, [], ◌∷◌, ◌++◌, length, refl, sym, ap, ◌∙◌, arith, subst, inl, inr}
-use Rattle.std.specs.Prelude.{◌⊎◌, All, Some, drop, get_or, map, reverse, slice_get, slice_index_or}
+use Rattle.std.specs.Prelude.{◌⊎◌, All, Some, drop, get_or, map, reverse, slice_get}
 use Rattle.std.proofs.lemmas.Bool.{cases_lt}
 use Rattle.std.proofs.lemmas.List.{get_or-map, length-map, reverse-append}
 use Rattle.std.proofs.lemmas.List.Elements.{All-map}
@@ -14,25 +14,30 @@ use Rattle.sb_net.specs.Courses.{last_of}
 use Rattle.sb_net.specs.HostSides.{IsHostAt, IsHostBuiltFor, IsHostOf}
 use Rattle.sb_net.specs.Layouts.{ring_home}
 use Rattle.sb_net.specs.Moments.{Moment}
-use Rattle.sb_net.specs.NetworkLayouts.{answer_ring, flow_of, network_flows, network_layout, request_ring, ring_count}
+use Rattle.sb_net.specs.NetworkLayouts.{answer_ring, first_ring, flow_of, network_flows, network_layout, request_ring, ring_count}
 use Rattle.sb_net.specs.Routed.{IsRouted}
 use Rattle.sb_net.specs.Runs.{IsHost}
 use Rattle.sb_net.proofs.HostSides.{HostsOffer, HostsOfferAll, host_promise}
 use Rattle.sb_net.proofs.NoFaults.{AllPairs-at}
+use Rattle.sb_net.proofs.RingsOfWays.{ring_by_ring, ring_by_ring_back}
 use Rattle.sb_net.proofs.RoutedWays.{HostWay, all_host_ways, found_ways}
 
--- the last of the rings of some links is that of the last link
-last_ring : (ring k : ℕ) (links : List ℕ) → last_of ring (map answer_ring (links ++ k ∷ [])) ≡ answer_ring k
-last_ring ring k [] = refl
-last_ring ring k (j ∷ links) = last_ring (answer_ring j) k links
+-- the last ring of a way of these rings
+abbrev last_of_rings : List ℕ → ℕ
+last_of_rings rings = last_of (first_ring rings) (drop 1 rings)
 
-last_of_links : (k : ℕ) (links : List ℕ) → (let all = links ++ k ∷ [] in last_of (answer_ring (slice_index_or all 0 0)) (map answer_ring (drop 1 all)) ≡ answer_ring k)
+-- the last of the rings of some links is that of the last link
+last_behind : (ring k : ℕ) (links : List ℕ) → last_of ring (map answer_ring (links ++ k ∷ [])) ≡ answer_ring k
+last_behind ring k [] = refl
+last_behind ring k (j ∷ links) = last_behind (answer_ring j) k links
+
+last_of_links : (k : ℕ) (links : List ℕ) → last_of_rings (map answer_ring (links ++ k ∷ [])) ≡ answer_ring k
 last_of_links k [] = refl
-last_of_links k (j ∷ links) = last_ring (answer_ring j) k links
+last_of_links k (j ∷ links) = last_behind (answer_ring j) k links
 
 -- the other way round the first link is the last
-home_ring : (k : ℕ) (links : List ℕ) → (let all = reverse (k ∷ links) in last_of (answer_ring (slice_index_or all 0 0)) (map answer_ring (drop 1 all)) ≡ answer_ring k)
-home_ring k links = ap (λ (all : List ℕ). last_of (answer_ring (slice_index_or all 0 0)) (map answer_ring (drop 1 all))) (reverse-append (k ∷ []) links) ∙ last_of_links k (reverse links)
+home_ring : (k : ℕ) (links : List ℕ) → last_of_rings (map answer_ring (reverse (k ∷ links))) ≡ answer_ring k
+home_ring k links = ap (λ (all : List ℕ). last_of_rings (map answer_ring all)) (reverse-append (k ∷ []) links) ∙ last_of_links k (reverse links)
 
 module _ (network : Network) (routed : IsRouted network) where
   -- hosts of one id stand at one place
@@ -71,12 +76,13 @@ module _ (network : Network) (routed : IsRouted network) where
     pub way_first : All (λ way. way.host.id ≡ host.id → (network_layout network).requests.first (flow_of way) ≡ request_ring link) (network_ways network)
     way_first k d below mine =
         let way = get_or (network_ways network) k d in
-        ap (λ (l : List ℕ). request_ring (slice_index_or l 0 0)) (begins way (all_host_ways network k d below) (found_ways network routed.scripts.ids k d below) mine)
+        ap first_ring (ring_by_ring network (flow_of way)) ∙ ap (λ (l : List ℕ). first_ring (map request_ring l)) (begins way (all_host_ways network k d below) (found_ways network routed.scripts.ids k d below) mine)
 
     way_home : All (λ way. way.host.id ≡ host.id → ring_home (network_layout network) (flow_of way) ≡ answer_ring link) (network_ways network)
     way_home k d below mine =
         let way = get_or (network_ways network) k d in
-        ap (λ (l : List ℕ). last_of (answer_ring (slice_index_or (reverse l) 0 0)) (map answer_ring (drop 1 (reverse l)))) (begins way (all_host_ways network k d below) (found_ways network routed.scripts.ids k d below) mine)
+        ap last_of_rings (ring_by_ring_back network (flow_of way))
+        ∙ ap (λ (l : List ℕ). last_of_rings (map answer_ring (reverse l))) (begins way (all_host_ways network k d below) (found_ways network routed.scripts.ids k d below) mine)
         ∙ home_ring link (links_from (length network.routers) network way.device (next_link network way.device link))
 
     pub belongs : (h : HostSide) → IsHostBuiltFor network place h → IsHostOf network (network_layout network) host h

@@ -12,12 +12,12 @@ use Rattle.sb_packet.specs.Ways.{network_ways, flow_links, is_some_number, route
 use Rattle.sb_packet.specs.Rings.{is_upward}
 use Rattle.sb_net.specs.Courses.{way_of, goes_over, flows_over, IsOneWay, last_of}
 use Rattle.sb_net.specs.Layouts.{IsLayout, ring_home}
-use Rattle.sb_net.specs.NetworkLayouts.{flow_of, network_flows, request_ring, answer_ring, links_into, links_out_of, network_requests, network_answers, link_into, network_layout}
+use Rattle.sb_net.specs.NetworkLayouts.{flow_of, network_flows, request_ring, answer_ring, first_ring, links_into, links_out_of, network_requests, network_answers, link_into, network_layout}
 use Rattle.sb_net.specs.NetworkWays.{IsWayTo, HasWays}
 use Rattle.sb_net.proofs.Ways.{at_last}
 use Rattle.sb_net.proofs.LinksOfWays.{is_in, links_there, last_leads, only_to_device, one_into, one_out_of}
 use Rattle.sb_net.proofs.LinksToDevices.{link_into_leads}
-use Rattle.sb_net.proofs.RingsOfWays.{is_in-reverse, All-reverse, reversed, last_is_in, in_requests, in_answers, once_among}
+use Rattle.sb_net.proofs.RingsOfWays.{ring_by_ring, ring_by_ring_back, is_in-reverse, All-reverse, reversed, last_is_in, in_requests, in_answers, once_among}
 
 -- the way of a flow, link by link
 pub record FlowWay (network : Network) (f : NetFlow) : Type 0 where
@@ -47,14 +47,14 @@ module _ (network : Network) where
 
   -- by the rings of requests a flow takes its links, and by the rings of answers the same
   pub requests_way : (f : NetFlow) (w : FlowWay network f) → way_of (network_requests network) f ≡ map request_ring (w.head ∷ w.tail)
-  requests_way f w = ap (λ (l : List ℕ). request_ring (slice_index_or l 0 0) ∷ map request_ring (drop 1 l)) w.links
+  requests_way f w = ap (λ (l : List ℕ). first_ring l ∷ drop 1 l) (ring_by_ring network f ∙ ap (map request_ring) w.links)
 
   back_links : (f : NetFlow) (w : FlowWay network f) → reverse (flow_links network f) ≡ last_of w.head w.tail ∷ (reversed w.head w.tail).rest
   back_links f w = ap reverse w.links ∙ (reversed w.head w.tail).is
 
   pub answers_way : (f : NetFlow) (w : FlowWay network f) → way_of (network_answers network) f ≡ map answer_ring (reverse (w.head ∷ w.tail))
   answers_way f w =
-      ap (λ (l : List ℕ). answer_ring (slice_index_or l 0 0) ∷ map answer_ring (drop 1 l)) (back_links f w)
+      ap (λ (l : List ℕ). first_ring l ∷ drop 1 l) (ring_by_ring_back network f ∙ ap (map answer_ring) (back_links f w))
       ∙ ap (map answer_ring) (sym (reversed w.head w.tail).is)
 
   pub goes_there : (f : NetFlow) (w : FlowWay network f) (k : ℕ) → goes_over (network_requests network) (request_ring k) f ≡ is_in k (w.head ∷ w.tail)
@@ -168,7 +168,7 @@ module _ (network : Network) where
         let g = get_or (network_flows network) k f in
         let w : FlowWay network g = flow_ways k f below in
         let first : (network_answers network).first g ≡ answer_ring (link_into network g.device) =
-        ap (λ (l : List ℕ). answer_ring (slice_index_or l 0 0)) (back_links g w) ∙ ap answer_ring (last_link g w (flow_devices k f below)) in
+        ap first_ring (ring_by_ring_back network g ∙ ap (map answer_ring) (back_links g w)) ∙ ap answer_ring (last_link g w (flow_devices k f below)) in
         ap (flows_over (network_answers network)) first
         ∙ filter_same (goes_over (network_answers network) (answer_ring (link_into network g.device))) (goes_over (network_requests network) (request_ring (link_into network g.device))) (network_flows network)
         (All-weaker (FlowWay network) (λ h. goes_over (network_answers network) (answer_ring (link_into network g.device)) h ≡ goes_over (network_requests network) (request_ring (link_into network g.device)) h)

@@ -4,13 +4,24 @@ use Rattle.std.specs.Prelude.{◌==◌, ◌||◌, map, filter, reverse, All, All
 use Rattle.std.specs.List.{range_with_len}
 use Rattle.std.proofs.lemmas.Bool.Decides.{nat_tests}
 use Rattle.std.proofs.lemmas.List.{reverse-append}
+use Rattle.std.proofs.lemmas.List.Concat.{flat_map_single}
 use Rattle.std.proofs.lemmas.List.Elements.{All-nil, All-cons, All-map, All-append, All-filter, All-weaker, filter_passes}
 use Rattle.std.proofs.lemmas.List.Folds.{list_any-append}
 use Rattle.std.proofs.lemmas.List.Kept.{AllPairs-cons}
+use Rattle.sb_packet.specs.Networks.{Network}
+use Rattle.sb_packet.specs.Plans.{NetFlow}
+use Rattle.sb_packet.specs.Ways.{flow_links}
 use Rattle.sb_net.specs.Courses.{last_of}
-use Rattle.sb_net.specs.NetworkLayouts.{request_ring, answer_ring}
+use Rattle.sb_net.specs.NetworkLayouts.{request_ring, answer_ring, links_back, rings_there, rings_back}
 use Rattle.sb_net.proofs.FlowMembers.{not_true}
 use Rattle.sb_net.proofs.LinksOfWays.{is_in}
+
+-- as each link has one ring each way, a flow's way has a ring for each of its links
+pub ring_by_ring : (network : Network) (f : NetFlow) → rings_there network f ≡ map request_ring (flow_links network f)
+ring_by_ring network f = flat_map_single request_ring (flow_links network f)
+
+pub ring_by_ring_back : (network : Network) (f : NetFlow) → rings_back network f ≡ map answer_ring (links_back network f)
+ring_by_ring_back network f = flat_map_single answer_ring (links_back network f)
 
 -- a list the other way round has what it has
 pub is_in-reverse : (k : ℕ) (list : List ℕ) → is_in k (reverse list) ≡ is_in k list

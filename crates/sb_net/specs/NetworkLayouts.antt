@@ -1,5 +1,5 @@
 -- The layout of a network: the rings of each link on the ways of its flows, there and back.
-use Rattle.std.specs.Prelude.{ℕ, ◌+◌, ◌*◌, ◌/◌, ◌&&◌, nat_lt, not, List, [], length, map, filter, drop, reverse, Option, slice_index_or, if◌then◌else◌}
+use Rattle.std.specs.Prelude.{ℕ, ◌+◌, ◌*◌, ◌/◌, ◌&&◌, nat_lt, not, List, [], ◌∷◌, length, map, filter, flat_map, drop, reverse, Option, slice_index_or, if◌then◌else◌}
 use Rattle.std.specs.List.{position_from, range_with_len}
 use Rattle.std.specs.Option.{option_map_or}
 use Rattle.sb_packet.specs.Networks.{Network, leads_to}
@@ -7,7 +7,7 @@ use Rattle.sb_packet.specs.Plans.{NetFlow}
 use Rattle.sb_packet.specs.Ways.{NetWay, network_ways, flow_links, is_some_number, router_before, router_after}
 use Rattle.sb_packet.specs.Rings.{is_upward}
 use Rattle.sb_net.specs.Flows.{asked_of, answered_of}
-use Rattle.sb_net.specs.Courses.{Course}
+use Rattle.sb_net.specs.Courses.{Course, last_of}
 use Rattle.sb_net.specs.Layouts.{Layout}
 
 -- the flow of a way
@@ -25,6 +25,20 @@ request_ring k = 2 * k
 abbrev pub answer_ring : ℕ → ℕ
 answer_ring k = 2 * k + 1
 
+-- The rings by which requests pass link k, one after another, and those by which answers do: one each way.
+abbrev pub request_rings : Network → ℕ → List ℕ
+request_rings network k = request_ring k ∷ []
+
+abbrev pub answer_rings : Network → ℕ → List ℕ
+answer_rings network k = answer_ring k ∷ []
+
+-- the first and the last of some rings: a node sends to a link by the first of its rings, and receives from it by the last
+abbrev pub first_ring : List ℕ → ℕ
+first_ring rings = slice_index_or rings 0 0
+
+abbrev pub last_ring : List ℕ → ℕ
+last_ring rings = last_of 0 rings
+
 -- the rings of the links have the numbers below this
 abbrev pub ring_count : Network → ℕ
 ring_count network = 2 * length network.links
@@ -36,36 +50,48 @@ links_into network router = option_map_or (λ r. filter (λ k. is_some_number r 
 abbrev pub links_out_of : Network → Option ℕ → List ℕ
 links_out_of network router = option_map_or (λ r. filter (λ k. is_some_number r (router_before network k)) (range_with_len 0 (length network.links))) router []
 
--- Requests go by the links of a way. A router passes on by a ring what came by the rings of all links into it.
+-- the rings of a flow's way: those of its links, one link after another
+abbrev pub rings_there : Network → NetFlow → List ℕ
+rings_there network f = flat_map (request_rings network) (flow_links network f)
+
+-- Requests go by them. A router passes on by a ring what came by the last rings of all links that lead to it.
 abbrev pub network_requests : Network → Course
 network_requests network = record {
   flows = network_flows network;
-  first = λ f. request_ring (slice_index_or (flow_links network f) 0 0);
-  rest = λ f. map request_ring (drop 1 (flow_links network f));
+  first = λ f. first_ring (rings_there network f);
+  rest = λ f. drop 1 (rings_there network f);
   allowance = λ f. length (asked_of network f);
   has = λ r. not (is_upward r) && nat_lt r (ring_count network);
-  ins = λ r. if is_upward r then [] else map request_ring (links_into network (router_before network (r / 2)));
+  ins = λ r. if is_upward r then [] else map (λ k. last_ring (request_rings network k)) (links_into network (router_before network (r / 2)));
 }
 
 -- the links of a flow's way from the device on
 abbrev pub links_back : Network → NetFlow → List ℕ
 links_back network f = reverse (flow_links network f)
 
--- Answers go by them the other way round.
+-- the rings of its way back
+abbrev pub rings_back : Network → NetFlow → List ℕ
+rings_back network f = flat_map (answer_rings network) (links_back network f)
+
+-- Answers go by them. To a router they come by the last rings of all links that leave it.
 abbrev pub network_answers : Network → Course
 network_answers network = record {
   flows = network_flows network;
-  first = λ f. answer_ring (slice_index_or (links_back network f) 0 0);
-  rest = λ f. map answer_ring (drop 1 (links_back network f));
+  first = λ f. first_ring (rings_back network f);
+  rest = λ f. drop 1 (rings_back network f);
   allowance = λ f. length (answered_of network f);
   has = λ r. is_upward r && nat_lt r (ring_count network);
-  ins = λ r. if is_upward r then map answer_ring (links_out_of network (router_after network (r / 2))) else [];
+  ins = λ r. if is_upward r then map (λ k. last_ring (answer_rings network k)) (links_out_of network (router_after network (r / 2))) else [];
 }
 
 -- the link to a device
 abbrev pub link_into : Network → ℕ → ℕ
 link_into network d = option_map_or (λ k. k) (position_from (leads_to d) 0 network.links) 0
 
--- The layout of a network.
+-- The layout of a network. Requests come to a device by the last ring of its link.
 abbrev pub network_layout : Network → Layout
-network_layout network = record { requests = network_requests network; answers = network_answers network; into = λ d. request_ring (link_into network d) }
+network_layout network = record {
+  requests = network_requests network;
+  answers = network_answers network;
+  into = λ d. last_ring (request_rings network (link_into network d));
+}

@@ -9,22 +9,23 @@ use Rattle.sb_router.specs.Routers.{DirectionSide, ForwardsAll, IsWholeDirection
 use Rattle.sb_router.specs.Ways.{IsTableOf}
 use Rattle.sb_net.specs.Courses.{AlongWay, Course}
 use Rattle.sb_net.specs.Moments.{Moment}
-use Rattle.sb_net.specs.NetworkLayouts.{answer_ring, links_into, links_out_of, request_ring}
+use Rattle.sb_net.specs.NetworkLayouts.{answer_rings, first_ring, last_ring, links_into, links_out_of, request_rings}
 use Rattle.sb_net.specs.Promises.{Forwards}
 use Rattle.sb_net.specs.RouterSides.{HasLane, course_words, ring_ins, ring_outs}
 
--- Requests come to a router by the links that lead to it, and go on by those that leave it. Answers go the other way.
+-- Requests come to a router by the last ring of each link that leads to it, and go on by the first ring of each that leaves it.
 abbrev pub request_ins : Network → ℕ → List ℕ
-request_ins network r = map request_ring (links_into network (Some r))
+request_ins network r = map (λ k. last_ring (request_rings network k)) (links_into network (Some r))
 
 abbrev pub request_outs : Network → ℕ → List ℕ
-request_outs network r = map request_ring (links_out_of network (Some r))
+request_outs network r = map (λ k. first_ring (request_rings network k)) (links_out_of network (Some r))
 
+-- Answers come by the last ring of each link that leaves it, and go on by the first ring of each that leads to it.
 abbrev pub answer_ins : Network → ℕ → List ℕ
-answer_ins network r = map answer_ring (links_out_of network (Some r))
+answer_ins network r = map (λ k. last_ring (answer_rings network k)) (links_out_of network (Some r))
 
 abbrev pub answer_outs : Network → ℕ → List ℕ
-answer_outs network r = map answer_ring (links_into network (Some r))
+answer_outs network r = map (λ k. first_ring (answer_rings network k)) (links_into network (Some r))
 
 -- A direction's table leads a flow to a ring just where that ring carries it. Hosts' ids and devices are below 32.
 pub record LeadsByPlans (d : DirectionSide) : Type 0 where
