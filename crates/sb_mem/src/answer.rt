@@ -11,7 +11,7 @@ fn answer_op(op: Op) -> Op
 {
     match op {
         Op::ReqWr => Op::RespWr,
-        _ => Op::RespRd,
+        Op::ReqRd | Op::ReqWrPosted | Op::ReqAtomic | Op::RespRd | Op::RespWr => Op::RespRd,
     }
 }
 
@@ -20,7 +20,7 @@ fn answer_len(op: Op, len: u8) -> u8
 {
     match op {
         Op::ReqAtomic => 0,
-        _ => len,
+        Op::ReqRd | Op::ReqWr | Op::ReqWrPosted | Op::RespRd | Op::RespWr => len,
     }
 }
 

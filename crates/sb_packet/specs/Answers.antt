@@ -1,6 +1,8 @@
 -- What a journal answers to each transaction, and what it leaves in each memory.
-use Rattle.std.specs.Prelude.{ℕ, ◌^◌, Bool, ◌&&◌, ◌==◌, not, List, [], ◌∷◌, map, filter_map, flat_map, fold, max, replicate, Option, Some, None, bytes_eq, if◌then◌else◌}
+use Rattle.std.specs.Prelude.{ℕ, ◌^◌, Bool, true, false, ◌&&◌, ◌==◌, not, List, [], ◌∷◌, map, filter_map, flat_map, fold, max, replicate, Option, Some, None, bytes_eq, if◌then◌else◌}
+use Rattle.sb_word.specs.Atomics.{atomic_number}
 use Rattle.sb_word.specs.Words.{opcode_of}
+use Rattle.sb_word.specs.declared.atomic.AtomicOp.{AtomicOp}
 use Rattle.sb_word.specs.declared.command.Op.{Op}
 use Rattle.sb_word.specs.declared.command.Op.TheVariants.{ReqRd, ReqWr, ReqWrPosted, ReqAtomic, RespRd, RespWr}
 use Rattle.sb_packet.specs.Accesses.{Access}
@@ -15,10 +17,17 @@ use Rattle.sb_packet.specs.declared.transaction.Txn.{Txn}
 abbrev pub same_bool : Bool → Bool → Bool
 same_bool a b = if a then b else not b
 
+-- both are one atomic, or both are none
+abbrev pub same_atomic : Option AtomicOp → Option AtomicOp → Bool
+same_atomic (Some a) (Some b) = atomic_number a == atomic_number b
+same_atomic (Some a) None = false
+same_atomic None (Some b) = false
+same_atomic None None = true
+
 -- two accesses are equal in every field
 abbrev pub same_access : Access → Access → Bool
 same_access a b =
-    (a.src == b.src) && (a.dst == b.dst) && (opcode_of a.op == opcode_of b.op) && (a.atomic == b.atomic)
+    (a.src == b.src) && (a.dst == b.dst) && (opcode_of a.op == opcode_of b.op) && same_atomic a.atomic b.atomic
     && (a.size == b.size) && (a.host == b.host) && bytes_eq a.bytes b.bytes && same_bool a.last b.last
     && (a.qos == b.qos) && (a.prot == b.prot) && same_bool a.eof b.eof && same_bool a.ex b.ex && (a.tail == b.tail)
 

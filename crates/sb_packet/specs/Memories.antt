@@ -1,6 +1,6 @@
 -- What a device's memory does at an access. After UMI's requests and answers.
 use Rattle.std.specs.Prelude.{ℕ, ◌+◌, ◌-◌, ◌^◌, Bool, List, [], ◌∷◌, ◌++◌, take, drop, length, replicate, fold, Option, Some, None, if◌then◌else◌}
-use Rattle.sb_packet.specs.Atomics.{number_of, bytes_of_number, combined}
+use Rattle.sb_packet.specs.Atomics.{number_of, bytes_of_number, left_by}
 use Rattle.sb_word.specs.declared.command.Op.{Op}
 use Rattle.sb_word.specs.declared.command.Op.TheVariants.{ReqRd, ReqWr, ReqWrPosted, ReqAtomic, RespRd, RespWr}
 use Rattle.sb_packet.specs.Accesses.{Access}
@@ -29,7 +29,7 @@ held_at m a = loaded m a.dst (2 ^ a.size)
 
 -- the bytes that an atomic leaves
 abbrev pub combined_bytes : Access → List ℕ → List ℕ
-combined_bytes a old = bytes_of_number (2 ^ a.size) (combined a.atomic (256 ^ 2 ^ a.size) (number_of old) (number_of a.bytes))
+combined_bytes a old = bytes_of_number (2 ^ a.size) (left_by a.atomic (256 ^ 2 ^ a.size) (number_of old) (number_of a.bytes))
 
 -- a memory that may be written, after a request with that opcode
 abbrev pub written : Op → MemoryState → Access → MemoryState
@@ -46,7 +46,7 @@ access_step m a = if m.readonly then m else written a.op m a
 
 -- an answer goes back where the access came from; its tail is the code
 abbrev pub reply : Access → Op → ℕ → List ℕ → Access
-reply a op code bytes = record a { op = op; atomic = 0; dst = a.src; src = a.dst; tail = code; bytes = bytes }
+reply a op code bytes = record a { op = op; atomic = None; dst = a.src; src = a.dst; tail = code; bytes = bytes }
 
 -- the code of an access that would write: 2 where the memory refuses
 abbrev pub write_code : MemoryState → ℕ

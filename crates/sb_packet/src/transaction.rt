@@ -1,6 +1,7 @@
 //! What a script asks for, and what comes of it.
 
 use crate::bytes::Bytes;
+use sb_word::AtomicOp;
 
 /// What a transaction does at a device.
 #[derive(Clone, Copy, Debug, PartialEq, Eq)]
@@ -9,9 +10,8 @@ pub enum Kind {
     Write,
     /// A write that nobody answers.
     Posted,
-    /// A change of one word. Its type is 0 ADD, 1 AND, 2 OR, 3 XOR, 4 MAX and 5 MIN in two's complement, 6 MAXU and
-    /// 7 MINU without sign, or 8 SWAP.
-    Atomic(u8),
+    /// A change of one word.
+    Atomic(AtomicOp),
 }
 
 /// One line of a script.

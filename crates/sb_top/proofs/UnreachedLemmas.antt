@@ -79,6 +79,6 @@ outcome_of_lost i t some kinds.Write is =
     let m = transaction_message (solo_host []) i t in
     outcome_alike (unreached (message_accesses m)) 3 _ (nothing_for m (ap request_of is) t.count some)
 outcome_of_lost i t some kinds.Posted is = refl
-outcome_of_lost i t some (kinds.Atomic type) is =
+outcome_of_lost i t some (kinds.Atomic atomic) is =
     let m = transaction_message (solo_host []) i t in
     outcome_alike (unreached (message_accesses m)) 3 _ (zeros_for ReqAtomic m (λ a. refl) (ap request_of is) t.count some)
