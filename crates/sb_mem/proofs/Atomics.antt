@@ -11,6 +11,7 @@ use Rattle.sb_packet.specs.Spans.{span_of, word_count_of}
 use Rattle.sb_packet.specs.Messages.{message_of}
 use Rattle.sb_packet.specs.Accesses.{Access, share, access_at, accesses_of}
 use Rattle.sb_packet.specs.Atomics.{number_of, left_by}
+use Rattle.sb_packet.specs.Codes.{code_number}
 use Rattle.sb_packet.specs.Memories.{MemoryState, loaded, stored, written, write_code, old_bytes, combined_bytes, access_answer, memory_after, answers_in}
 use Rattle.sb_packet.specs.declared.packet.Packet.{Packet}
 use Rattle.sb_packet.proofs.Overwrites.{access_step_taken}
@@ -35,7 +36,7 @@ atomic_memory m p op writable =
     ∙ ap (λ (address : ℕ). stored m address (combined_bytes a (loaded m address (2 ^ p.cmd.size)))) start
 
 -- the word of an atomic is answered by the word of its answer
-atomic_word : (m : MemoryState) (p a : Packet) → p.cmd.op ≡ ReqAtomic → IsAnswerTo p a → a.cmd.tail ≡ write_code m → take (2 ^ p.cmd.size) a.body ≡ (if m.readonly then replicate (2 ^ p.cmd.size) 0 else loaded m p.dst (2 ^ p.cmd.size)) → access_answer m (access_at (message_of p) 0) ≡ Some (access_at (message_of a) 0)
+atomic_word : (m : MemoryState) (p a : Packet) → p.cmd.op ≡ ReqAtomic → IsAnswerTo p a → a.cmd.tail ≡ code_number (write_code m) → take (2 ^ p.cmd.size) a.body ≡ (if m.readonly then replicate (2 ^ p.cmd.size) 0 else loaded m p.dst (2 ^ p.cmd.size)) → access_answer m (access_at (message_of p) 0) ≡ Some (access_at (message_of a) 0)
 atomic_word m p a op answers code body =
     let s = 2 ^ p.cmd.size in
     let one : 1 * s ≡ s = omega arith in
@@ -44,7 +45,7 @@ atomic_word m p a op answers code body =
     rw (answers.op, answers.len, answers.size, answers.host, answers.qos, answers.prot, answers.eom, answers.eof, answers.ex, code, answers.dst, answers.src, op, bytes) refl
 
 -- an atomic is answered by one word
-pub atomic_answers : (m : MemoryState) (p a : Packet) → p.cmd.op ≡ ReqAtomic → IsAnswerTo p a → a.cmd.tail ≡ write_code m → take (2 ^ p.cmd.size) a.body ≡ (if m.readonly then replicate (2 ^ p.cmd.size) 0 else loaded m p.dst (2 ^ p.cmd.size)) → answers_in m (accesses_of p) ≡ map Some (accesses_of a)
+pub atomic_answers : (m : MemoryState) (p a : Packet) → p.cmd.op ≡ ReqAtomic → IsAnswerTo p a → a.cmd.tail ≡ code_number (write_code m) → take (2 ^ p.cmd.size) a.body ≡ (if m.readonly then replicate (2 ^ p.cmd.size) 0 else loaded m p.dst (2 ^ p.cmd.size)) → answers_in m (accesses_of p) ≡ map Some (accesses_of a)
 atomic_answers m p a op answers code body =
     let asked : word_count_of p.cmd ≡ 1 = rw op refl in
     let answered : word_count_of a.cmd ≡ 1 = rw (answers.op, answers.len, op) refl in

@@ -5,6 +5,8 @@ use Rattle.sb_word.specs.declared.command.Op.TheVariants.{ReqRd, ReqWr, ReqWrPos
 use Rattle.sb_packet.specs.Spans.{span_of}
 use Rattle.sb_packet.specs.Memories.{MemoryState, loaded, write_code}
 use Rattle.sb_packet.specs.declared.packet.Packet.{Packet}
+use Rattle.sb_packet.specs.declared.transaction.Code.{Code}
+use Rattle.sb_packet.specs.declared.transaction.Code.TheVariants as the_codes
 
 -- all bytes that a packet speaks of lie in the memory's range
 pub record IsInRange (m : MemoryState) (p : Packet) : Type 0 where
@@ -44,8 +46,8 @@ pub record IsAnswerTo (p a : Packet) : Type 0 where
   pub host : a.cmd.host ≡ p.cmd.host
 
 -- the code of an answer: a memory refuses all but reads where it can't be written
-abbrev pub answer_packet_code : MemoryState → Op → ℕ
-answer_packet_code m ReqRd = 0
+abbrev pub answer_packet_code : MemoryState → Op → Code
+answer_packet_code m ReqRd = the_codes.Ok
 answer_packet_code m ReqWr = write_code m
 answer_packet_code m ReqWrPosted = write_code m
 answer_packet_code m ReqAtomic = write_code m

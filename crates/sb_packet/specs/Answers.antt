@@ -11,6 +11,7 @@ use Rattle.sb_packet.specs.Networks.{NetHost, Network, device_at, opening_memory
 use Rattle.sb_packet.specs.Scripts.{transaction_accesses, script_accesses}
 use Rattle.sb_packet.specs.Journals.{journal_accesses, flow_part}
 use Rattle.sb_packet.specs.declared.entry.Entry.{Entry}
+use Rattle.sb_packet.specs.declared.transaction.Code.TheVariants.{NetErr}
 use Rattle.sb_packet.specs.declared.transaction.Txn.{Txn}
 
 -- both are true, or both are false
@@ -45,12 +46,12 @@ abbrev pub answer_at_first : MemoryState → List Access → Access → Option A
 answer_at_first m [] a = None
 answer_at_first m (x ∷ rest) a = if same_access x a then access_answer m x else answer_at_first (access_step m x) rest a
 
--- the answer to a request at no device: code 3, and zeros where bytes were asked for
+-- the answer to a request at no device: its code says so, and zeros come where bytes were asked for
 abbrev pub unreached_by : Op → Access → Option Access
-unreached_by ReqRd a = Some (reply a RespRd 3 (replicate (2 ^ a.size) 0))
-unreached_by ReqWr a = Some (reply a RespWr 3 [])
+unreached_by ReqRd a = Some (reply a RespRd NetErr (replicate (2 ^ a.size) 0))
+unreached_by ReqWr a = Some (reply a RespWr NetErr [])
 unreached_by ReqWrPosted a = None
-unreached_by ReqAtomic a = Some (reply a RespRd 3 (replicate (2 ^ a.size) 0))
+unreached_by ReqAtomic a = Some (reply a RespRd NetErr (replicate (2 ^ a.size) 0))
 unreached_by RespRd a = None
 unreached_by RespWr a = None
 
@@ -71,7 +72,7 @@ transaction_answers network journal host i t = filter_map (access_reply network 
 abbrev pub flow_answers : Network → List Entry → NetHost → ℕ → List Access
 flow_answers network journal host d = filter_map (access_reply network journal) (flow_part network host d (script_accesses host))
 
--- The code of an answered transaction is the greatest code of its words.
+-- The code of an answered transaction is the greatest of its words, by its number.
 abbrev pub answer_code : List Access → ℕ
 answer_code answers = fold max 0 (map (λ a. a.tail) answers)
 
