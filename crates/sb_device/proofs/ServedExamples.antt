@@ -1,5 +1,5 @@
 -- What a device answers, computed.
-use Rattle.std.proofs.Common.{◌≡◌, ℕ, List, [], ◌∷◌, false, true, refl}
+use Rattle.std.proofs.Common.{◌≡◌, ℕ, List, [], ◌∷◌, false, true, None, refl}
 use Rattle.sb_word.specs.declared.command.Op.TheVariants.{ReqRd, ReqWr, ReqWrPosted, RespRd, RespWr}
 use Rattle.sb_packet.specs.Accesses.{Access}
 use Rattle.sb_packet.specs.Memories.{MemoryState, memory_after}
@@ -14,7 +14,7 @@ two_bytes = record { base = 4096; bytes = 7 ∷ 8 ∷ []; readonly = false }
 abbrev first_read : Access
 first_read = record {
   op = ReqRd;
-  atomic = 0;
+  atomic = None;
   size = 0;
   host = 0;
   dst = 4096;

@@ -18,7 +18,7 @@ use Rattle.sb_flow.specs.Routes.{route_fault}
 
 -- a line can be issued
 abbrev has_atomic : Kind → ℕ → Bool
-has_atomic (Atomic type) count = nat_le type 8 && (count == 1)
+has_atomic (Atomic atomic) count = count == 1
 has_atomic Read count = true
 has_atomic Write count = true
 has_atomic Posted count = true
@@ -34,7 +34,7 @@ is_issuable t = nat_le t.size 3 && nat_lt 0 t.count && nat_le t.count 256 && has
     && (t.addr % 2 ^ t.size == 0) && nat_le (t.addr % 4096 + t.count * 2 ^ t.size) 4096 && nat_lt t.addr (2 ^ 56)
 
 atomic_then : (k : Kind) (count : ℕ) → has_atomic k count ≡ true → IsOneWordIfAtomic k count
-atomic_then (Atomic type) count e = let both = and_parts (nat_le type 8) (count == 1) e in (leb-true type 8 both.0, eqb-true count 1 both.1)
+atomic_then (Atomic atomic) count e = eqb-true count 1 e
 atomic_then Read count e = tt
 atomic_then Write count e = tt
 atomic_then Posted count e = tt

@@ -10,6 +10,7 @@ use Rattle.sb_packet.specs.Answers.{answer_body, answer_code, unreached_by}
 use Rattle.sb_packet.specs.Memories.{reply}
 use Rattle.sb_packet.specs.Outcomes.{code_numbered, outcome_of}
 use Rattle.sb_packet.specs.Scripts.{request_of}
+use Rattle.sb_packet.specs.declared.transaction.Code.TheVariants.{NetErr}
 use Rattle.sb_packet.specs.declared.transaction.Kind.{Kind}
 use Rattle.sb_packet.specs.declared.transaction.Kind.TheVariants.{Read, Write, Posted, Atomic}
 use Rattle.sb_packet.specs.declared.transaction.TxnState.TheVariants as states
@@ -149,11 +150,11 @@ unaimed_outcome asked received passed i l kind row is some kept = by_kind kind i
   by_kind Write is false = before Write
   by_kind Posted is passed = refl
   by_kind (Atomic type) is false = before (Atomic type)
-  by_kind Read is true = after Read (λ j. reply (access_at (line_message asked i l) j) RespRd 3 (replicate (2 ^ l.txn.size) 0)) (2 ^ l.txn.size)
+  by_kind Read is true = after Read (λ j. reply (access_at (line_message asked i l) j) RespRd NetErr (replicate (2 ^ l.txn.size) 0)) (2 ^ l.txn.size)
       (ap (λ (k : Kind). answer_bytes k (2 ^ l.txn.size)) is) (λ j. refl) (λ j. refl) (λ j. ap (λ (k : Kind). unreached_by (request_of k) (access_at (line_message asked i l) j)) is) (λ list. refl)
-  by_kind Write is true = after Write (λ j. reply (access_at (line_message asked i l) j) RespWr 3 []) 0
+  by_kind Write is true = after Write (λ j. reply (access_at (line_message asked i l) j) RespWr NetErr []) 0
       (ap (λ (k : Kind). answer_bytes k (2 ^ l.txn.size)) is) (λ j. refl) (λ j. refl) (λ j. ap (λ (k : Kind). unreached_by (request_of k) (access_at (line_message asked i l) j)) is) (λ list. refl)
-  by_kind (Atomic type) is true = after (Atomic type) (λ j. reply (access_at (line_message asked i l) j) RespRd 3 (replicate (2 ^ l.txn.size) 0)) (2 ^ l.txn.size)
+  by_kind (Atomic type) is true = after (Atomic type) (λ j. reply (access_at (line_message asked i l) j) RespRd NetErr (replicate (2 ^ l.txn.size) 0)) (2 ^ l.txn.size)
       (ap (λ (k : Kind). answer_bytes k (2 ^ l.txn.size)) is) (λ j. refl) (λ j. refl) (λ j. ap (λ (k : Kind). unreached_by (request_of k) (access_at (line_message asked i l) j)) is) (λ list. refl)
 
 -- What a row tells of a transaction is what has become of it.

@@ -1,7 +1,7 @@
 //! What a host makes of answers, whatever their order.
 
-ghost use Rattle.std.specs.Prelude.{◌≡◌, ◌≤◌, ◌<◌, ◌+◌, ◌*◌, ◌%◌, ◌^◌, List, IfOk, length, replicate};
-ghost use Rattle.sb_packet.specs.Messages.{atomic_type_of};
+ghost use Rattle.std.specs.Prelude.{◌≡◌, ◌≤◌, ◌<◌, ◌+◌, ◌*◌, ◌%◌, ◌^◌, List, IfOk, length, replicate, None};
+ghost use Rattle.sb_packet.specs.Messages.{atomic_of};
 ghost use Rattle.sb_packet.specs.Accesses.{Access};
 ghost use Rattle.sb_packet.specs.Scripts.{IsTransaction};
 ghost use Rattle.sb_host.specs.Places.{asked_of};
@@ -56,7 +56,7 @@ fn write(alloc: Global, kind: Kind, aimed: bool) -> Result<Line, AllocError>
 
 /// The command of an answer to host 1, of four words of that size.
 fn command(op: Op, size: u8, tail: u8) -> Cmd
-    requires plain { atomic_type_of op 3 ≡ 0 }
+    requires plain { atomic_of op 3 ≡ None }
     requires size { size ≤ 3 }
     requires tail { tail ≤ 3 }
     ensures op { result.op ≡ op }

@@ -3,12 +3,15 @@ use Rattle.std.proofs.Common.{◌≡◌, ◌≤◌, ℕ, ◌+◌, ◌-◌, ◌*�
 use Rattle.std.specs.Prelude.{map, Some, Option, if◌then◌else◌}
 use Rattle.std.specs.List.{range_with_len}
 use Rattle.std.proofs.lemmas.List.{take-take, length-replicate, replicate-append-replicate}
+use Rattle.sb_word.specs.Atomics.{atomic_numbered}
+use Rattle.sb_word.specs.declared.atomic.AtomicOp.{AtomicOp}
 use Rattle.sb_word.specs.declared.command.Op.{Op}
 use Rattle.sb_word.specs.declared.command.Op.TheVariants.{ReqAtomic}
 use Rattle.sb_packet.specs.Spans.{span_of, word_count_of}
 use Rattle.sb_packet.specs.Messages.{message_of}
 use Rattle.sb_packet.specs.Accesses.{Access, share, access_at, accesses_of}
-use Rattle.sb_packet.specs.Atomics.{number_of, combined}
+use Rattle.sb_packet.specs.Atomics.{number_of, left_by}
+use Rattle.sb_packet.specs.Codes.{code_number}
 use Rattle.sb_packet.specs.Memories.{MemoryState, loaded, stored, written, write_code, old_bytes, combined_bytes, access_answer, memory_after, answers_in}
 use Rattle.sb_packet.specs.declared.packet.Packet.{Packet}
 use Rattle.sb_packet.proofs.Overwrites.{access_step_taken}
@@ -33,7 +36,7 @@ atomic_memory m p op writable =
     ∙ ap (λ (address : ℕ). stored m address (combined_bytes a (loaded m address (2 ^ p.cmd.size)))) start
 
 -- the word of an atomic is answered by the word of its answer
-atomic_word : (m : MemoryState) (p a : Packet) → p.cmd.op ≡ ReqAtomic → IsAnswerTo p a → a.cmd.tail ≡ write_code m → take (2 ^ p.cmd.size) a.body ≡ (if m.readonly then replicate (2 ^ p.cmd.size) 0 else loaded m p.dst (2 ^ p.cmd.size)) → access_answer m (access_at (message_of p) 0) ≡ Some (access_at (message_of a) 0)
+atomic_word : (m : MemoryState) (p a : Packet) → p.cmd.op ≡ ReqAtomic → IsAnswerTo p a → a.cmd.tail ≡ code_number (write_code m) → take (2 ^ p.cmd.size) a.body ≡ (if m.readonly then replicate (2 ^ p.cmd.size) 0 else loaded m p.dst (2 ^ p.cmd.size)) → access_answer m (access_at (message_of p) 0) ≡ Some (access_at (message_of a) 0)
 atomic_word m p a op answers code body =
     let s = 2 ^ p.cmd.size in
     let one : 1 * s ≡ s = omega arith in
@@ -42,7 +45,7 @@ atomic_word m p a op answers code body =
     rw (answers.op, answers.len, answers.size, answers.host, answers.qos, answers.prot, answers.eom, answers.eof, answers.ex, code, answers.dst, answers.src, op, bytes) refl
 
 -- an atomic is answered by one word
-pub atomic_answers : (m : MemoryState) (p a : Packet) → p.cmd.op ≡ ReqAtomic → IsAnswerTo p a → a.cmd.tail ≡ write_code m → take (2 ^ p.cmd.size) a.body ≡ (if m.readonly then replicate (2 ^ p.cmd.size) 0 else loaded m p.dst (2 ^ p.cmd.size)) → answers_in m (accesses_of p) ≡ map Some (accesses_of a)
+pub atomic_answers : (m : MemoryState) (p a : Packet) → p.cmd.op ≡ ReqAtomic → IsAnswerTo p a → a.cmd.tail ≡ code_number (write_code m) → take (2 ^ p.cmd.size) a.body ≡ (if m.readonly then replicate (2 ^ p.cmd.size) 0 else loaded m p.dst (2 ^ p.cmd.size)) → answers_in m (accesses_of p) ≡ map Some (accesses_of a)
 atomic_answers m p a op answers code body =
     let asked : word_count_of p.cmd ≡ 1 = rw op refl in
     let answered : word_count_of a.cmd ≡ 1 = rw (answers.op, answers.len, op) refl in
@@ -51,16 +54,16 @@ atomic_answers m p a op answers code body =
     ∙ sym (ap (λ (list : List Access). map Some list) (one_word a answered))
 
 -- what an atomic makes of the word that stands there, by the packet's own fields
-pub combined_at : (p : Packet) (old : List ℕ) → p.cmd.op ≡ ReqAtomic → length old ≡ 2 ^ p.cmd.size → combined p.cmd.len (256 ^ 2 ^ p.cmd.size) (number_of old) (number_of (take (length old) p.body)) ≡ combined (access_at (message_of p) 0).atomic (256 ^ 2 ^ p.cmd.size) (number_of old) (number_of (access_at (message_of p) 0).bytes)
+pub combined_at : (p : Packet) (old : List ℕ) → p.cmd.op ≡ ReqAtomic → length old ≡ 2 ^ p.cmd.size → left_by (atomic_numbered p.cmd.len) (256 ^ 2 ^ p.cmd.size) (number_of old) (number_of (take (length old) p.body)) ≡ left_by (access_at (message_of p) 0).atomic (256 ^ 2 ^ p.cmd.size) (number_of old) (number_of (access_at (message_of p) 0).bytes)
 combined_at p old op long =
     let a = access_at (message_of p) 0 in
     let s = 2 ^ p.cmd.size in
     let modulus = 256 ^ s in
     let one : 1 * s ≡ s = omega arith in
     let none : 0 * s ≡ 0 = omega arith in
-    let type : a.atomic ≡ p.cmd.len = rw op refl in
+    let atomic : a.atomic ≡ atomic_numbered p.cmd.len = rw op refl in
     let bytes : a.bytes ≡ take (length old) p.body = rw (op, long, none, one) (take-take s s p.body (omega arith)) in
-    sym (ap (λ (t : ℕ). combined t modulus (number_of old) (number_of a.bytes)) type ∙ ap (λ (operand : List ℕ). combined p.cmd.len modulus (number_of old) (number_of operand)) bytes)
+    sym (ap (λ (x : Option AtomicOp). left_by x modulus (number_of old) (number_of a.bytes)) atomic ∙ ap (λ (operand : List ℕ). left_by (atomic_numbered p.cmd.len) modulus (number_of old) (number_of operand)) bytes)
 
 -- zeros are the whole body of the answer to a refused atomic
 pub refused_body : (m : MemoryState) (p : Packet) → p.cmd.op ≡ ReqAtomic → m.readonly ≡ true → replicate 32 0 ≡ answer_packet_body m p

@@ -9,6 +9,7 @@ use Rattle.sb_word.specs.declared.command.Op.TheVariants.{ReqRd, ReqWr, ReqWrPos
 use Rattle.sb_packet.specs.Spans.{span_of, carried_of, carried_by, word_count_of, word_count_by}
 use Rattle.sb_packet.specs.Messages.{message_of}
 use Rattle.sb_packet.specs.Accesses.{Access, share, access_at, accesses_of}
+use Rattle.sb_packet.specs.Codes.{code_number}
 use Rattle.sb_packet.specs.Memories.{MemoryState, loaded, stored, written, write_code, access_step, access_answer, memory_after, answers_in}
 use Rattle.sb_packet.specs.declared.packet.Packet.{Packet}
 use Rattle.sb_packet.proofs.Shares.{shares_joined, share-take, share-drop, length-share}
@@ -73,12 +74,12 @@ write_memory m p op writable within =
     ∙ rw (none, joined) refl
 
 -- word j of a write is answered by word j of a packet with no body
-write_word : (r m : MemoryState) (p a : Packet) (j : ℕ) → p.cmd.op ≡ ReqWr → IsAnswerTo p a → a.cmd.tail ≡ write_code r → m.readonly ≡ r.readonly → access_answer m (access_at (message_of p) j) ≡ Some (access_at (message_of a) j)
+write_word : (r m : MemoryState) (p a : Packet) (j : ℕ) → p.cmd.op ≡ ReqWr → IsAnswerTo p a → a.cmd.tail ≡ code_number (write_code r) → m.readonly ≡ r.readonly → access_answer m (access_at (message_of p) j) ≡ Some (access_at (message_of a) j)
 write_word r m p a j op answers code same =
     rw (answers.op, answers.len, answers.size, answers.host, answers.qos, answers.prot, answers.eom, answers.eof, answers.ex, code, answers.dst, answers.src, op, same, drop-nil {A = ℕ} (j * 2 ^ p.cmd.size), take-nil {A = ℕ} (2 ^ p.cmd.size)) refl
 
 -- a write is answered by as many words
-pub write_answers : (m : MemoryState) (p a : Packet) → p.cmd.op ≡ ReqWr → IsAnswerTo p a → a.cmd.tail ≡ write_code m → answers_in m (accesses_of p) ≡ map Some (accesses_of a)
+pub write_answers : (m : MemoryState) (p a : Packet) → p.cmd.op ≡ ReqWr → IsAnswerTo p a → a.cmd.tail ≡ code_number (write_code m) → answers_in m (accesses_of p) ≡ map Some (accesses_of a)
 write_answers m p a op answers code =
     let same : word_count_of a.cmd ≡ word_count_of p.cmd = rw (answers.op, answers.len, op) refl in
     answers_in_alike m.readonly (access_at (message_of p)) (access_at (message_of a)) Some (λ n j h. write_word m n p a j op answers code h) m 0 (word_count_of p.cmd) refl

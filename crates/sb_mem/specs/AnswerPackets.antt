@@ -1,10 +1,12 @@
 -- What may be asked of a memory, and the packet that answers it. After UMI, in this project's profile.
 use Rattle.std.specs.Prelude.{ℕ, ◌≡◌, ◌≤◌, ◌+◌, ◌-◌, List, [], ◌++◌, length, replicate, if◌then◌else◌}
 use Rattle.sb_word.specs.declared.command.Op.{Op}
-use Rattle.sb_word.specs.declared.command.Op.TheVariants.{ReqRd, ReqWr, ReqAtomic, RespRd, RespWr}
+use Rattle.sb_word.specs.declared.command.Op.TheVariants.{ReqRd, ReqWr, ReqWrPosted, ReqAtomic, RespRd, RespWr}
 use Rattle.sb_packet.specs.Spans.{span_of}
 use Rattle.sb_packet.specs.Memories.{MemoryState, loaded, write_code}
 use Rattle.sb_packet.specs.declared.packet.Packet.{Packet}
+use Rattle.sb_packet.specs.declared.transaction.Code.{Code}
+use Rattle.sb_packet.specs.declared.transaction.Code.TheVariants as the_codes
 
 -- all bytes that a packet speaks of lie in the memory's range
 pub record IsInRange (m : MemoryState) (p : Packet) : Type 0 where
@@ -14,12 +16,20 @@ pub record IsInRange (m : MemoryState) (p : Packet) : Type 0 where
 -- a write is answered by RespWr, and every other request by RespRd
 abbrev pub answer_op : Op → Op
 answer_op ReqWr = RespWr
-answer_op _ = RespRd
+answer_op ReqRd = RespRd
+answer_op ReqWrPosted = RespRd
+answer_op ReqAtomic = RespRd
+answer_op RespRd = RespRd
+answer_op RespWr = RespRd
 
 -- An answer speaks of as many words as its request: `len` stays, but that of an atomic, whose one word is `len` 0.
 abbrev pub answer_len : Op → ℕ → ℕ
 answer_len ReqAtomic len = 0
-answer_len _ len = len
+answer_len ReqRd len = len
+answer_len ReqWr len = len
+answer_len ReqWrPosted len = len
+answer_len RespRd len = len
+answer_len RespWr len = len
 
 -- A packet answers another: it has the opcode of the answer, goes back where the other came from, and keeps all else but code and body.
 pub record IsAnswerTo (p a : Packet) : Type 0 where
@@ -36,15 +46,22 @@ pub record IsAnswerTo (p a : Packet) : Type 0 where
   pub host : a.cmd.host ≡ p.cmd.host
 
 -- the code of an answer: a memory refuses all but reads where it can't be written
-abbrev pub answer_packet_code : MemoryState → Op → ℕ
-answer_packet_code m ReqRd = 0
-answer_packet_code m _ = write_code m
+abbrev pub answer_packet_code : MemoryState → Op → Code
+answer_packet_code m ReqRd = the_codes.Ok
+answer_packet_code m ReqWr = write_code m
+answer_packet_code m ReqWrPosted = write_code m
+answer_packet_code m ReqAtomic = write_code m
+answer_packet_code m RespRd = write_code m
+answer_packet_code m RespWr = write_code m
 
 -- the bytes that an answer carries, of so many from an address on: those before the step, and zeros where an atomic is refused
 abbrev pub answer_packet_bytes : MemoryState → Op → ℕ → ℕ → List ℕ
 answer_packet_bytes m ReqRd address count = loaded m address count
 answer_packet_bytes m ReqAtomic address count = if m.readonly then replicate count 0 else loaded m address count
-answer_packet_bytes m _ address count = []
+answer_packet_bytes m ReqWr address count = []
+answer_packet_bytes m ReqWrPosted address count = []
+answer_packet_bytes m RespRd address count = []
+answer_packet_bytes m RespWr address count = []
 
 -- bytes as the body of a packet, with zeros behind them
 abbrev pub body_of : List ℕ → List ℕ

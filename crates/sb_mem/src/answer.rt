@@ -1,17 +1,18 @@
 //! The packet that answers a request.
 
-ghost use Rattle.std.specs.Prelude.{◌≡◌, ◌≤◌, ◌-◌, drop, replicate};
+ghost use Rattle.std.specs.Prelude.{◌≡◌, ◌-◌, drop, replicate};
+ghost use Rattle.sb_packet.specs.Codes.{code_number};
 ghost use Rattle.sb_packet.specs.Spans.{carried_by, span_of};
 ghost use Rattle.sb_mem.specs.AnswerPackets.{IsAnswerTo, answer_len as len_of_answer, answer_op as op_of_answer};
 
-use sb_packet::{BODY_BYTES, Cmd, Op, Packet};
+use sb_packet::{BODY_BYTES, Cmd, Code, Op, Packet};
 
 fn answer_op(op: Op) -> Op
     ensures { result ≡ op_of_answer op }
 {
     match op {
         Op::ReqWr => Op::RespWr,
-        _ => Op::RespRd,
+        Op::ReqRd | Op::ReqWrPosted | Op::ReqAtomic | Op::RespRd | Op::RespWr => Op::RespRd,
     }
 }
 
@@ -20,17 +21,16 @@ fn answer_len(op: Op, len: u8) -> u8
 {
     match op {
         Op::ReqAtomic => 0,
-        _ => len,
+        Op::ReqRd | Op::ReqWr | Op::ReqWrPosted | Op::RespRd | Op::RespWr => len,
     }
 }
 
 /// The answer to a request, with that code and body.
-pub fn answer(p: &Packet, code: u8, body: [u8; BODY_BYTES]) -> Packet
-    requires code { code ≤ 3 }
-    requires padding { drop (carried_by (op_of_answer p.now.cmd.op) (span_of p.now.cmd)) body
+pub fn answer(p: &Packet, code: Code, body: [u8; BODY_BYTES]) -> Packet
+    requires { drop (carried_by (op_of_answer p.now.cmd.op) (span_of p.now.cmd)) body
         ≡ replicate (32 - carried_by (op_of_answer p.now.cmd.op) (span_of p.now.cmd)) 0 }
     ensures fields { IsAnswerTo p.now result }
-    ensures code { result.cmd.tail ≡ code }
+    ensures code { result.cmd.tail ≡ code_number code }
     ensures body { result.body ≡ body }
 {
     let cmd = Cmd {
@@ -42,7 +42,7 @@ pub fn answer(p: &Packet, code: u8, body: [u8; BODY_BYTES]) -> Packet
         eom: p.cmd.eom,
         eof: p.cmd.eof,
         ex: p.cmd.ex,
-        tail: code,
+        tail: code.number(),
         host: p.cmd.host,
     };
     Packet {

@@ -1,4 +1,4 @@
-//! What an atomic makes of the old value of a word and its operand, by its type: after UMI, this project's profile.
+//! What an atomic makes of the old value of a word and its operand: after UMI, this project's profile.
 
 ghost use Rattle.std.specs.Prelude.{◌≡◌, ◌≤◌, ◌<◌, ◌+◌, ◌*◌, ◌^◌, ◌%◌, length, take};
 ghost use Rattle.sb_word.specs.declared.command.Op.TheVariants.{ReqAtomic};
@@ -7,23 +7,7 @@ ghost use Rattle.sb_packet.specs.Accesses.{access_at};
 ghost use Rattle.sb_packet.specs.Atomics.{combined, number_of, signed_le};
 ghost use Rattle.sb_packet.specs.Memories.{combined_bytes as bytes_combined};
 
-use sb_packet::{Packet, padded};
-
-const ADD: u8 = 0;
-
-const AND: u8 = 1;
-
-const OR: u8 = 2;
-
-const XOR: u8 = 3;
-
-const MAX: u8 = 4;
-
-const MIN: u8 = 5;
-
-const MAXU: u8 = 6;
-
-const MINU: u8 = 7;
+use sb_packet::{AtomicOp, Packet, padded};
 
 /// The bytes that an atomic leaves of a word, at the front.
 pub fn combined_bytes(p: &Packet, old: &[u8]) -> [u8; 8]
@@ -34,7 +18,8 @@ pub fn combined_bytes(p: &Packet, old: &[u8]) -> [u8; 8]
     ensures whole { length result ≡ 8 }
 {
     let operand = number(&p.body[..old.len()]);
-    combined_word(p.cmd.len, p.cmd.size, number(old), operand).to_le_bytes()
+    let atomic = AtomicOp::numbered(p.cmd.len);
+    combined_word(atomic, p.cmd.size, number(old), operand).to_le_bytes()
 }
 
 /// Bytes as one number, the lowest first.
@@ -46,27 +31,25 @@ fn number(bytes: &[u8]) -> u64
     u64::from_le_bytes(padded(bytes))
 }
 
-/// What an atomic of that type, 0 to 8, leaves of the old value and the operand, which are words of `2^size` bytes.
-fn combined_word(kind: u8, size: u8, old: u64, operand: u64) -> u64
-    requires kind { kind ≤ 8 }
+/// What an atomic leaves of the old value and the operand, which are words of `2^size` bytes.
+fn combined_word(atomic: AtomicOp, size: u8, old: u64, operand: u64) -> u64
     requires size { size ≤ 3 }
     requires old { old < 256 ^ 2 ^ size }
     requires operand { operand < 256 ^ 2 ^ size }
-    ensures { result ≡ combined kind (256 ^ 2 ^ size) old operand }
+    ensures { result ≡ combined atomic (256 ^ 2 ^ size) old operand }
 {
-    match kind {
-        ADD => wrapped_sum(size, old, operand),
-        AND => old & operand,
-        OR => old | operand,
-        XOR => old ^ operand,
-        MAX if is_signed_at_most(size, old, operand) => operand,
-        MAX => old,
-        MIN if is_signed_at_most(size, old, operand) => old,
-        MIN => operand,
-        MAXU => old.max(operand),
-        MINU => old.min(operand),
-        // SWAP
-        _ => operand,
+    match atomic {
+        AtomicOp::Add => wrapped_sum(size, old, operand),
+        AtomicOp::And => old & operand,
+        AtomicOp::Or => old | operand,
+        AtomicOp::Xor => old ^ operand,
+        AtomicOp::Max if is_signed_at_most(size, old, operand) => operand,
+        AtomicOp::Max => old,
+        AtomicOp::Min if is_signed_at_most(size, old, operand) => old,
+        AtomicOp::Min => operand,
+        AtomicOp::MaxU => old.max(operand),
+        AtomicOp::MinU => old.min(operand),
+        AtomicOp::Swap => operand,
     }
 }
 

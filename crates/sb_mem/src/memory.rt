@@ -5,12 +5,13 @@ ghost use Rattle.sb_word.specs.declared.command.Op.TheVariants.{ReqRd, ReqWr, Re
 ghost use Rattle.sb_packet.specs.Spans.{span_of};
 ghost use Rattle.sb_packet.specs.Accesses.{accesses_of};
 ghost use Rattle.sb_packet.specs.Journals.{is_request};
+ghost use Rattle.sb_packet.specs.Codes.{code_number};
 ghost use Rattle.sb_packet.specs.Memories.{memory_after, answers_in, overwritten, stored, loaded, write_code};
 ghost use Rattle.sb_mem.specs.AnswerPackets.{IsInRange, IsAnswerTo, answer_packet_body, answer_packet_code};
 
 use crate::answer::answer;
 use crate::atomic::combined_bytes;
-use sb_packet::{BODY_BYTES, Op, PAGE_BYTES, Packet, padded, span};
+use sb_packet::{BODY_BYTES, Code, Op, PAGE_BYTES, Packet, padded, span};
 use std::alloc::{AllocError, Global};
 use std::marker::Model;
 
@@ -66,7 +67,7 @@ impl Memory {
     }
 
     /// Steps the memory by each word of a request, in order, and gives the packet that answers it. A posted write has no
-    /// answer. Where the memory may not be written, all but reads change nothing, and their answers have code 2. It takes
+    /// answer. Where the memory may not be written, all but reads change nothing, and their answers say that the device refused. It takes
     /// no memory.
     pub fn step(&mut self, p: &Packet) -> Option<Packet>
         requires request { IsTrue (is_request p.now.cmd.op) }
@@ -77,7 +78,7 @@ impl Memory {
         ensures no_answers { IfNone result
             (answers_in self.old (accesses_of p.now) ≡ map (λ _. None) (accesses_of p.now)) }
         ensures fields { IfSome result (IsAnswerTo p.now) }
-        ensures code { IfSome result (λ a. a.cmd.tail ≡ answer_packet_code self.old p.now.cmd.op) }
+        ensures code { IfSome result (λ a. a.cmd.tail ≡ code_number (answer_packet_code self.old p.now.cmd.op)) }
         ensures body { IfSome result (λ a. a.body ≡ answer_packet_body self.old p.now) }
         ensures memory { self.new ≡ memory_after self.old (accesses_of p.now) }
         ensures base { self.new.base ≡ self.old.base }
@@ -105,10 +106,10 @@ impl Memory {
         requires within { IsInRange self.now p.now }
         ensures answers { answers_in self.now (accesses_of p.now) ≡ map Some (accesses_of result) }
         ensures fields { IsAnswerTo p.now result }
-        ensures code { result.cmd.tail ≡ 0 }
+        ensures code { result.cmd.tail ≡ code_number Code.Ok }
         ensures body { result.body ≡ answer_packet_body self.now p.now }
     {
-        answer(p, 0, padded(self.held(p)))
+        answer(p, Code::Ok, padded(self.held(p)))
     }
 
     /// Stores what a write carries, where the memory may be written.
@@ -131,7 +132,7 @@ impl Memory {
         requires within { IsInRange self.old p.now }
         ensures answers { answers_in self.old (accesses_of p.now) ≡ map Some (accesses_of result) }
         ensures fields { IsAnswerTo p.now result }
-        ensures code { result.cmd.tail ≡ write_code self.old }
+        ensures code { result.cmd.tail ≡ code_number (write_code self.old) }
         ensures body { result.body ≡ answer_packet_body self.old p.now }
         ensures memory { self.new ≡ memory_after self.old (accesses_of p.now) }
         ensures base { self.new.base ≡ self.old.base }
@@ -139,19 +140,23 @@ impl Memory {
         ensures readonly { self.new.readonly ≡ self.old.readonly }
     {
         if self.readonly {
-            return answer(p, 2, [0; BODY_BYTES]);
+            return answer(p, Code::DevErr, [0; BODY_BYTES]);
         }
         let size = span(&p.cmd) as usize;
         let old: [u8; BODY_BYTES] = padded(self.held(p));
         self.store(p.dst, &combined_bytes(p, &old[..size])[..size]);
-        answer(p, 0, old)
+        answer(p, Code::Ok, old)
     }
 
     /// The code of an answer to what would write.
-    fn write_code(&self) -> u8
+    fn write_code(&self) -> Code
         ensures { result ≡ write_code self.now }
     {
-        if self.readonly { 2 } else { 0 }
+        if self.readonly {
+            Code::DevErr
+        } else {
+            Code::Ok
+        }
     }
 
     /// The bytes that a packet speaks of.

@@ -1,5 +1,5 @@
 -- Parts of a sound whole message are sound, whole and narrow. So are the packets of a transaction.
-use Rattle.std.proofs.Common.{◌≡◌, ◌≤◌, ◌<◌, ℕ, zero, suc, ◌+◌, ◌-◌, ◌*◌, ◌%◌, ◌/◌, ◌^◌, List, [], ◌∷◌, ap, ◌∙◌, refl, arith, length, false, true, Bool, inl, inr}
+use Rattle.std.proofs.Common.{◌≡◌, ◌≤◌, ◌<◌, ℕ, zero, suc, ◌+◌, ◌-◌, ◌*◌, ◌%◌, ◌/◌, ◌^◌, List, [], ◌∷◌, ap, ◌∙◌, refl, arith, length, false, true, Bool, inl, inr, None}
 use Rattle.std.specs.Prelude.{nat_le, ◌||◌, ◌⊎◌, All, if◌then◌else◌}
 use Rattle.std.proofs.Math.Nat.{pow-le-pow_right, mul-le-mul_right, div-mul-le_self}
 use Rattle.std.proofs.lemmas.List.{length-take, length-drop}
@@ -9,14 +9,14 @@ use Rattle.sb_packet.specs.Spans.{carried_by, span_of}
 use Rattle.sb_packet.specs.Messages.{Message, message_of, message_span}
 use Rattle.sb_packet.specs.Cuts.{part_of, first_part, other_parts, words_in, is_one_part, is_indivisible, is_atomic, parts_in, cut_parts}
 use Rattle.sb_packet.specs.Journals.{is_request}
-use Rattle.sb_packet.specs.Scripts.{IsTransaction, HasBody, IsOneWordIfAtomic, request_of, atomic_type_of_kind, request_message}
+use Rattle.sb_packet.specs.Scripts.{IsTransaction, HasBody, IsOneWordIfAtomic, request_of, atomic_of_kind, request_message}
 use Rattle.sb_packet.specs.Soundness.{IsSound, IsWhole, IsFine}
 use Rattle.sb_packet.specs.declared.packet.Packet.{Packet}
 use Rattle.sb_packet.specs.declared.transaction.Txn.{Txn}
 use Rattle.sb_packet.specs.declared.transaction.Kind.{Kind}
 use Rattle.sb_packet.specs.declared.transaction.Kind.TheVariants.{Read, Write, Posted, Atomic}
 use Rattle.sb_packet.proofs.CutWords.{more_than_fit}
-use Rattle.sb_packet.proofs.Opcodes.{some_words, atomic_of_one_word, no_atomic_type, carries_none_or_all}
+use Rattle.sb_packet.proofs.Opcodes.{some_words, atomic_of_one_word, no_atomic, carries_none_or_all}
 use Rattle.sb_packet.proofs.ReplyAddresses.{span_of_transaction}
 use Rattle.sb_packet.proofs.SoundParts.{sound_first, sound_others}
 
@@ -108,7 +108,7 @@ packet_whole p =
         | inr all ↦ rw (all (span_of p.cmd), length-take) (omega (arith, long, fits))
       ];
       single = atomic_of_one_word p.cmd.op p.cmd.len;
-      plain = no_atomic_type p.cmd.op p.cmd.len;
+      plain = no_atomic p.cmd.op p.cmd.len;
     }
 
 -- a script asks by requests
@@ -116,25 +116,25 @@ asks : (k : Kind) → is_request (request_of k) ≡ true
 asks Read = refl
 asks Write = refl
 asks Posted = refl
-asks (Atomic type) = refl
+asks (Atomic atomic) = refl
 
 body_carried : (k : Kind) (span : ℕ) (body : List ℕ) → HasBody k span body → length body ≡ carried_by (request_of k) span
 body_carried Read span body has = ap length has
 body_carried Write span body has = has
 body_carried Posted span body has = has
-body_carried (Atomic type) span body has = has
+body_carried (Atomic atomic) span body has = has
 
 atomic_of_one : (k : Kind) (count : ℕ) → IsOneWordIfAtomic k count → is_atomic (request_of k) ≡ true → count ≡ 1
 atomic_of_one Read count is h = absurd (cc)
 atomic_of_one Write count is h = absurd (cc)
 atomic_of_one Posted count is h = absurd (cc)
-atomic_of_one (Atomic type) count is h = is.1
+atomic_of_one (Atomic atomic) count is h = is
 
-no_type : (k : Kind) → is_atomic (request_of k) ≡ false → atomic_type_of_kind k ≡ 0
-no_type Read h = refl
-no_type Write h = refl
-no_type Posted h = refl
-no_type (Atomic type) h = absurd (cc)
+no_atomic_of_kind : (k : Kind) → is_atomic (request_of k) ≡ false → atomic_of_kind k ≡ None
+no_atomic_of_kind Read h = refl
+no_atomic_of_kind Write h = refl
+no_atomic_of_kind Posted h = refl
+no_atomic_of_kind (Atomic atomic) h = absurd (cc)
 
 -- a transaction as one message is sound
 pub transaction_sound : (id qos prot i : ℕ) (t : Txn) → IsTransaction t → i < 65536 → IsSound (request_message id qos prot i t)
@@ -156,5 +156,5 @@ transaction_whole id qos prot i t is = record {
   size = is.size;
   carried = body_carried t.kind (t.count * 2 ^ t.size) t.body is.body;
   single = atomic_of_one t.kind t.count is.atomic;
-  plain = no_type t.kind;
+  plain = no_atomic_of_kind t.kind;
 }

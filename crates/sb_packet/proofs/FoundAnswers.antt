@@ -1,11 +1,13 @@
 -- Where no two accesses have one reply address, the answer at the first place of an access is its answer in the run.
 use Rattle.std.proofs.Common.{◌≡◌, ◌≢◌, ◌<◌, ℕ, suc, List, [], ◌∷◌, ◌++◌, ap, sym, ◌∙◌, refl, arith, append_assoc, subst, Bool, true, false, cond, length}
-use Rattle.std.specs.Prelude.{◌==◌, Option, map, bytes_eq, AllPairs}
+use Rattle.std.specs.Prelude.{◌==◌, Option, Some, None, map, bytes_eq, AllPairs}
 use Rattle.std.proofs.lemmas.Bool.Decides.{nat_tests}
 use Rattle.std.proofs.lemmas.List.Elements.{All-head}
 use Rattle.sb_packet.specs.Accesses.{Access}
 use Rattle.sb_packet.specs.Memories.{MemoryState, access_step, access_answer, answers_in, memory_after}
-use Rattle.sb_packet.specs.Answers.{same_access, same_bool, answer_at_first}
+use Rattle.sb_packet.specs.Answers.{same_access, same_bool, answer_at_first, same_atomic}
+use Rattle.sb_word.specs.Atomics.{atomic_number}
+use Rattle.sb_word.specs.declared.atomic.AtomicOp.{AtomicOp}
 use Rattle.sb_packet.proofs.Lists.{All-right, AllPairs-head, AllPairs-tail}
 
 eq_self : (n : ℕ) → (n == n) ≡ true
@@ -18,13 +20,17 @@ bool_self : (b : Bool) → same_bool b b ≡ true
 bool_self true = refl
 bool_self false = refl
 
+atomic_self : (a : Option AtomicOp) → same_atomic a a ≡ true
+atomic_self None = refl
+atomic_self (Some a) = eq_self (atomic_number a)
+
 bytes_self : (xs : List ℕ) → bytes_eq xs xs ≡ true
 bytes_self [] = refl
 bytes_self (x ∷ xs) = simp (eq_self, bytes_self xs)
 
 -- an access is itself
 pub same_access_self : (a : Access) → same_access a a ≡ true
-same_access_self a = simp (eq_self, bool_self, bytes_self)
+same_access_self a = simp (eq_self, atomic_self, bool_self, bytes_self)
 
 -- accesses with other reply addresses are others
 same_access_apart : (x a : Access) → x.src ≢ a.src → same_access x a ≡ false

@@ -5,6 +5,7 @@ use Rattle.std.specs.List.{range_with_len, AllByRecursion}
 use Rattle.std.proofs.lemmas.List.Elements.{All-from_recursion}
 use Rattle.std.specs.Fmt.{digits}
 use Rattle.hex.specs.Hex.{encode_with}
+use Rattle.sb_word.specs.declared.atomic.AtomicOp.TheVariants as atomics
 use Rattle.sb_packet.specs.Accesses.{accesses_of}
 use Rattle.sb_packet.specs.Networks.{NetHost, NetRouter, NetDevice, NetLink, Network, at_host, at_router, at_device}
 use Rattle.sb_packet.specs.Scripts.{script_accesses}
@@ -32,7 +33,7 @@ cpu0 = record {
       ∷ record { kind = Read; size = 3; addr = 65536; count = 4; body = [] }
       ∷ record { kind = Posted; size = 2; addr = 131088; count = 1; body = 170 ∷ 187 ∷ 204 ∷ 221 ∷ [] }
       ∷ record { kind = Read; size = 2; addr = 131088; count = 1; body = [] }
-      ∷ record { kind = Atomic 0; size = 3; addr = 196608; count = 1; body = 1 ∷ replicate 7 0 } ∷ [];
+      ∷ record { kind = Atomic atomics.Add; size = 3; addr = 196608; count = 1; body = 1 ∷ replicate 7 0 } ∷ [];
 }
 
 -- The second swaps a word of `m2`, writes to `rom`, which refuses, reads that, reads where no device is, and raises its word of `m2`.
@@ -42,11 +43,11 @@ cpu1 = record {
   id = 1;
   qos = 3;
   prot = 0;
-  script = record { kind = Atomic 8; size = 2; addr = 196616; count = 1; body = 120 ∷ 86 ∷ 52 ∷ 18 ∷ [] }
+  script = record { kind = Atomic atomics.Swap; size = 2; addr = 196616; count = 1; body = 120 ∷ 86 ∷ 52 ∷ 18 ∷ [] }
       ∷ record { kind = Write; size = 0; addr = 262144; count = 1; body = 255 ∷ [] }
       ∷ record { kind = Read; size = 0; addr = 262144; count = 4; body = [] }
       ∷ record { kind = Read; size = 1; addr = 327680; count = 2; body = [] }
-      ∷ record { kind = Atomic 6; size = 2; addr = 196616; count = 1; body = 0 ∷ 0 ∷ 0 ∷ 128 ∷ [] } ∷ [];
+      ∷ record { kind = Atomic atomics.MaxU; size = 2; addr = 196616; count = 1; body = 0 ∷ 0 ∷ 0 ∷ 128 ∷ [] } ∷ [];
 }
 
 -- `r0` leads to `r1`, which has `m0` and `m1`, and over the wire to `r2`, which has `m2` and `rom`

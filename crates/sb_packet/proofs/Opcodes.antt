@@ -1,10 +1,10 @@
 -- What holds of each opcode: how many words it speaks of, and whether it carries them.
-use Rattle.std.proofs.Common.{◌≡◌, ◌<◌, ℕ, refl, arith, true, false, inl, inr}
+use Rattle.std.proofs.Common.{◌≡◌, ◌<◌, ℕ, refl, arith, true, false, None, inl, inr}
 use Rattle.std.specs.Prelude.{◌⊎◌}
 use Rattle.sb_word.specs.declared.command.Op.{Op}
 use Rattle.sb_word.specs.declared.command.Op.TheVariants.{ReqRd, ReqWr, ReqWrPosted, ReqAtomic, RespRd, RespWr}
 use Rattle.sb_packet.specs.Spans.{word_count_by, carried_by}
-use Rattle.sb_packet.specs.Messages.{atomic_type_of}
+use Rattle.sb_packet.specs.Messages.{atomic_of}
 use Rattle.sb_packet.specs.Cuts.{is_atomic}
 
 -- each command is of a word
@@ -25,14 +25,14 @@ atomic_of_one_word ReqWrPosted len h = absurd (cc)
 atomic_of_one_word RespRd len h = absurd (cc)
 atomic_of_one_word RespWr len h = absurd (cc)
 
--- nothing else has an atomic's type
-pub no_atomic_type : (op : Op) (len : ℕ) → is_atomic op ≡ false → atomic_type_of op len ≡ 0
-no_atomic_type ReqAtomic len h = absurd (cc)
-no_atomic_type ReqRd len h = refl
-no_atomic_type ReqWr len h = refl
-no_atomic_type ReqWrPosted len h = refl
-no_atomic_type RespRd len h = refl
-no_atomic_type RespWr len h = refl
+-- nothing else is one of the atomics
+pub no_atomic : (op : Op) (len : ℕ) → is_atomic op ≡ false → atomic_of op len ≡ None
+no_atomic ReqAtomic len h = absurd (cc)
+no_atomic ReqRd len h = refl
+no_atomic ReqWr len h = refl
+no_atomic ReqWrPosted len h = refl
+no_atomic RespRd len h = refl
+no_atomic RespWr len h = refl
 
 -- a packet carries all that it speaks of, or nothing
 pub carries_none_or_all : (op : Op) → ((n : ℕ) → carried_by op n ≡ 0) ⊎ ((n : ℕ) → carried_by op n ≡ n)

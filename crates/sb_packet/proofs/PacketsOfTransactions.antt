@@ -195,7 +195,7 @@ atomic_is_short : (k : Kind) (count words : ℕ) → IsOneWordIfAtomic k count �
 atomic_is_short Read count words h some e = absurd (cc)
 atomic_is_short Write count words h some e = absurd (cc)
 atomic_is_short Posted count words h some e = absurd (cc)
-atomic_is_short (Atomic type) count words h some e = let one : count ≡ 1 = h.1 in omega arith
+atomic_is_short (Atomic atomic) count words h some e = omega (arith, h)
 
 -- a transaction is an even message
 pub transaction_is_even : (id qos prot i : ℕ) (t : Txn) → IsTransaction t → IsEven 32 (request_message id qos prot i t)

@@ -16,7 +16,7 @@ over_the_wire = record {
 
 -- host 0 reads two words of eight bytes from an address on
 abbrev read_at : ℕ → Message
-read_at address = record { op = ReqRd; atomic = 0; size = 3; host = 0; dst = address; src = 0; count = 2; bytes = []; eom = true; qos = 0; prot = 0; eof = false; ex = false; tail = 0 }
+read_at address = record { op = ReqRd; atomic = None; size = 3; host = 0; dst = address; src = 0; count = 2; bytes = []; eom = true; qos = 0; prot = 0; eof = false; ex = false; tail = 0 }
 
 -- that host is answered from an address, at another one
 abbrev answer_from : ℕ → ℕ → Message

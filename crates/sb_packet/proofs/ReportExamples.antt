@@ -3,6 +3,7 @@ use Rattle.std.proofs.Common.{◌≡◌, lit≤, replicate, refl, [], ◌∷◌,
 use Rattle.std.specs.Prelude.{codes}
 use Rattle.std.specs.Fmt.{digits}
 use Rattle.hex.specs.Hex.{encode_with}
+use Rattle.sb_word.specs.declared.atomic.AtomicOp.TheVariants as atomics
 use Rattle.sb_packet.specs.Networks.{NetHost, NetDevice, Network, at_host, at_router, at_device}
 use Rattle.sb_packet.specs.Reports.{run_report, entry_line}
 use Rattle.sb_packet.specs.Solo.{solo_network}
@@ -85,7 +86,7 @@ beta = record {
   id = 1;
   qos = 3;
   prot = 0;
-  script = record { kind = Atomic 0; size = 2; addr = 32; count = 1; body = 255 ∷ 0 ∷ 0 ∷ 0 ∷ [] }
+  script = record { kind = Atomic atomics.Add; size = 2; addr = 32; count = 1; body = 255 ∷ 0 ∷ 0 ∷ 0 ∷ [] }
       ∷ record { kind = Write; size = 0; addr = 4096; count = 1; body = 9 ∷ [] }
       ∷ record { kind = Posted; size = 0; addr = 36864; count = 1; body = 9 ∷ [] } ∷ [];
 }

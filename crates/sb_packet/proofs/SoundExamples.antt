@@ -1,9 +1,10 @@
 -- Messages that are sound and whole, and messages that are not.
-use Rattle.std.proofs.Common.{◌≡◌, ◌≤◌, ◌+◌, ◌*◌, ◌^◌, ◌%◌, refl, arith, replicate, [], ℕ, false, true, Bool}
+use Rattle.std.proofs.Common.{◌≡◌, ◌≤◌, ◌+◌, ◌*◌, ◌^◌, ◌%◌, refl, arith, replicate, [], ℕ, false, true, Bool, Some, None}
 use Rattle.sb_packet.specs.Messages.{Message}
 use Rattle.sb_packet.specs.Scripts.{request_message}
 use Rattle.sb_packet.specs.Soundness.{device_place, reply_place, IsSound, IsWhole, IsFine}
 use Rattle.sb_packet.specs.declared.transaction.Kind.TheVariants.{Read}
+use Rattle.sb_word.specs.declared.atomic.AtomicOp.TheVariants.{Swap}
 use Rattle.sb_word.specs.declared.command.Op.TheVariants.{ReqWr, ReqAtomic, RespRd}
 
 -- host 1 asks for two words of eight bytes at an address
@@ -51,9 +52,9 @@ read_with_bytes whole = let none : 16 ≡ 0 = whole.carried in absurd (omega (ar
 pub write_with_too_few_bytes : IsWhole (record (read_at 16 true) { op = ReqWr; bytes = replicate 8 0 }) → ⊥
 write_with_too_few_bytes whole = let all : 8 ≡ 16 = whole.carried in absurd (omega (arith, all))
 
--- an atomic of two words, or an atomic's type on a read.
+-- an atomic of two words, or a read that is said to be one of the atomics.
 pub atomic_of_two_words : IsWhole (record (read_at 16 true) { op = ReqAtomic; bytes = replicate 16 0 }) → ⊥
 atomic_of_two_words whole = let one : 2 ≡ 1 = whole.single refl in absurd (omega (arith, one))
 
-pub read_with_a_type : IsWhole (record (read_at 16 true) { atomic = 8 }) → ⊥
-read_with_a_type whole = let none : 8 ≡ 0 = whole.plain refl in absurd (omega (arith, none))
+pub read_with_an_atomic : IsWhole (record (read_at 16 true) { atomic = Some Swap }) → ⊥
+read_with_an_atomic whole = let none : Some Swap ≡ None = whole.plain refl in absurd (cc)

@@ -1,6 +1,7 @@
 -- Accesses: what a memory is stepped by is not a packet but one word of it.
-use Rattle.std.specs.Prelude.{ℕ, ◌+◌, ◌*◌, ◌^◌, Bool, ◌&&◌, ◌==◌, List, [], map, take, drop}
+use Rattle.std.specs.Prelude.{ℕ, ◌+◌, ◌*◌, ◌^◌, Bool, ◌&&◌, ◌==◌, List, [], map, take, drop, Option}
 use Rattle.std.specs.List.{range_with_len}
+use Rattle.sb_word.specs.declared.atomic.AtomicOp.{AtomicOp}
 use Rattle.sb_word.specs.declared.command.Op.{Op}
 use Rattle.sb_packet.specs.Messages.{Message, message_of}
 use Rattle.sb_packet.specs.declared.packet.Packet.{Packet}
@@ -10,8 +11,8 @@ use Rattle.sb_packet.specs.declared.item.Item.TheVariants as items
 -- an access to one word, or the answer to one
 pub record Access : Type 0 where
   pub op : Op
-  -- the type of an atomic, and 0 for all else
-  pub atomic : ℕ
+  -- which atomic it is; nothing else has one
+  pub atomic : Option AtomicOp
   pub size : ℕ
   pub host : ℕ
   pub dst : ℕ

@@ -1,6 +1,8 @@
 -- What a journal answers to each transaction, and what it leaves in each memory.
-use Rattle.std.specs.Prelude.{ℕ, ◌^◌, Bool, ◌&&◌, ◌==◌, not, List, [], ◌∷◌, map, filter_map, flat_map, fold, max, replicate, Option, Some, None, bytes_eq, if◌then◌else◌}
+use Rattle.std.specs.Prelude.{ℕ, ◌^◌, Bool, true, false, ◌&&◌, ◌==◌, not, List, [], ◌∷◌, map, filter_map, flat_map, fold, max, replicate, Option, Some, None, bytes_eq, if◌then◌else◌}
+use Rattle.sb_word.specs.Atomics.{atomic_number}
 use Rattle.sb_word.specs.Words.{opcode_of}
+use Rattle.sb_word.specs.declared.atomic.AtomicOp.{AtomicOp}
 use Rattle.sb_word.specs.declared.command.Op.{Op}
 use Rattle.sb_word.specs.declared.command.Op.TheVariants.{ReqRd, ReqWr, ReqWrPosted, ReqAtomic, RespRd, RespWr}
 use Rattle.sb_packet.specs.Accesses.{Access}
@@ -9,16 +11,24 @@ use Rattle.sb_packet.specs.Networks.{NetHost, Network, device_at, opening_memory
 use Rattle.sb_packet.specs.Scripts.{transaction_accesses, script_accesses}
 use Rattle.sb_packet.specs.Journals.{journal_accesses, flow_part}
 use Rattle.sb_packet.specs.declared.entry.Entry.{Entry}
+use Rattle.sb_packet.specs.declared.transaction.Code.TheVariants.{NetErr}
 use Rattle.sb_packet.specs.declared.transaction.Txn.{Txn}
 
 -- both are true, or both are false
 abbrev pub same_bool : Bool → Bool → Bool
 same_bool a b = if a then b else not b
 
+-- both are one atomic, or both are none
+abbrev pub same_atomic : Option AtomicOp → Option AtomicOp → Bool
+same_atomic (Some a) (Some b) = atomic_number a == atomic_number b
+same_atomic (Some a) None = false
+same_atomic None (Some b) = false
+same_atomic None None = true
+
 -- two accesses are equal in every field
 abbrev pub same_access : Access → Access → Bool
 same_access a b =
-    (a.src == b.src) && (a.dst == b.dst) && (opcode_of a.op == opcode_of b.op) && (a.atomic == b.atomic)
+    (a.src == b.src) && (a.dst == b.dst) && (opcode_of a.op == opcode_of b.op) && same_atomic a.atomic b.atomic
     && (a.size == b.size) && (a.host == b.host) && bytes_eq a.bytes b.bytes && same_bool a.last b.last
     && (a.qos == b.qos) && (a.prot == b.prot) && same_bool a.eof b.eof && same_bool a.ex b.ex && (a.tail == b.tail)
 
@@ -36,12 +46,12 @@ abbrev pub answer_at_first : MemoryState → List Access → Access → Option A
 answer_at_first m [] a = None
 answer_at_first m (x ∷ rest) a = if same_access x a then access_answer m x else answer_at_first (access_step m x) rest a
 
--- the answer to a request at no device: code 3, and zeros where bytes were asked for
+-- the answer to a request at no device: its code says so, and zeros come where bytes were asked for
 abbrev pub unreached_by : Op → Access → Option Access
-unreached_by ReqRd a = Some (reply a RespRd 3 (replicate (2 ^ a.size) 0))
-unreached_by ReqWr a = Some (reply a RespWr 3 [])
+unreached_by ReqRd a = Some (reply a RespRd NetErr (replicate (2 ^ a.size) 0))
+unreached_by ReqWr a = Some (reply a RespWr NetErr [])
 unreached_by ReqWrPosted a = None
-unreached_by ReqAtomic a = Some (reply a RespRd 3 (replicate (2 ^ a.size) 0))
+unreached_by ReqAtomic a = Some (reply a RespRd NetErr (replicate (2 ^ a.size) 0))
 unreached_by RespRd a = None
 unreached_by RespWr a = None
 
@@ -62,7 +72,7 @@ transaction_answers network journal host i t = filter_map (access_reply network 
 abbrev pub flow_answers : Network → List Entry → NetHost → ℕ → List Access
 flow_answers network journal host d = filter_map (access_reply network journal) (flow_part network host d (script_accesses host))
 
--- The code of an answered transaction is the greatest code of its words.
+-- The code of an answered transaction is the greatest of its words, by its number.
 abbrev pub answer_code : List Access → ℕ
 answer_code answers = fold max 0 (map (λ a. a.tail) answers)
 

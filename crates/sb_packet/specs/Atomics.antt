@@ -1,5 +1,7 @@
 -- What atomics make of two words, as whole numbers. After UMI, this project's profile.
-use Rattle.std.specs.Prelude.{ℕ, zero, suc, ◌+◌, ◌*◌, ◌/◌, ◌%◌, ℤ, pos, ◌-ℤ◌, int_le, max, min, Bool, nat_lt, List, [], ◌∷◌, slice_index_or, bit_and, bit_or, bit_xor, if◌then◌else◌}
+use Rattle.std.specs.Prelude.{ℕ, zero, suc, ◌+◌, ◌*◌, ◌/◌, ◌%◌, ℤ, pos, ◌-ℤ◌, int_le, max, min, Bool, nat_lt, List, [], ◌∷◌, Option, Some, None, bit_and, bit_or, bit_xor, if◌then◌else◌}
+use Rattle.sb_word.specs.declared.atomic.AtomicOp.{AtomicOp}
+use Rattle.sb_word.specs.declared.atomic.AtomicOp.TheVariants as atomics
 
 -- bytes as one number, the lowest first
 abbrev pub number_of : List ℕ → ℕ
@@ -19,14 +21,21 @@ twos_complement modulus a = if nat_lt a (modulus / 2) then pos a else pos a -ℤ
 abbrev pub signed_le : ℕ → ℕ → ℕ → Bool
 signed_le modulus a b = int_le (twos_complement modulus a) (twos_complement modulus b)
 
--- What an atomic makes of the old value a and the operand b, below the modulus, by its type from 0.
-abbrev pub combined : ℕ → ℕ → ℕ → ℕ → ℕ
-combined type modulus a b = slice_index_or (
-    -- ADD, AND, OR, XOR
-    (a + b) % modulus ∷ bit_and a b ∷ bit_or a b ∷ bit_xor a b
-    -- MAX and MIN, in two's complement
-    ∷ (if signed_le modulus a b then b else a) ∷ (if signed_le modulus a b then a else b)
-    -- MAXU and MINU, without sign
-    ∷ max a b ∷ min a b ∷ []) type
-    -- SWAP
-    b
+-- What an atomic makes of the old value a and the operand b, below the modulus.
+abbrev pub combined : AtomicOp → ℕ → ℕ → ℕ → ℕ
+combined atomics.Add modulus a b = (a + b) % modulus
+combined atomics.And modulus a b = bit_and a b
+combined atomics.Or modulus a b = bit_or a b
+combined atomics.Xor modulus a b = bit_xor a b
+-- in two's complement
+combined atomics.Max modulus a b = if signed_le modulus a b then b else a
+combined atomics.Min modulus a b = if signed_le modulus a b then a else b
+-- without sign
+combined atomics.MaxU modulus a b = max a b
+combined atomics.MinU modulus a b = min a b
+combined atomics.Swap modulus a b = b
+
+-- what is left of the old value: all of it where nothing says which atomic it is
+abbrev pub left_by : Option AtomicOp → ℕ → ℕ → ℕ → ℕ
+left_by (Some atomic) modulus a b = combined atomic modulus a b
+left_by None modulus a b = a

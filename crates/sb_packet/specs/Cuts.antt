@@ -1,7 +1,7 @@
 -- How a message is cut into parts that speak of at most so many bytes.
 use Rattle.std.specs.Prelude.{ℕ, zero, suc, ◌+◌, ◌-◌, ◌*◌, ◌/◌, ◌^◌, Bool, true, false, ◌||◌, nat_le, List, [], ◌∷◌, take, drop, if◌then◌else◌}
 use Rattle.sb_word.specs.declared.command.Op.{Op}
-use Rattle.sb_word.specs.declared.command.Op.TheVariants.{ReqAtomic}
+use Rattle.sb_word.specs.declared.command.Op.TheVariants.{ReqRd, ReqWr, ReqWrPosted, ReqAtomic, RespRd, RespWr}
 use Rattle.sb_packet.specs.Messages.{Message, message_span}
 use Rattle.sb_packet.specs.Networks.{NetHost}
 use Rattle.sb_packet.specs.Scripts.{transaction_message}
@@ -10,7 +10,11 @@ use Rattle.sb_packet.specs.declared.transaction.Txn.{Txn}
 -- the opcode of an atomic
 abbrev pub is_atomic : Op → Bool
 is_atomic ReqAtomic = true
-is_atomic _ = false
+is_atomic ReqRd = false
+is_atomic ReqWr = false
+is_atomic ReqWrPosted = false
+is_atomic RespRd = false
+is_atomic RespWr = false
 
 -- an atomic is never cut, nor is an exclusive access
 abbrev pub is_indivisible : Message → Bool

@@ -6,6 +6,7 @@ pub mod Padded
 pub mod Messages
 pub mod Accesses
 pub mod Atomics
+pub mod Codes
 pub mod Memories
 pub mod Slots
 pub mod SlotFaults

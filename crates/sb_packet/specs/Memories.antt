@@ -1,9 +1,12 @@
 -- What a device's memory does at an access. After UMI's requests and answers.
 use Rattle.std.specs.Prelude.{ℕ, ◌+◌, ◌-◌, ◌^◌, Bool, List, [], ◌∷◌, ◌++◌, take, drop, length, replicate, fold, Option, Some, None, if◌then◌else◌}
-use Rattle.sb_packet.specs.Atomics.{number_of, bytes_of_number, combined}
+use Rattle.sb_packet.specs.Atomics.{number_of, bytes_of_number, left_by}
 use Rattle.sb_word.specs.declared.command.Op.{Op}
 use Rattle.sb_word.specs.declared.command.Op.TheVariants.{ReqRd, ReqWr, ReqWrPosted, ReqAtomic, RespRd, RespWr}
 use Rattle.sb_packet.specs.Accesses.{Access}
+use Rattle.sb_packet.specs.Codes.{code_number}
+use Rattle.sb_packet.specs.declared.transaction.Code.{Code}
+use Rattle.sb_packet.specs.declared.transaction.Code.TheVariants as the_codes
 
 -- a memory: the address of its first byte, its bytes, and whether it refuses to be written
 pub record MemoryState : Type 0 where
@@ -29,7 +32,7 @@ held_at m a = loaded m a.dst (2 ^ a.size)
 
 -- the bytes that an atomic leaves
 abbrev pub combined_bytes : Access → List ℕ → List ℕ
-combined_bytes a old = bytes_of_number (2 ^ a.size) (combined a.atomic (256 ^ 2 ^ a.size) (number_of old) (number_of a.bytes))
+combined_bytes a old = bytes_of_number (2 ^ a.size) (left_by a.atomic (256 ^ 2 ^ a.size) (number_of old) (number_of a.bytes))
 
 -- a memory that may be written, after a request with that opcode
 abbrev pub written : Op → MemoryState → Access → MemoryState
@@ -44,13 +47,13 @@ written RespWr m a = m
 abbrev pub access_step : MemoryState → Access → MemoryState
 access_step m a = if m.readonly then m else written a.op m a
 
--- an answer goes back where the access came from; its tail is the code
-abbrev pub reply : Access → Op → ℕ → List ℕ → Access
-reply a op code bytes = record a { op = op; atomic = 0; dst = a.src; src = a.dst; tail = code; bytes = bytes }
+-- an answer goes back where the access came from; its tail is the number of its code
+abbrev pub reply : Access → Op → Code → List ℕ → Access
+reply a op code bytes = record a { op = op; atomic = None; dst = a.src; src = a.dst; tail = code_number code; bytes = bytes }
 
--- the code of an access that would write: 2 where the memory refuses
-abbrev pub write_code : MemoryState → ℕ
-write_code m = if m.readonly then 2 else 0
+-- the code of an access that would write: the device refuses where the memory can't be written
+abbrev pub write_code : MemoryState → Code
+write_code m = if m.readonly then the_codes.DevErr else the_codes.Ok
 
 -- what an atomic answers: the bytes before it, and zeros where it is refused
 abbrev pub old_bytes : MemoryState → Access → List ℕ
@@ -58,7 +61,7 @@ old_bytes m a = if m.readonly then replicate (2 ^ a.size) 0 else held_at m a
 
 -- the answer to a request with that opcode; nothing answers a posted write, or an answer
 abbrev pub answer_by : Op → MemoryState → Access → Option Access
-answer_by ReqRd m a = Some (reply a RespRd 0 (held_at m a))
+answer_by ReqRd m a = Some (reply a RespRd the_codes.Ok (held_at m a))
 answer_by ReqWr m a = Some (reply a RespWr (write_code m) [])
 answer_by ReqWrPosted m a = None
 answer_by ReqAtomic m a = Some (reply a RespRd (write_code m) (old_bytes m a))

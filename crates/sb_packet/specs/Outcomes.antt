@@ -26,10 +26,16 @@ pub record RunResults : Type 0 where
 abbrev pub code_numbered : ℕ → Code
 code_numbered n = slice_index_or (the_codes.Ok ∷ the_codes.ExOk ∷ the_codes.DevErr ∷ []) n the_codes.NetErr
 
+-- what answers come to where they are waited for
+abbrev pub answered : List Access → Outcome
+answered answers = record { state = states.Answered (code_numbered (answer_code answers)); body = answer_body answers }
+
 -- what the answers to all words of a transaction come to
 abbrev pub outcome_of : Kind → List Access → Outcome
 outcome_of kinds.Posted answers = record { state = states.Posted; body = [] }
-outcome_of _ answers = record { state = states.Answered (code_numbered (answer_code answers)); body = answer_body answers }
+outcome_of kinds.Read answers = answered answers
+outcome_of kinds.Write answers = answered answers
+outcome_of (kinds.Atomic atomic) answers = answered answers
 
 -- The outcomes of a host's transactions by a journal, in order.
 abbrev pub host_outcomes : Network → List Entry → NetHost → List Outcome

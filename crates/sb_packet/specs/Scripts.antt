@@ -1,9 +1,10 @@
 -- What a host's script asks for, word by word.
-use Rattle.std.specs.Prelude.{ℕ, ◌≡◌, ◌≤◌, ◌<◌, ◌%◌, ◌+◌, ◌*◌, ◌^◌, true, false, List, [], length, flat_map}
+use Rattle.std.specs.Prelude.{ℕ, ◌≡◌, ◌≤◌, ◌<◌, ◌%◌, ◌+◌, ◌*◌, ◌^◌, true, false, List, [], length, flat_map, Option, Some, None}
 use Rattle.std.specs.List.{enumerate_from}
 use Rattle.sb_packet.specs.Messages.{Message}
 use Rattle.sb_packet.specs.Accesses.{Access, message_accesses}
 use Rattle.sb_packet.specs.Networks.{NetHost}
+use Rattle.sb_word.specs.declared.atomic.AtomicOp.{AtomicOp}
 use Rattle.sb_word.specs.declared.command.Op.{Op}
 use Rattle.sb_word.specs.declared.command.Op.TheVariants.{ReqRd, ReqWr, ReqWrPosted, ReqAtomic}
 use Rattle.sb_packet.specs.declared.transaction.Kind.{Kind}
@@ -15,14 +16,14 @@ abbrev pub request_of : Kind → Op
 request_of Read = ReqRd
 request_of Write = ReqWr
 request_of Posted = ReqWrPosted
-request_of (Atomic type) = ReqAtomic
+request_of (Atomic atomic) = ReqAtomic
 
--- the type of an atomic, and 0 for all else
-abbrev pub atomic_type_of_kind : Kind → ℕ
-atomic_type_of_kind Read = 0
-atomic_type_of_kind Write = 0
-atomic_type_of_kind Posted = 0
-atomic_type_of_kind (Atomic type) = type
+-- which atomic it is; nothing else has one
+abbrev pub atomic_of_kind : Kind → Option AtomicOp
+atomic_of_kind Read = None
+atomic_of_kind Write = None
+atomic_of_kind Posted = None
+atomic_of_kind (Atomic atomic) = Some atomic
 
 -- where the answers to transaction i of the host with that id go: each has 2,048 bytes of its own, the most that one speaks of
 abbrev pub reply_address : ℕ → ℕ → ℕ
@@ -32,7 +33,7 @@ reply_address id i = id * 2 ^ 40 + i * 2 ^ 11
 abbrev pub request_message : ℕ → ℕ → ℕ → ℕ → Txn → Message
 request_message id qos prot i t = record {
   op = request_of t.kind;
-  atomic = atomic_type_of_kind t.kind;
+  atomic = atomic_of_kind t.kind;
   size = t.size;
   host = id;
   dst = t.addr;
@@ -64,12 +65,14 @@ abbrev pub HasBody : Kind → ℕ → List ℕ → Type 0
 HasBody Read span body = body ≡ []
 HasBody Write span body = length body ≡ span
 HasBody Posted span body = length body ≡ span
-HasBody (Atomic type) span body = length body ≡ span
+HasBody (Atomic atomic) span body = length body ≡ span
 
--- an atomic is one word, of a type that there is
+-- an atomic is one word
 abbrev pub IsOneWordIfAtomic : Kind → ℕ → Type 0
-IsOneWordIfAtomic (Atomic type) count = (type ≤ 8) × (count ≡ 1)
-IsOneWordIfAtomic _ count = Unit {0}
+IsOneWordIfAtomic (Atomic atomic) count = count ≡ 1
+IsOneWordIfAtomic Read count = Unit {0}
+IsOneWordIfAtomic Write count = Unit {0}
+IsOneWordIfAtomic Posted count = Unit {0}
 
 -- What a line of a script can ask for.
 pub record IsTransaction (t : Txn) : Type 0 where

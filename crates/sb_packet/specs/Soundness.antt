@@ -1,5 +1,5 @@
 -- What links may carry: messages that are sound, whole and narrow. This project's own.
-use Rattle.std.specs.Prelude.{ℕ, ◌≡◌, ◌≢◌, ◌≤◌, ◌<◌, ◌+◌, ◌*◌, ◌%◌, ◌^◌, true, false, length, if◌then◌else◌}
+use Rattle.std.specs.Prelude.{ℕ, ◌≡◌, ◌≢◌, ◌≤◌, ◌<◌, ◌+◌, ◌*◌, ◌%◌, ◌^◌, true, false, None, length, if◌then◌else◌}
 use Rattle.sb_packet.specs.Spans.{carried_by}
 use Rattle.sb_packet.specs.Messages.{Message, message_span}
 use Rattle.sb_packet.specs.Cuts.{is_atomic}
@@ -32,9 +32,9 @@ pub record IsWhole (m : Message) : Type 0 where
   pub size : m.size ≤ 3
   -- it carries as many bytes as its opcode carries of what it speaks of
   pub carried : length m.bytes ≡ carried_by m.op (message_span m)
-  -- an atomic has one word, and nothing else has an atomic's type
+  -- an atomic has one word, and nothing else is one of the atomics
   pub single : is_atomic m.op ≡ true → m.count ≡ 1
-  pub plain : is_atomic m.op ≡ false → m.atomic ≡ 0
+  pub plain : is_atomic m.op ≡ false → m.atomic ≡ None
 
 -- What a link of that width may carry.
 pub record IsFine (width : ℕ) (m : Message) : Type 0 where

@@ -30,7 +30,7 @@ pub use packet::Packet;
 pub use padding::padded;
 pub use path::Path;
 pub use request::{packet_of, packets};
-pub use sb_word::{Cmd, Op, WordFault};
+pub use sb_word::{AtomicOp, Cmd, Op, WordFault};
 pub use script::Script;
 pub use sizes::{ADDRESS_END, BODY_BYTES, PAGE_BYTES};
 pub use slot::{from_slot, to_slot};

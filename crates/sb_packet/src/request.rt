@@ -3,9 +3,9 @@
 ghost use Rattle.std.specs.Prelude.{◌≡◌, ◌≤◌, ◌<◌, ◌+◌, ◌-◌, ◌*◌, ◌/◌, ◌%◌, ◌^◌, ℕ, Some, false, drop, length, slice_get, take};
 ghost use Rattle.sb_word.specs.declared.command.Op.TheVariants.{ReqAtomic};
 ghost use Rattle.sb_packet.specs.Spans.{carried_by, carried_of, span_of, word_count_by, word_count_of};
-ghost use Rattle.sb_packet.specs.Messages.{atomic_type_of, message_of};
+ghost use Rattle.sb_packet.specs.Messages.{atomic_of, message_of};
 ghost use Rattle.sb_packet.specs.Cuts.{cut_parts, part_of};
-ghost use Rattle.sb_packet.specs.Scripts.{atomic_type_of_kind, reply_address, request_message, request_of, IsOneWordIfAtomic, IsTransaction};
+ghost use Rattle.sb_packet.specs.Scripts.{atomic_of_kind, reply_address, request_message, request_of, IsOneWordIfAtomic, IsTransaction};
 
 use crate::packet::Packet;
 use crate::padding::padded;
@@ -144,18 +144,18 @@ fn opcode(kind: Kind) -> Op
     }
 }
 
-/// The `len` of so many words of a transaction: an atomic has its type there.
+/// The `len` of so many words of a transaction: an atomic has its number there.
 fn len(kind: Kind, count: u32) -> u8
     requires some { 0 < count }
     requires few { count ≤ 256 }
     requires atomic { IsOneWordIfAtomic kind count }
     ensures words { word_count_by (request_of kind) result ≡ count }
-    ensures atomic { atomic_type_of (request_of kind) result ≡ atomic_type_of_kind kind }
+    ensures atomic { atomic_of (request_of kind) result ≡ atomic_of_kind kind }
     ensures type_fits { request_of kind ≡ ReqAtomic → result ≤ 8 }
 {
     match kind {
-        Kind::Atomic(atomic) => atomic,
-        _ => (count - 1) as u8,
+        Kind::Atomic(atomic) => atomic.number(),
+        Kind::Read | Kind::Write | Kind::Posted => (count - 1) as u8,
     }
 }
 
@@ -170,7 +170,7 @@ fn command(id: u8, qos: u8, prot: u8, txn: &Txn, count: u32, last: bool) -> Cmd
     requires atomic { IsOneWordIfAtomic txn.now.kind count }
     ensures op { result.op ≡ request_of txn.now.kind }
     ensures words { word_count_of result ≡ count }
-    ensures atomic { atomic_type_of result.op result.len ≡ atomic_type_of_kind txn.now.kind }
+    ensures atomic { atomic_of result.op result.len ≡ atomic_of_kind txn.now.kind }
     ensures size { result.size ≡ txn.now.size }
     ensures qos { result.qos ≡ qos }
     ensures prot { result.prot ≡ prot }
@@ -220,6 +220,7 @@ fn request(cmd: Cmd, dst: u64, src: u64, bytes: &[u8]) -> Packet
 mod tests {
     use super::*;
     use crate::bytes::Bytes;
+    use sb_word::AtomicOp;
     use std::alloc::{AllocError, Global};
     use std::test::Fail;
 
@@ -265,7 +266,7 @@ mod tests {
         assert_eq!(rt; shapes(alloc, &read)?.as_slice(), two.as_slice());
 
         let swap = Txn {
-            kind: Kind::Atomic(8),
+            kind: Kind::Atomic(AtomicOp::Swap),
             size: 2,
             addr: 0x1004,
             count: 1,

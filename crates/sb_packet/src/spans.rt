@@ -23,7 +23,7 @@ pub fn word_count(cmd: &Cmd) -> u32
 {
     match cmd.op {
         Op::ReqAtomic => 1,
-        _ => u32::from(cmd.len) + 1,
+        Op::ReqRd | Op::ReqWr | Op::ReqWrPosted | Op::RespRd | Op::RespWr => u32::from(cmd.len) + 1,
     }
 }
 
@@ -41,7 +41,7 @@ pub fn carried_span(cmd: &Cmd) -> u32
 {
     match cmd.op {
         Op::ReqRd | Op::RespWr => 0,
-        _ => span(cmd),
+        Op::ReqWr | Op::ReqWrPosted | Op::ReqAtomic | Op::RespRd => span(cmd),
     }
 }
 

@@ -1,6 +1,11 @@
 //! What a script asks for, and what comes of it.
 
+ghost use Rattle.std.specs.Prelude.{◌≡◌, ◌≤◌};
+ghost use Rattle.sb_packet.specs.Codes.{code_number};
+ghost use Rattle.sb_packet.specs.Outcomes.{code_numbered};
+
 use crate::bytes::Bytes;
+use sb_word::AtomicOp;
 
 /// What a transaction does at a device.
 #[derive(Clone, Copy, Debug, PartialEq, Eq)]
@@ -9,9 +14,8 @@ pub enum Kind {
     Write,
     /// A write that nobody answers.
     Posted,
-    /// A change of one word. Its type is 0 ADD, 1 AND, 2 OR, 3 XOR, 4 MAX and 5 MIN in two's complement, 6 MAXU and
-    /// 7 MINU without sign, or 8 SWAP.
-    Atomic(u8),
+    /// A change of one word.
+    Atomic(AtomicOp),
 }
 
 /// One line of a script.
@@ -38,6 +42,34 @@ pub enum Code {
     DevErr,
     /// No device has the address.
     NetErr,
+}
+
+impl Code {
+    /// Its number in the `tail` of an answer, 0 to 3.
+    pub fn number(self) -> u8
+        ensures number { result ≡ code_number self }
+        ensures few { result ≤ 3 }
+        ensures back { code_numbered result ≡ self }
+    {
+        match self {
+            Code::Ok => 0,
+            Code::ExOk => 1,
+            Code::DevErr => 2,
+            Code::NetErr => 3,
+        }
+    }
+
+    /// The code with a number, 0 to 3.
+    pub fn numbered(number: u8) -> Code
+        ensures { result ≡ code_numbered number }
+    {
+        match number {
+            0 => Code::Ok,
+            1 => Code::ExOk,
+            2 => Code::DevErr,
+            _ => Code::NetErr,
+        }
+    }
 }
 
 /// How far a transaction has come.

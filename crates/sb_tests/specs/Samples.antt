@@ -1,6 +1,7 @@
 -- The network that the tests run: one host, one router and one device.
 use Rattle.std.specs.Prelude.{ℕ, List, [], ◌∷◌, false, Some, None}
 use Rattle.std.specs.List.{range_with_len}
+use Rattle.sb_word.specs.declared.atomic.AtomicOp.TheVariants.{Add}
 use Rattle.sb_packet.specs.Networks.{NetDevice, NetHost, NetLink, NetRouter, Network, at_device, at_host, at_router}
 use Rattle.sb_packet.specs.declared.transaction.Kind.TheVariants.{Atomic, Posted, Read, Write}
 use Rattle.sb_packet.specs.declared.transaction.Txn.{Txn}
@@ -14,7 +15,7 @@ abbrev pub sample_script : List Txn
 sample_script = record { kind = Write; size = 2; addr = 4160; count = 10; body = forty_bytes }
     ∷ record { kind = Read; size = 2; addr = 4160; count = 10; body = [] }
     ∷ record { kind = Posted; size = 0; addr = 8191; count = 1; body = 9 ∷ [] }
-    ∷ record { kind = Atomic 0; size = 2; addr = 4160; count = 1; body = 255 ∷ 0 ∷ 0 ∷ 0 ∷ [] }
+    ∷ record { kind = Atomic Add; size = 2; addr = 4160; count = 1; body = 255 ∷ 0 ∷ 0 ∷ 0 ∷ [] }
     ∷ record { kind = Read; size = 3; addr = 12288; count = 2; body = [] }
     ∷ record { kind = Read; size = 2; addr = 4160; count = 1; body = [] }
     ∷ record { kind = Read; size = 0; addr = 8191; count = 1; body = [] }

@@ -6,7 +6,7 @@ ghost use Rattle.sb_flow.specs.Rows.{device_of, host_of, link_of, router_of};
 ghost use Rattle.sb_tests.specs.Samples.{far_link, forty_bytes, near_link, sample, sample_device, sample_host, sample_router, sample_script};
 
 use sb_flow::{Bundle, DevicePlan, HostPlan, LinkRow, Place, RouterPlan};
-use sb_packet::{Bytes, Kind, Name, Script, Txn};
+use sb_packet::{AtomicOp, Bytes, Kind, Name, Script, Txn};
 use std::alloc::{AllocError, Global};
 use std::test::Fail;
 
@@ -70,7 +70,7 @@ fn script(alloc: Global) -> Result<Script, AllocError>
     let write = txn(alloc, Kind::Write, 2, PAGE + 64, 10, &forty)?;
     let read_back = txn(alloc, Kind::Read, 2, PAGE + 64, 10, &[])?;
     let post = txn(alloc, Kind::Posted, 0, PAGE + 4095, 1, &[9])?;
-    let add = txn(alloc, Kind::Atomic(0), 2, PAGE + 64, 1, &[255, 0, 0, 0])?;
+    let add = txn(alloc, Kind::Atomic(AtomicOp::Add), 2, PAGE + 64, 1, &[255, 0, 0, 0])?;
     let stray = txn(alloc, Kind::Read, 3, 3 * PAGE, 2, &[])?;
     let changed = txn(alloc, Kind::Read, 2, PAGE + 64, 1, &[])?;
     let posted = txn(alloc, Kind::Read, 0, PAGE + 4095, 1, &[])?;

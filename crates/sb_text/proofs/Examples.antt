@@ -2,6 +2,7 @@
 use Rattle.std.proofs.Common.{◌≡◌, ◌∷◌, [], ◌++◌, refl, Some, None, Ok, Err}
 use Rattle.std.specs.Prelude.{codes}
 use Rattle.hex.specs.Hex.{decode_pairs}
+use Rattle.sb_word.specs.declared.atomic.AtomicOp.TheVariants.{Swap}
 use Rattle.sb_packet.specs.declared.transaction.Kind.TheVariants.{Read, Write, Posted, Atomic}
 use Rattle.sb_text.specs.Numerals.{numeral_of}
 use Rattle.sb_text.specs.Lines.{lines_of, words_of}
@@ -74,7 +75,7 @@ posted : line_of (codes "wp 4090 1 aB01Ff02") ≡ Ok (Some (record { kind = Post
 unfolding decode_pairs
 posted = refl
 
-atomic : line_of (codes "swap 0x8 0 7f") ≡ Ok (Some (record { kind = Atomic 8; size = 0; addr = 8; count = 1; body = 127 ∷ [] }))
+atomic : line_of (codes "swap 0x8 0 7f") ≡ Ok (Some (record { kind = Atomic Swap; size = 0; addr = 8; count = 1; body = 127 ∷ [] }))
 unfolding decode_pairs
 atomic = refl
 

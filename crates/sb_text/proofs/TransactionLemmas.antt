@@ -16,4 +16,4 @@ pub has_body : (kind : Kind) (size told : ℕ) (last body : List ℕ) (count : �
 has_body Read size told last body count brought counted = cc
 has_body Write size told last body count brought counted = whole size body count counted
 has_body Posted size told last body count brought counted = whole size body count counted
-has_body (Atomic type) size told last body count brought counted = whole size body count counted
+has_body (Atomic atomic) size told last body count brought counted = whole size body count counted

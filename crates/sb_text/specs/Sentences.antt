@@ -2,6 +2,7 @@
 use Rattle.std.specs.Prelude.{ℕ, Bool, false, List, [], ◌∷◌, take, codes, bytes_eq, Option, Some, None, option_map, Result, Ok, Err, if◌then◌else◌}
 use Rattle.std.specs.List.{find}
 use Rattle.std.specs.Str.Lines.{strip_carriage_return}
+use Rattle.sb_word.specs.declared.atomic.AtomicOp.TheVariants as atomics
 use Rattle.sb_packet.specs.declared.transaction.Kind.{Kind}
 use Rattle.sb_packet.specs.declared.transaction.Kind.TheVariants.{Read, Write, Posted, Atomic}
 use Rattle.sb_packet.specs.declared.transaction.Txn.{Txn}
@@ -15,9 +16,9 @@ use Rattle.sb_text.specs.declared.line_fault.LineFault.TheVariants as faults
 abbrev pub verbs : List (List ℕ × Kind)
 verbs =
     (codes "rd", Read) ∷ (codes "wr", Write) ∷ (codes "wp", Posted)
-    ∷ (codes "add", Atomic 0) ∷ (codes "and", Atomic 1) ∷ (codes "or", Atomic 2) ∷ (codes "xor", Atomic 3)
-    ∷ (codes "max", Atomic 4) ∷ (codes "min", Atomic 5) ∷ (codes "maxu", Atomic 6) ∷ (codes "minu", Atomic 7)
-    ∷ (codes "swap", Atomic 8) ∷ []
+    ∷ (codes "add", Atomic atomics.Add) ∷ (codes "and", Atomic atomics.And) ∷ (codes "or", Atomic atomics.Or) ∷ (codes "xor", Atomic atomics.Xor)
+    ∷ (codes "max", Atomic atomics.Max) ∷ (codes "min", Atomic atomics.Min) ∷ (codes "maxu", Atomic atomics.MaxU) ∷ (codes "minu", Atomic atomics.MinU)
+    ∷ (codes "swap", Atomic atomics.Swap) ∷ []
 
 -- what a verb asks for, where the word is one
 abbrev pub kind_of : List ℕ → Option Kind

@@ -2,7 +2,7 @@
 
 ghost use Rattle.std.specs.Prelude.{◌≡◌, ◌⊎◌, IfOk, IfErr, IfSome};
 ghost use Rattle.std.specs.Str.Lines.{strip_carriage_return};
-ghost use Rattle.sb_packet.specs.Scripts.{IsOneWordIfAtomic, IsTransaction};
+ghost use Rattle.sb_packet.specs.Scripts.{IsTransaction};
 ghost use Rattle.sb_text.specs.Lines.{words_of};
 ghost use Rattle.sb_text.specs.Sentences.{arguments_of, line_of, sentence_of};
 ghost use Rattle.sb_text.specs.declared.line_fault.LineFault.TheVariants as faults;
@@ -16,7 +16,6 @@ use std::alloc::Global;
 
 /// A transaction from the words behind its verb, which are to be three.
 fn arguments(alloc: Global, kind: Kind, mut words: Words) -> Result<Txn, LineFault>
-    requires { IsOneWordIfAtomic kind 1 }
     ensures transaction { IfOk result IsTransaction }
     ensures value { IfOk result (λ txn. arguments_of kind (words_of words.entry.rest.now) ≡ Ok txn) }
     ensures first_fault { IfErr result (λ fault. (fault ≡ faults.Memory) ⊎ (arguments_of kind (words_of words.entry.rest.now) ≡ Err fault)) }

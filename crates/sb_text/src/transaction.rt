@@ -1,8 +1,8 @@
 //! One transaction, from its words.
 
 ghost use Rattle.std.specs.Prelude.{◌≡◌, ◌⊎◌, ◌≤◌, ◌*◌, ◌^◌, IfOk, IfErr};
-ghost use Rattle.sb_packet.specs.Scripts.{HasBody, IsOneWordIfAtomic, IsTransaction};
-ghost use Rattle.sb_text.specs.Transactions.{body_of, count_of, most_words as most_words_of, placed as placed_by, told_count as told_by, transaction_of};
+ghost use Rattle.sb_packet.specs.Scripts.{HasBody, IsTransaction};
+ghost use Rattle.sb_text.specs.Transactions.{body_of, count_of, most_words as most_words_of, placed as placed_by, told_count as told_by, transaction_of, whole_words as words_filled};
 ghost use Rattle.sb_text.specs.declared.line_fault.LineFault.TheVariants as faults;
 
 use crate::body::decoded;
@@ -17,7 +17,7 @@ fn told_count(kind: Kind, last: &[u8]) -> Option<u64>
 {
     match kind {
         Kind::Read => numeral(last),
-        _ => Some(0),
+        Kind::Write | Kind::Posted | Kind::Atomic(_) => Some(0),
     }
 }
 
@@ -26,10 +26,10 @@ fn body(alloc: Global, kind: Kind, last: &[u8]) -> Result<Bytes, LineFault>
     ensures ok { IfOk result (λ body. body_of kind last.now ≡ Ok body) }
     ensures err { IfErr result (λ fault. (fault ≡ faults.Memory) ⊎ (body_of kind last.now ≡ Err fault)) }
 {
-    if kind == Kind::Read {
-        return Ok(Bytes::new(Vec::new(alloc)));
+    match kind {
+        Kind::Read => Ok(Bytes::new(Vec::new(alloc))),
+        Kind::Write | Kind::Posted | Kind::Atomic(_) => Ok(Bytes::new(decoded(alloc, last)?)),
     }
-    Ok(Bytes::new(decoded(alloc, last)?))
 }
 
 /// How many words a transaction speaks of; None where its bytes are no whole words.
@@ -37,9 +37,17 @@ fn count(kind: Kind, size: u8, told: u64, body: &[u8]) -> Option<u64>
     requires { size ≤ 3 }
     ensures { result ≡ count_of kind size told body.now }
 {
-    if kind == Kind::Read {
-        return Some(told);
+    match kind {
+        Kind::Read => Some(told),
+        Kind::Write | Kind::Posted | Kind::Atomic(_) => whole_words(size, body),
     }
+}
+
+/// How many words bytes fill; None where they don't fill them.
+fn whole_words(size: u8, body: &[u8]) -> Option<u64>
+    requires { size ≤ 3 }
+    ensures { result ≡ words_filled size body.now }
+{
     let word = 1usize << size;
     if body.len() % word == 0 {
         Some((body.len() / word) as u64)
@@ -53,7 +61,7 @@ fn most_words(kind: Kind) -> u64
 {
     match kind {
         Kind::Atomic(_) => 1,
-        _ => 256,
+        Kind::Read | Kind::Write | Kind::Posted => 256,
     }
 }
 
@@ -61,7 +69,6 @@ fn most_words(kind: Kind) -> u64
 #[inline(always)]
 fn placed(kind: Kind, addr: u64, size: u8, count: u64, body: Bytes) -> Result<Txn, LineFault>
     requires size { size ≤ 3 }
-    requires kind { IsOneWordIfAtomic kind 1 }
     requires body { HasBody kind (count * 2 ^ size) body }
     ensures value { result ≡ placed_by kind addr size count body }
     ensures transaction { IfOk result IsTransaction }
@@ -96,7 +103,6 @@ pub fn transaction(
     size: &[u8],
     last: &[u8],
 ) -> Result<Txn, LineFault>
-    requires { IsOneWordIfAtomic kind 1 }
     ensures transaction { IfOk result IsTransaction }
     ensures value { IfOk result (λ txn. transaction_of kind addr.now size.now last.now ≡ Ok txn) }
     ensures first_fault { IfErr result (λ fault. (fault ≡ faults.Memory) ⊎ (transaction_of kind addr.now size.now last.now ≡ Err fault)) }

@@ -91,4 +91,4 @@ outcome_is m i t kinds.Write is body code has comes = rw (has, comes) refl
 outcome_is m i t kinds.Posted is body code has comes =
     let op : request_of t.kind ≡ ReqWrPosted = ap request_of is in
     rw (has ∙ ap answer_body (posted_from m (access_at (transaction_message (solo_host []) i t)) (λ j. op) 0 t.count)) refl
-outcome_is m i t (kinds.Atomic type) is body code has comes = rw (has, comes) refl
+outcome_is m i t (kinds.Atomic atomic) is body code has comes = rw (has, comes) refl

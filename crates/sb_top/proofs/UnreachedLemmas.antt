@@ -12,6 +12,7 @@ use Rattle.sb_packet.specs.Answers.{unreached_by, answer_code, answer_body}
 use Rattle.sb_packet.specs.Scripts.{request_of, transaction_message, transaction_accesses}
 use Rattle.sb_packet.specs.Outcomes.{code_numbered, outcome_of}
 use Rattle.sb_packet.specs.Solo.{solo_host}
+use Rattle.sb_packet.specs.declared.transaction.Code.TheVariants.{NetErr}
 use Rattle.sb_packet.specs.declared.transaction.Kind.{Kind}
 use Rattle.sb_packet.specs.declared.transaction.Kind.TheVariants as kinds
 use Rattle.sb_packet.specs.declared.transaction.Txn.{Txn}
@@ -50,11 +51,11 @@ zero_bytes s g zeros a (suc k) =
     rw (zeros a, zero_bytes s g zeros (a + 1) k, split) (replicate-append-replicate s (k * s) 0)
 
 -- requests of an opcode whose answer brings zeros
-zeros_for : (op : Op) (m : Message) → ((a : Access) → unreached_by op a ≡ Some (reply a RespRd 3 (replicate (2 ^ a.size) 0))) → m.op ≡ op → (n : ℕ) → 0 < n
+zeros_for : (op : Op) (m : Message) → ((a : Access) → unreached_by op a ≡ Some (reply a RespRd NetErr (replicate (2 ^ a.size) 0))) → m.op ≡ op → (n : ℕ) → 0 < n
     → (answer_code (unreached (map (access_at m) (range_with_len 0 n))) ≡ 3) × (answer_body (unreached (map (access_at m) (range_with_len 0 n))) ≡ replicate (n * 2 ^ m.size) 0)
 zeros_for op m gives is zero none = absurd (omega arith)
 zeros_for op m gives is (suc k) some =
-    let g : ℕ → Access = λ j. reply (access_at m j) RespRd 3 (replicate (2 ^ m.size) 0) in
+    let g : ℕ → Access = λ j. reply (access_at m j) RespRd NetErr (replicate (2 ^ m.size) 0) in
     let made : unreached (map (access_at m) (range_with_len 0 (suc k))) ≡ map g (range_with_len 0 (suc k)) = answers_made (access_at m) g (λ j. ap (λ (o : Op). unreached_by o (access_at m j)) is ∙ gives (access_at m j)) 0 (suc k) in
     (ap answer_code made ∙ code_of_all 3 g (λ j. refl) 0 k, ap answer_body made ∙ zero_bytes (2 ^ m.size) g (λ j. refl) 0 (suc k))
 
@@ -63,7 +64,7 @@ nothing_for : (m : Message) → m.op ≡ ReqWr → (n : ℕ) → 0 < n
     → (answer_code (unreached (map (access_at m) (range_with_len 0 n))) ≡ 3) × (answer_body (unreached (map (access_at m) (range_with_len 0 n))) ≡ [])
 nothing_for m is zero none = absurd (omega arith)
 nothing_for m is (suc k) some =
-    let g : ℕ → Access = λ j. reply (access_at m j) RespWr 3 [] in
+    let g : ℕ → Access = λ j. reply (access_at m j) RespWr NetErr [] in
     let made : unreached (map (access_at m) (range_with_len 0 (suc k))) ≡ map g (range_with_len 0 (suc k)) = answers_made (access_at m) g (λ j. ap (λ (o : Op). unreached_by o (access_at m j)) is) 0 (suc k) in
     (ap answer_code made ∙ code_of_all 3 g (λ j. refl) 0 k, ap answer_body made ∙ no_bytes g (λ j. refl) 0 (suc k))
 
@@ -79,6 +80,6 @@ outcome_of_lost i t some kinds.Write is =
     let m = transaction_message (solo_host []) i t in
     outcome_alike (unreached (message_accesses m)) 3 _ (nothing_for m (ap request_of is) t.count some)
 outcome_of_lost i t some kinds.Posted is = refl
-outcome_of_lost i t some (kinds.Atomic type) is =
+outcome_of_lost i t some (kinds.Atomic atomic) is =
     let m = transaction_message (solo_host []) i t in
     outcome_alike (unreached (message_accesses m)) 3 _ (zeros_for ReqAtomic m (λ a. refl) (ap request_of is) t.count some)

@@ -51,11 +51,11 @@ abbrev pub state_by : Kind → ℕ → TxnState
 state_by kinds.Read code = Answered (code_numbered code)
 state_by kinds.Write code = Answered (code_numbered code)
 state_by kinds.Posted code = Posted
-state_by (kinds.Atomic type) code = Answered (code_numbered code)
+state_by (kinds.Atomic atomic) code = Answered (code_numbered code)
 
 -- what becomes of a transaction at no device, by what it asks for and how many bytes it speaks of
 abbrev pub lost_outcome : Kind → ℕ → Outcome
 lost_outcome kinds.Read span = record { state = Answered NetErr; body = replicate span 0 }
 lost_outcome kinds.Write span = record { state = Answered NetErr; body = [] }
 lost_outcome kinds.Posted span = record { state = Posted; body = [] }
-lost_outcome (kinds.Atomic type) span = record { state = Answered NetErr; body = replicate span 0 }
+lost_outcome (kinds.Atomic atomic) span = record { state = Answered NetErr; body = replicate span 0 }

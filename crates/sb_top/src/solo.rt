@@ -8,7 +8,7 @@ ghost use Rattle.sb_packet.specs.Cuts.{transaction_packets};
 ghost use Rattle.sb_packet.specs.Journals.{is_request};
 ghost use Rattle.sb_packet.specs.Memories.{memory_after};
 ghost use Rattle.sb_packet.specs.Networks.{has_address};
-ghost use Rattle.sb_packet.specs.Outcomes.{code_numbered, outcome_of};
+ghost use Rattle.sb_packet.specs.Outcomes.{outcome_of};
 ghost use Rattle.sb_packet.specs.Scripts.{transaction_accesses, IsTransaction};
 ghost use Rattle.sb_packet.specs.Solo.{IsSoloJournal, aimed_packets, solo_device, solo_host};
 ghost use Rattle.sb_packet.specs.SoloRuns.{solo_answers, solo_memory_from, solo_opening, solo_outcomes_from, solo_step};
@@ -101,24 +101,13 @@ fn lose(outcomes: &mut Outcomes, txn: &Txn)
     }
 }
 
-fn code_of(number: u8) -> Code
-    ensures { result ≡ code_numbered number }
-{
-    match number {
-        0 => Code::Ok,
-        1 => Code::ExOk,
-        2 => Code::DevErr,
-        _ => Code::NetErr,
-    }
-}
-
 fn state_of(kind: Kind, code: u8) -> TxnState
     ensures { result ≡ state_by kind code }
 {
     match kind {
         Kind::Posted => TxnState::Posted,
         Kind::Read | Kind::Write | Kind::Atomic(_) => TxnState::Answered {
-            code: code_of(code),
+            code: Code::numbered(code),
         },
     }
 }

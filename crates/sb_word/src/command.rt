@@ -26,7 +26,7 @@ pub struct Cmd {
     pub op: Op,
     /// A word has `2^size` bytes; `size` is 0 to 3.
     pub size: u8,
-    /// One less than the number of words, or the type of an atomic, which is 0 to 8.
+    /// One less than the number of words, or the number of an atomic, which is 0 to 8.
     pub len: u8,
     /// Quality of service, 0 to 15: carried unchanged.
     pub qos: u8,

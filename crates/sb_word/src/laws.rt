@@ -1,7 +1,9 @@
 //! Laws of command words, for all numbers: they do nothing when they run.
 
-ghost use Rattle.std.specs.Prelude.{◌≡◌, ◌<◌, ◌^◌, ℕ, None};
+ghost use Rattle.std.specs.Prelude.{◌≡◌, ◌<◌, ◌^◌, ℕ, None, Some, length};
+ghost use Rattle.sb_word.specs.declared.atomic.AtomicOp.{AtomicOp};
 ghost use Rattle.sb_word.specs.declared.command.Cmd.{Cmd};
+ghost use Rattle.sb_word.specs.Atomics.{all_atomics, atomic_number, atomic_numbered};
 ghost use Rattle.sb_word.specs.Faults.{word_fault};
 ghost use Rattle.sb_word.specs.Words.{word_of, IsWordOf};
 
@@ -11,4 +13,10 @@ pub fn words_are_exact()
     ensures one_word { (w : ℕ) (c : Cmd) → IsWordOf w c → w ≡ word_of c }
     ensures one_command { (w : ℕ) (c d : Cmd) → IsWordOf w c → IsWordOf w d → c ≡ d }
     ensures faultless { (w : ℕ) (c : Cmd) → IsWordOf w c → word_fault w ≡ None }
+{}
+
+/// Each atomic has a number of its own, and no other numbers are an atomic's than 0 to 8.
+pub fn atomics_are_numbered()
+    ensures numbered { (a : AtomicOp) → atomic_numbered (atomic_number a) ≡ Some a }
+    ensures all { length all_atomics ≡ 9 }
 {}

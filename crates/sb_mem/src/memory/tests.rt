@@ -5,7 +5,7 @@ ghost use Rattle.sb_packet.specs.Spans.{carried_of, span_of};
 ghost use Rattle.sb_packet.specs.Journals.{is_request};
 
 use super::Memory;
-use sb_packet::{Cmd, Kind, Op, Packet, padded};
+use sb_packet::{AtomicOp, Cmd, Kind, Op, Packet, padded};
 use std::alloc::{AllocError, Global};
 use std::test::Fail;
 
@@ -66,7 +66,13 @@ fn request(kind: Kind, size: u8, address: u64, operand: u64) -> Packet
         Kind::Read => packet(command(Op::ReqRd, 0, size), address, &[]),
         Kind::Write => packet(command(Op::ReqWr, 0, size), address, bytes),
         Kind::Posted => packet(command(Op::ReqWrPosted, 0, size), address, bytes),
-        Kind::Atomic(number) => packet(command(Op::ReqAtomic, number.min(8), size), address, bytes),
+        Kind::Atomic(atomic) => {
+            packet(
+                command(Op::ReqAtomic, atomic.number(), size),
+                address,
+                bytes,
+            )
+        }
     }
 }
 
@@ -105,7 +111,14 @@ fn bytes_are_answered_and_left(rt: HostRuntime) -> Result<(), Fail> {
         (true, 7, Kind::Read, 0, Some((Op::RespRd, 0, 0, 7)), 7),
         (true, 7, Kind::Write, 9, Some((Op::RespWr, 2, 0, 0)), 7),
         (true, 7, Kind::Posted, 9, None, 7),
-        (true, 7, Kind::Atomic(8), 9, Some((Op::RespRd, 2, 0, 0)), 7),
+        (
+            true,
+            7,
+            Kind::Atomic(AtomicOp::Swap),
+            9,
+            Some((Op::RespRd, 2, 0, 0)),
+            7,
+        ),
         (false, 7, Kind::Read, 0, Some((Op::RespRd, 0, 0, 7)), 7),
         (false, 7, Kind::Write, 9, Some((Op::RespWr, 0, 0, 0)), 9),
         (false, 7, Kind::Posted, 9, None, 9),
@@ -113,7 +126,7 @@ fn bytes_are_answered_and_left(rt: HostRuntime) -> Result<(), Fail> {
         (
             false,
             0x7f,
-            Kind::Atomic(4),
+            Kind::Atomic(AtomicOp::Max),
             0x80,
             Some((Op::RespRd, 0, 0, 0x7f)),
             0x7f,
@@ -121,7 +134,7 @@ fn bytes_are_answered_and_left(rt: HostRuntime) -> Result<(), Fail> {
         (
             false,
             0x7f,
-            Kind::Atomic(6),
+            Kind::Atomic(AtomicOp::MaxU),
             0x80,
             Some((Op::RespRd, 0, 0, 0x7f)),
             0x80,
@@ -130,7 +143,7 @@ fn bytes_are_answered_and_left(rt: HostRuntime) -> Result<(), Fail> {
         (
             false,
             1,
-            Kind::Atomic(0),
+            Kind::Atomic(AtomicOp::Add),
             0xff,
             Some((Op::RespRd, 0, 0, 1)),
             0,
@@ -150,7 +163,7 @@ fn bytes_are_answered_and_left(rt: HostRuntime) -> Result<(), Fail> {
 /// What an atomic answers, and what it leaves, of a word that was written.
 fn step_word(
     alloc: Global,
-    kind: u8,
+    atomic: AtomicOp,
     size: u8,
     old: u64,
     operand: u64,
@@ -159,7 +172,7 @@ fn step_word(
 {
     let mut memory = Memory::new(alloc, BASE, 1, false, &[])?;
     let _ = memory.step(&request(Kind::Write, size, BASE, old));
-    let answer = memory.step(&request(Kind::Atomic(kind), size, BASE, operand));
+    let answer = memory.step(&request(Kind::Atomic(atomic), size, BASE, operand));
     let left = memory.step(&request(Kind::Read, size, BASE, 0));
     Ok((word_of(answer), word_of(left)))
 }
@@ -207,21 +220,21 @@ fn signed(bits: u32, a: u64) -> i128
 }
 
 /// What an atomic has to leave, in whole numbers.
-fn expected(kind: u8, bits: u32, a: u64, b: u64) -> u64
+fn expected(atomic: AtomicOp, bits: u32, a: u64, b: u64) -> u64
     requires small { bits ≤ 64 }
     requires some { 1 ≤ bits }
 {
     let a_is_more = signed(bits, a) > signed(bits, b);
-    match kind {
-        0 => ((u128::from(a) + u128::from(b)) % (1_u128 << bits)) as u64,
-        1 => bit_by_bit(a, b, [false, false, true]),
-        2 => bit_by_bit(a, b, [false, true, true]),
-        3 => bit_by_bit(a, b, [false, true, false]),
-        4 => if a_is_more { a } else { b },
-        5 => if a_is_more { b } else { a },
-        6 => if a > b { a } else { b },
-        7 => if a > b { b } else { a },
-        _ => b,
+    match atomic {
+        AtomicOp::Add => ((u128::from(a) + u128::from(b)) % (1_u128 << bits)) as u64,
+        AtomicOp::And => bit_by_bit(a, b, [false, false, true]),
+        AtomicOp::Or => bit_by_bit(a, b, [false, true, true]),
+        AtomicOp::Xor => bit_by_bit(a, b, [false, true, false]),
+        AtomicOp::Max => if a_is_more { a } else { b },
+        AtomicOp::Min => if a_is_more { b } else { a },
+        AtomicOp::MaxU => if a > b { a } else { b },
+        AtomicOp::MinU => if a > b { b } else { a },
+        AtomicOp::Swap => b,
     }
 }
 
@@ -236,15 +249,16 @@ fn atomics_do_as_their_types_say(rt: HostRuntime) -> Result<(), Fail> {
     for (size, bits, greatest, sign) in sizes {
         assert!(rt; size <= 3 && bits <= 64 && bits >= 1 && sign >= 1);
         let words = [0, 1, greatest, sign, sign - 1];
-        for kind in 0..9 {
+        for number in 0..9 {
+            let atomic = AtomicOp::numbered(number);
             for old in words {
                 for operand in words {
-                    let found = step_word(rt.alloc(), kind, size, old, operand)?;
-                    let left = expected(kind, bits, old, operand);
+                    let found = step_word(rt.alloc(), atomic, size, old, operand)?;
+                    let left = expected(atomic, bits, old, operand);
                     assert_eq!(rt;
                         found,
                         (old, left),
-                        "type {kind}, size {size}: {old}, {operand}"
+                        "{atomic:?}, size {size}: {old}, {operand}"
                     );
                 }
             }

@@ -2,6 +2,7 @@
 use Rattle.std.proofs.Common.{◌≡◌, ◌≤◌, ◌^◌, ◌∙◌, ap, sym, arith, ℕ, List, take, replicate}
 use Rattle.std.specs.Prelude.{if◌then◌else◌}
 use Rattle.std.proofs.lemmas.List.{drop-replicate, take-replicate, length-take}
+use Rattle.sb_packet.specs.Codes.{code_number}
 use Rattle.sb_packet.specs.Memories.{MemoryState, loaded, stored, write_code, combined_bytes}
 use Rattle.sb_packet.specs.Messages.{message_of}
 use Rattle.sb_packet.specs.Accesses.{access_at}
@@ -10,8 +11,8 @@ use Rattle.sb_mem.proofs.Atomics.{atomic_span, atomic_memory, atomic_answers, re
 use Rattle.sb_mem.proofs.TwosComplement.{word_length}
 use Rattle.sb_mem.proofs.memory.Memory.combine.Goals as goal
 
-pub answer-requires-clause-padding : goal.answer-requires-clause-padding
-answer-requires-clause-padding c = drop-replicate _ 32 0
+pub answer-requires : goal.answer-requires
+answer-requires c = drop-replicate _ 32 0
 
 pub returns-then-self-clause-answers : goal.returns-then-self-clause-answers
 returns-then-self-clause-answers c =
@@ -20,7 +21,7 @@ returns-then-self-clause-answers c =
     let s = 2 ^ p.cmd.size in
     let short : s ≤ 8 = word_length p.cmd.size p.cmd.size_fits in
     let refuses = ap (λ (m : MemoryState). m.readonly) (sym c.self.view_is) ∙ c.if-self.true in
-    let code : c.answer.result.cmd.tail ≡ write_code m = rw refuses c.answer.ensures.code in
+    let code : c.answer.result.cmd.tail ≡ code_number (write_code m) = rw refuses c.answer.ensures.code in
     let body : take s c.answer.result.body ≡ (if m.readonly then replicate s 0 else loaded m p.dst s) = rw (refuses, c.answer.ensures.body) (take-replicate s 32 0 (omega arith)) in
     atomic_answers m p c.answer.result c.requires.op c.answer.ensures.fields code body
 
