@@ -17,16 +17,17 @@ use Rattle.sb_packet.specs.declared.packet.Packet.{Packet}
 use Rattle.sb_packet.specs.declared.item.Item.{Item}
 use Rattle.sb_packet.specs.declared.item.Item.TheVariants as items
 use Rattle.sb_packet.proofs.Opcodes.{some_words}
-use Rattle.sb_port.specs.Ports.{PortState, port_accesses}
-use Rattle.sb_node.specs.Sides.{PortSide, RingSide, offered_words, received_words}
+use Rattle.sb_port.specs.Ports.{offered_words}
+use Rattle.sb_node.specs.Sides.{received_words, has_ended}
 use Rattle.sb_node.specs.Steps.{IsOffered, IsDropped}
-use Rattle.sb_node.proofs.Items.{item_more, packet_behind, close_behind}
+use Rattle.sb_node.proofs.Items.{item_more, packet_behind}
+use Rattle.sb_device.specs.Sides.{DeviceSide, held_bytes}
 use Rattle.sb_device.specs.Plans.{IsPlannedFor, IsInOrder}
-use Rattle.sb_device.specs.Served.{entry_accesses, entry_packets, item_packets, answers_to, AreSound, HasServed}
-use Rattle.sb_device.specs.Steps.{IsServedBy, IsUnanswered, IsReplied}
+use Rattle.sb_device.specs.Served.{entry_accesses, entry_packets, item_packets, with_entry, answers_to, AreSound, HasServed}
+use Rattle.sb_device.specs.Requests.{IsUnanswered, IsReplied, ServesNone, ServesRequest}
 use Rattle.sb_device.proofs.SoundAnswers.{sound_answer}
 use Rattle.sb_device.proofs.PlannedPackets.{answer_planned}
-use Rattle.sb_device.proofs.Requests.{entry_more, front_sound, served_and_offered, served_and_dropped}
+use Rattle.sb_device.proofs.Requests.{entry_more, served_and_offered, served_and_dropped}
 
 -- as many words as a packet's command counts
 word_total : (p : Packet) → length (accesses_of p) ≡ (message_of p).count
@@ -54,50 +55,57 @@ still_planned number m n requests answers requests_then answers_then base size a
       range = made.range ∙ ap (λ b. Some (record { base = b; bytes = length m.bytes })) (sym base) ∙ ap (λ s. Some (record { base = n.base; bytes = s })) (sym size);
     }))
 
-module _ (number number_then : ℕ) (m m_then : MemoryState) (journal journal_then : Ledger) (ring ring_then : RingSide) (port port_then : PortSide)
-    (o : IsInOrder number m journal ring port) (same_number : number_then ≡ number)
-    (base : m_then.base ≡ m.base) (size : length m_then.bytes ≡ length m.bytes)
-    (ring_plan : ring_then.plan ≡ ring.plan) (port_plan : port_then.plan ≡ port.plan) where
-  planned_then : IsPlannedFor number_then m_then ring_then.plan port_then.plan
-  planned_then = subst (λ n. IsPlannedFor n m_then ring_then.plan port_then.plan) (sym same_number) (still_planned number m m_then ring.plan port.plan ring_then.plan port_then.plan base size ring_plan port_plan o.planned)
+module _ (x y : DeviceSide) (o : IsInOrder x) (number : y.number ≡ x.number)
+    (base : y.memory.base ≡ x.memory.base) (size : held_bytes y.memory ≡ held_bytes x.memory)
+    (ring_plan : y.requests.plan ≡ x.requests.plan) (port_plan : y.answers.plan ≡ x.answers.plan) where
+  planned_then : IsPlannedFor y.number y.memory y.requests.plan y.answers.plan
+  planned_then = subst (λ n. IsPlannedFor n y.memory y.requests.plan y.answers.plan) (sym number)
+      (still_planned x.number x.memory y.memory x.requests.plan x.answers.plan y.requests.plan y.answers.plan base size ring_plan port_plan o.planned)
 
   -- a request came in, and was journalled
-  pub in_order_packet : (p : Packet) (e : Entry) → e.packet ≡ p → e.device ≡ number → journal_then ≡ record { entries = journal.entries ++ e ∷ []; spare = journal.spare - 1 }
-      → MayFollow ring.plan ring.received (items.Packet p) → ring_then.received ≡ ring.received ++ items.Packet p ∷ [] → port_then.state.closing ≡ false
-      → IsInOrder number_then m_then journal_then ring_then port_then
+  pub in_order_packet : (p : Packet) (e : Entry) → e.packet ≡ p → e.device ≡ x.number → y.journal ≡ with_entry x.journal e
+      → MayFollow x.requests.plan x.requests.received (items.Packet p) → y.requests.received ≡ x.requests.received ++ items.Packet p ∷ [] → y.answers.state.closing ≡ false
+      → IsInOrder y
   in_order_packet p e of_packet of_device added lawful came untold =
-      let words : received_words ring_then ≡ received_words ring ++ accesses_of p = ap item_accesses came ∙ item_more ring.received (items.Packet p) in
-      let entries : journal_then.entries ≡ journal.entries ++ e ∷ [] = ap (λ (j : Ledger). j.entries) added in
-      let spare : journal_then.spare ≡ journal.spare - 1 = ap (λ (j : Ledger). j.spare) added in
-      let longer = ap length words ∙ length-append (received_words ring) (accesses_of p) in
+      let words : received_words y.requests ≡ received_words x.requests ++ accesses_of p = ap item_accesses came ∙ item_more x.requests.received (items.Packet p) in
+      let entries : y.journal.entries ≡ x.journal.entries ++ e ∷ [] = ap (λ (j : Ledger). j.entries) added in
+      let spare : y.journal.spare ≡ x.journal.spare - 1 = ap (λ (j : Ledger). j.spare) added in
+      let longer = ap length words ∙ length-append (received_words x.requests) (accesses_of p) in
       let some = some_accesses p in
       let room = o.room in
-      let budget : ring_then.plan.budget ≡ ring.plan.budget = ap (λ (plan : RingPlan). plan.budget) ring_plan in
+      let budget : y.requests.plan.budget ≡ x.requests.plan.budget = ap (λ (plan : RingPlan). plan.budget) ring_plan in
       record {
         planned = planned_then;
-        journalled = ap entry_packets entries ∙ map-append (λ (e : Entry). e.packet) journal.entries (e ∷ []) ∙ ap (λ q. entry_packets journal.entries ++ q ∷ []) of_packet
-            ∙ ap (λ ps. ps ++ p ∷ []) o.journalled ∙ sym (packets_joined ring.received (items.Packet p ∷ [])) ∙ sym (ap item_packets came);
-        own_entries = subst (λ n. All (λ e. e.device ≡ n) journal_then.entries) (sym same_number) (subst (λ es. All (λ e. e.device ≡ number) es) (sym entries)
-            (All-append (λ e. e.device ≡ number) journal.entries (e ∷ []) o.own_entries (All-cons (λ e. e.device ≡ number) e [] of_device (All-nil (λ e. e.device ≡ number)))));
+        journalled = ap entry_packets entries ∙ map-append (λ (e : Entry). e.packet) x.journal.entries (e ∷ []) ∙ ap (λ q. entry_packets x.journal.entries ++ q ∷ []) of_packet
+            ∙ ap (λ ps. ps ++ p ∷ []) o.journalled ∙ sym (packets_joined x.requests.received (items.Packet p ∷ [])) ∙ sym (ap item_packets came);
+        own_entries = subst (λ n. All (λ e. e.device ≡ n) y.journal.entries) (sym number) (subst (λ es. All (λ e. e.device ≡ x.number) es) (sym entries)
+            (All-append (λ e. e.device ≡ x.number) x.journal.entries (e ∷ []) o.own_entries (All-cons (λ e. e.device ≡ x.number) e [] of_device (All-nil (λ e. e.device ≡ x.number)))));
         room = omega (arith, longer, some, room, spare, budget);
-        closes = untold ∙ sym lawful.unclosed ∙ sym (packet_behind ring.received p) ∙ sym (ap has_close came);
+        closes = untold ∙ sym lawful.unclosed ∙ sym (packet_behind x.requests.received p) ∙ sym (ap has_close came);
       }
 
-  -- a Close came in, and the port was told
-  pub in_order_close : journal_then ≡ journal → ring_then.received ≡ ring.received ++ items.Close ∷ [] → port_then.state ≡ record port.state { closing = true } → IsInOrder number_then m_then journal_then ring_then port_then
-  in_order_close same came state =
-      let words : received_words ring_then ≡ received_words ring = ap item_accesses came ∙ item_more ring.received items.Close ∙ append-nil (received_words ring) in
+  -- no packet came in, and the port was told to close where its ring gave Close
+  pub in_order_rest : y.journal ≡ x.journal → item_packets y.requests.received ≡ item_packets x.requests.received → received_words y.requests ≡ received_words x.requests
+      → y.answers.state.closing ≡ has_ended y.requests → IsInOrder y
+  in_order_rest same packets words closes =
       let longer = ap length words in
       let room = o.room in
-      let budget : ring_then.plan.budget ≡ ring.plan.budget = ap (λ (plan : RingPlan). plan.budget) ring_plan in
-      let spare : journal_then.spare ≡ journal.spare = ap (λ (j : Ledger). j.spare) same in
+      let budget : y.requests.plan.budget ≡ x.requests.plan.budget = ap (λ (plan : RingPlan). plan.budget) ring_plan in
+      let spare : y.journal.spare ≡ x.journal.spare = ap (λ (j : Ledger). j.spare) same in
       record {
         planned = planned_then;
-        journalled = ap (λ (j : Ledger). entry_packets j.entries) same ∙ o.journalled ∙ sym (append-nil (item_packets ring.received)) ∙ sym (packets_joined ring.received (items.Close ∷ [])) ∙ sym (ap item_packets came);
-        own_entries = subst (λ n. All (λ e. e.device ≡ n) journal_then.entries) (sym same_number) (subst (λ (j : Ledger). All (λ e. e.device ≡ number) j.entries) (sym same) o.own_entries);
+        journalled = ap (λ (j : Ledger). entry_packets j.entries) same ∙ o.journalled ∙ sym packets;
+        own_entries = subst (λ n. All (λ e. e.device ≡ n) y.journal.entries) (sym number) (subst (λ (j : Ledger). All (λ e. e.device ≡ x.number) j.entries) (sym same) o.own_entries);
         room = omega (arith, longer, room, spare, budget);
-        closes = ap (λ (s : PortState). s.closing) state ∙ sym (close_behind ring.received) ∙ sym (ap has_close came);
+        closes = closes;
       }
+
+-- a Close brings no packet and no word, and is the ring's end
+pub close_packets : (received : List Item) → item_packets (received ++ items.Close ∷ []) ≡ item_packets received
+close_packets received = packets_joined received (items.Close ∷ []) ∙ append-nil (item_packets received)
+
+pub close_words : (received : List Item) → item_accesses (received ++ items.Close ∷ []) ≡ item_accesses received
+close_words received = item_more received items.Close ∙ append-nil (item_accesses received)
 
 -- where a journal has the packets that came in, it has their words
 pub words_that_came : (journal : List Entry) (received : List Item) → entry_packets journal ≡ item_packets received → entry_accesses journal ≡ item_accesses received
@@ -120,43 +128,43 @@ words_of_device number (e ∷ journal) own =
     ∙ ap (λ ws. accesses_of e.packet ++ ws) (words_of_device number journal (All-tail (λ (e : Entry). e.device ≡ number) e journal own))
 
 -- a packet that may follow finds room in the journal
-pub room_for_entry : (number : ℕ) (m : MemoryState) (journal : Ledger) (ring : RingSide) (port : PortSide) (p : Packet) → IsInOrder number m journal ring port
-    → MayFollow ring.plan ring.received (items.Packet p) → 0 < journal.spare
-room_for_entry number m journal ring port p o lawful = let some = some_accesses p in let room = o.room in let fits = lawful.room in omega (arith, some, room, fits)
+pub room_for_entry : (d : DeviceSide) (p : Packet) → IsInOrder d → MayFollow d.requests.plan d.requests.received (items.Packet p) → 0 < d.journal.spare
+room_for_entry d p o lawful = let some = some_accesses p in let room = o.room in let fits = lawful.room in omega (arith, some, room, fits)
 
--- a Close came in: nothing was served
-pub served_close : (opening m : MemoryState) (journal : List Entry) (ring ring_then : RingSide) (port port_then : PortSide) → HasServed opening m journal ring port
-    → ring_then.received ≡ ring.received ++ items.Close ∷ [] → port_then.plan ≡ port.plan → port_then.state ≡ record port.state { closing = true } → HasServed opening m journal ring_then port_then
-served_close opening m journal ring ring_then port port_then h came plan state = let words : offered_words port_then ≡ offered_words port = ap port_accesses state in record {
-  stepped = h.stepped;
-  answered_some = subst (λ xs. IsSubsequence xs (answers_to opening (entry_accesses journal))) (sym words) h.answered_some;
-  answered_all = λ sound few. words ∙ h.answered_all (front_sound ring.received (items.Close ∷ []) (subst AreSound came sound))
-      (subst (λ (p : RingPlan). length (answers_to opening (entry_accesses journal)) ≤ p.budget) plan few);
-}
+-- no request came in: nothing was served
+pub served_none : (opening : MemoryState) (x y : DeviceSide) → HasServed opening x → ServesNone x y → (AreSound y.requests.received → AreSound x.requests.received) → HasServed opening y
+served_none opening x y h none sound_before =
+    let entries : entry_accesses y.journal.entries ≡ entry_accesses x.journal.entries = ap entry_accesses none.entered in
+    let answers : answers_to opening (entry_accesses y.journal.entries) ≡ answers_to opening (entry_accesses x.journal.entries) = ap (answers_to opening) entries in
+    record {
+      stepped = none.memory ∙ h.stepped ∙ ap (memory_after opening) (sym entries);
+      answered_some = subst (λ xs. IsSubsequence xs (answers_to opening (entry_accesses y.journal.entries))) (sym none.offered)
+          (subst (λ ys. IsSubsequence (offered_words x.answers) ys) (sym answers) h.answered_some);
+      answered_all = λ sound few. none.offered ∙ h.answered_all (sound_before sound)
+          (subst (λ (p : RingPlan). length (answers_to opening (entry_accesses x.journal.entries)) ≤ p.budget) none.plan (subst (λ xs. length xs ≤ y.answers.plan.budget) answers few)) ∙ sym answers;
+    }
 
 -- a request came in, and was served
-pub served_request : (opening m m_then : MemoryState) (number : ℕ) (journal journal_then : Ledger) (spare : ℕ) (ring ring_then : RingSide) (port port_then : PortSide) (p : Packet) (e : Entry)
-    → IsInOrder number m journal ring port → HasServed opening m journal.entries ring port → e.packet ≡ p → journal_then ≡ record { entries = journal.entries ++ e ∷ []; spare = spare }
-    → MayFollow ring.plan ring.received (items.Packet p) → is_request p.cmd.op ≡ true
-    → ring_then.received ≡ ring.received ++ items.Packet p ∷ [] → port_then.plan ≡ port.plan → m_then ≡ memory_after m (accesses_of p) → IsServedBy m port port_then p
-    → HasServed opening m_then journal_then.entries ring_then port_then
-served_request opening m m_then number journal journal_then spare ring ring_then port port_then p e o h of_packet added lawful asked came plan stepped served =
-    let entered : entry_accesses journal_then.entries ≡ entry_accesses journal.entries ++ accesses_of p =
-    ap (λ (j : Ledger). entry_accesses j.entries) added ∙ entry_more journal.entries e ∙ ap (λ q. entry_accesses journal.entries ++ accesses_of q) of_packet in
+pub served_request : (opening : MemoryState) (round : ℕ) (x y : DeviceSide) → IsInOrder x → HasServed opening x → (s : ServesRequest round x y)
+    → MayFollow x.requests.plan x.requests.received (items.Packet s.request) → is_request s.request.cmd.op ≡ true → HasServed opening y
+served_request opening round x y o h s lawful asked =
+    let p = s.request in
+    let entered : entry_accesses y.journal.entries ≡ entry_accesses x.journal.entries ++ accesses_of p =
+    ap entry_accesses s.entered ∙ entry_more x.journal.entries (record { round = round; device = x.number; packet = p }) in
     ⊎_elim
-    (λ (u : IsUnanswered m port port_then p). served_and_offered opening m m_then journal.entries journal_then.entries ring ring_then port port_then p [] h entered came plan stepped u.none
-    (u.words ∙ sym (append-nil (offered_words port))))
-    (λ (r : IsReplied m port port_then p). ⊎_elim
-    (λ (i : IsOffered port port_then r.answer). served_and_offered opening m m_then journal.entries journal_then.entries ring ring_then port port_then p (accesses_of r.answer) h entered came plan stepped r.answers i.words)
-    (λ (d : IsDropped port port_then r.answer). served_and_dropped opening m m_then journal.entries journal_then.entries ring ring_then port port_then p (accesses_of r.answer) h entered came plan stepped r.answers
+    (λ (u : IsUnanswered x.memory x.answers y.answers p). served_and_offered opening x y p [] h entered s.came s.plan s.stepped u.none
+    (ap offered_words u.same ∙ sym (append-nil (offered_words x.answers))))
+    (λ (r : IsReplied x.memory x.answers y.answers p). ⊎_elim
+    (λ (i : IsOffered x.answers y.answers r.answer). served_and_offered opening x y p (accesses_of r.answer) h entered s.came s.plan s.stepped r.answers i.words)
+    (λ (d : IsDropped x.answers y.answers r.answer). served_and_dropped opening x y p (accesses_of r.answer) h entered s.came s.plan s.stepped r.answers
     (ap offered_words d.same)
     (λ sound room. d.fails (record {
       sound = sound_answer p r.answer asked r.fields sound;
-      planned = answer_planned number m ring.plan port.plan p r.answer o.planned (lawful.fit p refl).planned asked r.fields sound;
+      planned = answer_planned x.number x.memory x.requests.plan x.answers.plan p r.answer o.planned (lawful.fit p refl).planned asked r.fields sound;
       room = let total = word_total r.answer in omega (arith, room, total);
     })))
     r.handed)
-    served
+    s.answered
 
 -- what may follow on a ring of requests is a request
 pub request_asks : (plan : RingPlan) (list : List Item) (p : Packet) → plan.up ≡ false → MayFollow plan list (items.Packet p) → is_request p.cmd.op ≡ true

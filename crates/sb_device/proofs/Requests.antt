@@ -14,8 +14,9 @@ use Rattle.sb_packet.specs.declared.packet.Packet.{Packet}
 use Rattle.sb_packet.specs.declared.item.Item.{Item}
 use Rattle.sb_packet.specs.declared.item.Item.TheVariants as items
 use Rattle.sb_packet.proofs.FoundAnswers.{answers_in-append, memory_after-append}
-use Rattle.sb_node.specs.Sides.{PortSide, RingSide, offered_words}
+use Rattle.sb_port.specs.Ports.{offered_words}
 use Rattle.sb_node.proofs.Subsequences.{more_kept, more_left_out}
+use Rattle.sb_device.specs.Sides.{DeviceSide}
 use Rattle.sb_device.specs.Served.{entry_accesses, answers_to, AreSound, HasServed}
 
 -- an entry more, and so the words of its packet
@@ -59,50 +60,57 @@ front_sound front rest sound = all_front IsSound (item_messages front) (item_mes
 last_sound : (front : List Item) (p : Packet) → AreSound (front ++ items.Packet p ∷ []) → IsSound (message_of p)
 last_sound front p sound = All-head IsSound (message_of p) [] (all_behind IsSound (item_messages front) (message_of p ∷ []) (subst (All IsSound) (messages_joined front (items.Packet p ∷ [])) sound))
 
--- What is served once more: the request p came in and was journalled, and the memory m answered it by these words.
-module _ (opening m m_then : MemoryState) (journal journal_then : List Entry) (ring ring_then : RingSide) (port port_then : PortSide) (p : Packet) (words : List Access)
-    (before : HasServed opening m journal ring port)
-    (entered : entry_accesses journal_then ≡ entry_accesses journal ++ accesses_of p)
-    (came : ring_then.received ≡ ring.received ++ items.Packet p ∷ [])
-    (plan : port_then.plan ≡ port.plan)
-    (stepped : m_then ≡ memory_after m (accesses_of p))
-    (answers : answers_to m (accesses_of p) ≡ words) where
-  stepped_on : m_then ≡ memory_after opening (entry_accesses journal_then)
-  stepped_on = stepped ∙ ap (λ n. memory_after n (accesses_of p)) before.stepped ∙ sym (memory_after-append opening (entry_accesses journal) (accesses_of p))
+-- What is served once more: the request p came in and was journalled, and the memory answered it by these words.
+module _ (opening : MemoryState) (x y : DeviceSide) (p : Packet) (words : List Access)
+    (before : HasServed opening x)
+    (entered : entry_accesses y.journal.entries ≡ entry_accesses x.journal.entries ++ accesses_of p)
+    (came : y.requests.received ≡ x.requests.received ++ items.Packet p ∷ [])
+    (plan : y.answers.plan ≡ x.answers.plan)
+    (stepped : y.memory ≡ memory_after x.memory (accesses_of p))
+    (answers : answers_to x.memory (accesses_of p) ≡ words) where
+  -- the words that were served before, and those that are served then
+  abbrev served : List Access
+  served = entry_accesses x.journal.entries
+
+  abbrev served_then : List Access
+  served_then = entry_accesses y.journal.entries
+
+  stepped_on : y.memory ≡ memory_after opening served_then
+  stepped_on = stepped ∙ ap (λ n. memory_after n (accesses_of p)) before.stepped ∙ sym (memory_after-append opening served (accesses_of p))
       ∙ ap (memory_after opening) (sym entered)
 
-  answered_on : answers_to opening (entry_accesses journal_then) ≡ answers_to opening (entry_accesses journal) ++ words
-  answered_on = ap (answers_to opening) entered ∙ answers_more opening (entry_accesses journal) (accesses_of p)
-      ∙ ap (λ n. answers_to opening (entry_accesses journal) ++ answers_to n (accesses_of p)) (sym before.stepped) ∙ ap (λ ws. answers_to opening (entry_accesses journal) ++ ws) answers
+  answered_on : answers_to opening served_then ≡ answers_to opening served ++ words
+  answered_on = ap (answers_to opening) entered ∙ answers_more opening served (accesses_of p)
+      ∙ ap (λ n. answers_to opening served ++ answers_to n (accesses_of p)) (sym before.stepped) ∙ ap (λ ws. answers_to opening served ++ ws) answers
 
-  fewer : length (answers_to opening (entry_accesses journal_then)) ≤ port_then.plan.budget → length (answers_to opening (entry_accesses journal)) + length words ≤ port.plan.budget
-  fewer few = subst (λ plan. length (answers_to opening (entry_accesses journal)) + length words ≤ plan.budget) plan
-      (subst (λ n. n ≤ port_then.plan.budget) (ap length answered_on ∙ length-append (answers_to opening (entry_accesses journal)) words) few)
+  fewer : length (answers_to opening served_then) ≤ y.answers.plan.budget → length (answers_to opening served) + length words ≤ x.answers.plan.budget
+  fewer few = subst (λ plan. length (answers_to opening served) + length words ≤ plan.budget) plan
+      (subst (λ n. n ≤ y.answers.plan.budget) (ap length answered_on ∙ length-append (answers_to opening served) words) few)
 
-  was_sound : AreSound ring_then.received → AreSound ring.received
-  was_sound sound = front_sound ring.received (items.Packet p ∷ []) (subst AreSound came sound)
+  was_sound : AreSound y.requests.received → AreSound x.requests.received
+  was_sound sound = front_sound x.requests.received (items.Packet p ∷ []) (subst AreSound came sound)
 
-  now_sound : AreSound ring_then.received → IsSound (message_of p)
-  now_sound sound = last_sound ring.received p (subst AreSound came sound)
+  now_sound : AreSound y.requests.received → IsSound (message_of p)
+  now_sound sound = last_sound x.requests.received p (subst AreSound came sound)
 
   -- the answer was offered
-  pub served_and_offered : offered_words port_then ≡ offered_words port ++ words → HasServed opening m_then journal_then ring_then port_then
+  pub served_and_offered : offered_words y.answers ≡ offered_words x.answers ++ words → HasServed opening y
   served_and_offered offered = record {
     stepped = stepped_on;
-    answered_some = subst (λ xs. IsSubsequence xs (answers_to opening (entry_accesses journal_then))) (sym offered)
-        (subst (λ ys. IsSubsequence (offered_words port ++ words) ys) (sym answered_on) (more_kept words before.answered_some));
+    answered_some = subst (λ xs. IsSubsequence xs (answers_to opening served_then)) (sym offered)
+        (subst (λ ys. IsSubsequence (offered_words x.answers ++ words) ys) (sym answered_on) (more_kept words before.answered_some));
     answered_all = λ sound few. let room = fewer few in
         offered ∙ ap (λ xs. xs ++ words) (before.answered_all (was_sound sound) (omega (arith, room))) ∙ sym answered_on;
   }
 
   -- the answer was dropped, since it wasn't sound or there was no room for its words
-  pub served_and_dropped : offered_words port_then ≡ offered_words port
-      → (IsSound (message_of p) → length (offered_words port) + length words ≤ port.plan.budget → ⊥) → HasServed opening m_then journal_then ring_then port_then
+  pub served_and_dropped : offered_words y.answers ≡ offered_words x.answers
+      → (IsSound (message_of p) → length (offered_words x.answers) + length words ≤ x.answers.plan.budget → ⊥) → HasServed opening y
   served_and_dropped offered fails = record {
     stepped = stepped_on;
-    answered_some = subst (λ xs. IsSubsequence xs (answers_to opening (entry_accesses journal_then))) (sym offered)
-        (subst (λ ys. IsSubsequence (offered_words port) ys) (sym answered_on) (more_left_out words before.answered_some));
+    answered_some = subst (λ xs. IsSubsequence xs (answers_to opening served_then)) (sym offered)
+        (subst (λ ys. IsSubsequence (offered_words x.answers) ys) (sym answered_on) (more_left_out words before.answered_some));
     answered_all = λ sound few. let room = fewer few in
         let same = before.answered_all (was_sound sound) (omega (arith, room)) in
-        absurd (fails (now_sound sound) (subst (λ xs. length xs + length words ≤ port.plan.budget) (sym same) room));
+        absurd (fails (now_sound sound) (subst (λ xs. length xs + length words ≤ x.answers.plan.budget) (sym same) room));
   }

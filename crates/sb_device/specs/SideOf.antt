@@ -1,24 +1,16 @@
--- A device as rounds see it.
-use Rattle.std.specs.Option.{option_map}
+-- What rounds see of a device, by its parts.
 use Rattle.sb_link.specs.declared.ends.RxEnd as rx
-use Rattle.sb_link.specs.declared.ends.TxEnd as tx
-use Rattle.sb_node.specs.Sides.{port_side, ring_side}
-use Rattle.sb_device.specs.Devices.{DeviceSide}
-use Rattle.sb_device.specs.declared.device_core.DeviceCore.{DeviceCore}
-use Rattle.sb_device.specs.declared.device.Device.{Device}
+use Rattle.sb_port.specs.Ports.{PortSide}
+use Rattle.sb_node.specs.Sides.{ring_side}
+use Rattle.sb_device.specs.Sides.{DeviceSide}
+use Rattle.sb_device.specs.declared.bank.Bank.{Bank}
 
--- a device over ends of any kind, as rounds see it
-abbrev pub core_side : {T U : Type 0} → tx.Ghosts T → rx.Ghosts U → DeviceCore T U → DeviceSide
-core_side tx rx core = record {
-  number = core.bank.number;
-  asked_by = core.requests.ring;
-  answers_by = core.answers.ring;
-  memory = core.bank.memory;
-  journal = core.bank.journal;
-  requests = option_map (ring_side rx) core.requests.end;
-  answers = option_map (port_side tx) core.answers.end;
+-- a device with that memory and journal, at that end and that port
+abbrev pub side_of : {U : Type 0} → rx.Ghosts U → Bank → U → PortSide → DeviceSide
+side_of end bank requests answers = record {
+  number = bank.number;
+  memory = bank.memory;
+  journal = bank.journal;
+  requests = ring_side end requests;
+  answers = answers;
 }
-
--- a device of a fabric, as rounds see it
-abbrev pub device_side : {F T U : Type 0} → tx.Ghosts T → rx.Ghosts U → Device F T U → DeviceSide
-device_side tx rx device = core_side tx rx device.core

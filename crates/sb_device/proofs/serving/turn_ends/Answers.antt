@@ -1,22 +1,30 @@
--- What the turn answers follows from what the ring and the port did.
-use Rattle.std.proofs.Common.{◌∙◌, ap, subst}
+-- What the turn keeps and answers follows from what the ring and the port did.
+use Rattle.std.proofs.Common.{subst}
 use Rattle.sb_node.specs.Found.{IsTurnOf}
-use Rattle.sb_node.specs.Sides.{port_side, ring_side}
 use Rattle.sb_node.proofs.Serving.{served_since}
+use Rattle.sb_device.specs.Devices.{kept_device_then}
+use Rattle.sb_device.specs.SideOf.{side_of}
 use Rattle.sb_device.specs.Steps.{IsRingHandled}
-use Rattle.sb_device.proofs.Turning.{ends_turned}
+use Rattle.sb_device.proofs.Keeping.{kept_by_port, whole_by_port}
+use Rattle.sb_device.proofs.Turning.{device_turned}
 use Rattle.sb_device.proofs.serving.turn_ends.Goals as goal
+
+pub returns-clause-kept : goal.returns-clause-kept
+returns-clause-kept g c =
+    let x = side_of g.U.RxEnd c.args.bank.now c.args.requests.now c.args.answers.now in
+    let s = c.serve_ring-popped in
+    let y = side_of g.U.RxEnd s.new.bank s.new.requests s.new.answers in
+    kept_device_then c.args.round x y (record y { answers = c.turn_port.new.port }) s.ensures.kept (kept_by_port c.args.round y c.turn_port.new.port c.turn_port.ensures.words c.turn_port.ensures.kept)
 
 pub returns-clause-turned : goal.returns-clause-turned
 returns-clause-turned g c =
-    let ring = ring_side g.U.RxEnd c.args.requests.now in
-    let ring_then = ring_side g.U.RxEnd c.serve_ring-popped.new.requests in
-    let port = port_side g.T.TxEnd c.args.answers.now in
-    let middle = port_side g.T.TxEnd c.serve_ring-popped.new.answers in
-    let port_then = port_side g.T.TxEnd c.turn_port.new.port in
+    let x = side_of g.U.RxEnd c.args.bank.now c.args.requests.now c.args.answers.now in
     let s = c.serve_ring-popped in
-    ends_turned ring ring_then port port_then s.result middle s.new.found c.turn_port.new.found c.turn.result
-    (subst (λ f. IsRingHandled ring ring_then port middle f s.new.found s.result) c.new-found.ensures s.ensures.handled)
-    c.turn_port.ensures.turned s.ensures.port c.turn_port.ensures.kept c.turn_port.ensures.fit (c.turn_port.ensures.told ∙ s.ensures.in_order.closes)
+    let y = side_of g.U.RxEnd s.new.bank s.new.requests s.new.answers in
+    let port_then = c.turn_port.new.port in
+    let t = c.turn_port.ensures in
+    device_turned x y port_then s.result s.new.found c.turn_port.new.found c.turn.result
+    (subst (λ f. IsRingHandled x y f s.new.found s.result) c.new-found.ensures s.ensures.handled)
+    t.turned s.ensures.kept.answers t.kept (whole_by_port y port_then s.ensures.whole t.kept.plan t.told t.fit)
     (subst (λ b. IsTurnOf c.turn_port.new.found b c.turn.result) c.closed.ensures.closed c.turn.ensures)
-    (served_since port middle port_then (ap g.T.TxEnd.sent s.ensures.end) c.turn_port.ensures.served)
+    (served_since x.answers y.answers port_then s.ensures.sent t.served)

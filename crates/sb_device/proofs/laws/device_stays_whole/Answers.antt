@@ -1,6 +1,6 @@
--- The records are put together anew.
-use Rattle.sb_device.proofs.Restored.{whole_with_ring, whole_with_port, serves_with_ring, serves_with_port}
-use Rattle.sb_device.proofs.laws.device_is_whole_again.Goals as goal
+-- What the ends keep is put into the records.
+use Rattle.sb_device.proofs.Meetings.{whole_with_ring, whole_with_port, serves_with_ring, serves_with_port}
+use Rattle.sb_device.proofs.laws.device_stays_whole.Goals as goal
 
 pub returns-clause-ring : goal.returns-clause-ring
 returns-clause-ring c = whole_with_ring
