@@ -15,9 +15,9 @@ use Rattle.sb_packet.specs.Traffic.{item_accesses}
 use Rattle.sb_packet.specs.declared.item.Item.{Item}
 use Rattle.sb_packet.specs.declared.transaction.Txn.{Txn}
 use Rattle.sb_packet.proofs.CutWords.{words_of_cut}
-use Rattle.sb_port.specs.Ports.{PortState, port_accesses}
+use Rattle.sb_port.specs.Ports.{PortSide, PortState, port_accesses}
 use Rattle.sb_port.specs.Waiting.{nothing_waits}
-use Rattle.sb_node.specs.Sides.{PortSide, RingSide, has_ended}
+use Rattle.sb_node.specs.Sides.{RingSide, has_ended}
 use Rattle.sb_flow.specs.Limits.{is_limited, is_limited_host}
 use Rattle.sb_flow.specs.NetworkOf.{network_of}
 use Rattle.sb_flow.specs.Rows.{host_of}
@@ -25,12 +25,12 @@ use Rattle.sb_flow.specs.declared.bundle.Bundle.{Bundle}
 use Rattle.sb_flow.specs.declared.host_plan.HostPlan.{HostPlan}
 use Rattle.sb_host.specs.declared.line.Line.{Line}
 use Rattle.sb_host.specs.declared.orders.Orders.{Orders}
-use Rattle.sb_host.specs.declared.row.Row.{Row}
 use Rattle.sb_host.specs.Asked.{Asked, accesses_from, line_accesses, line_in, line_message, packets_from, sent_accesses, sent_packets}
 use Rattle.sb_host.specs.Hosts.{IsInOrder}
 use Rattle.sb_host.specs.Issuing.{IsMadeFor, packets_left}
 use Rattle.sb_host.specs.Lines.{AreTransactions}
 use Rattle.sb_host.specs.Places.{AreIssuable, asked_of}
+use Rattle.sb_host.specs.Progress.{TransactionsSide}
 use Rattle.sb_host.specs.Rows.{IsTable}
 use Rattle.sb_host.proofs.TableSteps.{both_true}
 
@@ -55,18 +55,21 @@ pub orders_issuable : (orders : Orders) → AreIssuable (asked_of orders)
 orders_issuable orders = record { id = orders.id_fits; qos = orders.qos_fits; prot = orders.prot_fits; few = orders.few; lines = orders.issuable }
 
 -- a host that has offered nothing and received nothing
-pub begins_in_order : (asked : Asked) (rows : List Row) (port : PortSide) (ring : RingSide) → AreIssuable asked → IsMadeFor port.plan asked
-    → port.state ≡ record { sent = []; waiting = nothing_waits port.plan.width; closing = false; shut = false; claimed = 0 } → ring.received ≡ [] → IsTable asked [] rows
-    → IsInOrder asked rows 0 0 false port ring
-begins_in_order asked rows port ring issuable made state received table = record {
-  issuable = issuable;
-  made = made;
-  come = record { within = omega arith; begun = λ some d. absurd (omega arith) };
-  offered = ap (λ (s : PortState). port_accesses s ++ flat_map message_accesses (packets_left asked 0 0)) state ∙ words_of_packets asked 0 asked.lines;
-  closes = λ told. absurd (true≢false (sym told ∙ ap (λ (s : PortState). s.closing) state));
-  table = subst (λ (list : List Item). IsTable asked (item_accesses list) rows) (sym received) table;
-  ends = sym (ap (λ (list : List Item). has_ended (record ring { received = list })) received);
-}
+pub begins_in_order : (t : TransactionsSide) (port : PortSide) (ring : RingSide) → t ≡ record { asked = t.asked; rows = t.rows; next = 0; part = 0; ended = false }
+    → AreIssuable t.asked → IsMadeFor port.plan t.asked
+    → port.state ≡ record { sent = []; waiting = nothing_waits port.plan.width; closing = false; shut = false; claimed = 0 } → ring.received ≡ [] → IsTable t.asked [] t.rows
+    → IsInOrder t port ring
+begins_in_order t port ring new issuable made state received table =
+    let begins : IsInOrder (record { asked = t.asked; rows = t.rows; next = 0; part = 0; ended = false }) port ring = record {
+      issuable = issuable;
+      made = made;
+      come = record { within = omega arith; begun = λ some d. absurd (omega arith) };
+      offered = ap (λ (s : PortState). port_accesses s ++ flat_map message_accesses (packets_left t.asked 0 0)) state ∙ words_of_packets t.asked 0 t.asked.lines;
+      closes = λ told. absurd (true≢false (sym told ∙ ap (λ (s : PortState). s.closing) state));
+      table = subst (λ (list : List Item). IsTable t.asked (item_accesses list) t.rows) (sym received) table;
+      ends = sym (ap (λ (list : List Item). has_ended (record ring { received = list })) received);
+    } in
+    subst (λ (x : TransactionsSide). IsInOrder x port ring) (sym new) begins
 
 -- what all pass one passes
 pub passes_at : {X : Type 0} (test : X → Bool) (xs : List X) (i : ℕ) (d : X) → list_all test xs ≡ true → i < length xs → test (get_or xs i d) ≡ true

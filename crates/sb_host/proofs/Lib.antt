@@ -7,9 +7,11 @@ pub mod NewTable
 pub mod PacketsLeft
 pub mod Received
 pub mod Passing
+pub mod Ordered
 pub mod Turning
 pub mod Beginning
-pub mod Restored
+pub mod StillWhole
+pub mod Still
 pub mod Offering
 pub mod PlannedParts
 pub mod OwnWays

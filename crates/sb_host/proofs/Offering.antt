@@ -9,25 +9,27 @@ use Rattle.sb_packet.specs.Accesses.{Access, access_at, message_accesses}
 use Rattle.sb_packet.specs.Networks.{NetHost, Network, device_at}
 use Rattle.sb_packet.specs.Prefixes.{IsPrefix}
 use Rattle.sb_packet.specs.Scripts.{IsTransaction, script_accesses, transaction_accesses, transaction_message}
-use Rattle.sb_packet.specs.Traffic.{has_close}
+use Rattle.sb_packet.specs.Messages.{Message}
+use Rattle.sb_packet.specs.Traffic.{MayPass, has_close}
 use Rattle.sb_packet.specs.declared.transaction.Txn.{Txn}
 use Rattle.sb_packet.proofs.Lists.{All-made, filter_all, filter_none}
 use Rattle.sb_packet.proofs.ReplyAddresses.{word_within}
 use Rattle.sb_flow.specs.Ranges.{misplaced_device}
 use Rattle.sb_flow.proofs.Pages.{device_at-page}
-use Rattle.sb_node.specs.Sides.{PortSide, offered_words}
+use Rattle.sb_port.specs.Ports.{offered_words}
 use Rattle.sb_host.specs.declared.line.Line.{Line}
 use Rattle.sb_host.specs.Asked.{Asked, accesses_from, asked_accesses, asked_by, line_in, packets_from, sent_accesses}
 use Rattle.sb_host.specs.Hosts.{HostSide, IsWholeHost}
 use Rattle.sb_host.specs.Issuing.{HasOffered, packets_left}
-use Rattle.sb_host.proofs.Restored.{the_one}
+use Rattle.sb_host.specs.Progress.{left_of}
+use Rattle.sb_host.proofs.Passing.{next_passes}
 
 -- what was offered begins all words
 offered_begins : (asked : Asked) (next part : ℕ) (offered : List Access) → HasOffered asked next part offered → IsPrefix offered (asked_accesses asked)
 offered_begins asked next part offered h = record { rest = flat_map message_accesses (packets_left asked next part); joined = h }
 
 -- behind the last transaction no packet is left
-none_left : (asked : Asked) (next part : ℕ) → next ≡ length asked.lines → packets_left asked next part ≡ []
+pub none_left : (asked : Asked) (next part : ℕ) → next ≡ length asked.lines → packets_left asked next part ≡ []
 none_left asked next part end =
     ap (λ (lines : List Line). drop part (packets_from asked next lines)) (ap (λ (n : ℕ). drop n asked.lines) end ∙ drop-length asked.lines) ∙ drop-nil part
 
@@ -36,19 +38,20 @@ offered_all : (asked : Asked) (next part : ℕ) (offered : List Access) → next
 offered_all asked next part offered end h =
     sym (append-nil offered) ∙ ap (λ list. offered ++ flat_map message_accesses list) (sym (none_left asked next part end)) ∙ h
 
-pub offers_in_order : (h : HostSide) (port : PortSide) → IsWholeHost h → h.requests ≡ Some port → IsPrefix (offered_words port) (asked_accesses h.asked)
-offers_in_order h port w at =
-    subst (λ (p : PortSide). IsPrefix (offered_words p) (asked_accesses h.asked)) (the_one w.has_port at) (offered_begins h.asked h.next h.part (offered_words w.port) w.in_order.offered)
+pub offers_in_order : (h : HostSide) → IsWholeHost h → IsPrefix (offered_words h.requests) (asked_accesses h.transactions.asked)
+offers_in_order h w = offered_begins h.transactions.asked h.transactions.next h.transactions.part (offered_words h.requests) w.in_order.offered
 
-pub offers_all : (h : HostSide) (port : PortSide) → IsWholeHost h → h.requests ≡ Some port → port.state.closing ≡ true → offered_words port ≡ asked_accesses h.asked
-offers_all h port w at =
-    subst (λ (p : PortSide). p.state.closing ≡ true → offered_words p ≡ asked_accesses h.asked) (the_one w.has_port at)
-    (λ told. offered_all h.asked h.next h.part (offered_words w.port) (w.in_order.closes told) w.in_order.offered)
+pub offers_all : (h : HostSide) → IsWholeHost h → h.requests.state.closing ≡ true → offered_words h.requests ≡ asked_accesses h.transactions.asked
+offers_all h w told = offered_all h.transactions.asked h.transactions.next h.transactions.part (offered_words h.requests) (w.in_order.closes told) w.in_order.offered
 
-pub closes_behind_all : (h : HostSide) (port : PortSide) → IsWholeHost h → h.requests ≡ Some port → has_close port.state.sent ≡ true → offered_words port ≡ asked_accesses h.asked
-closes_behind_all h port w at =
-    subst (λ (p : PortSide). has_close p.state.sent ≡ true → offered_words p ≡ asked_accesses h.asked) (the_one w.has_port at)
-    (λ closed. offered_all h.asked h.next h.part (offered_words w.port) (w.in_order.closes (w.fit.told (w.fit.close ∙ closed))) w.in_order.offered)
+pub closes_behind_all : (h : HostSide) → IsWholeHost h → has_close h.requests.state.sent ≡ true → offered_words h.requests ≡ asked_accesses h.transactions.asked
+closes_behind_all h w closed = offers_all h w (w.fit.told (w.fit.close ∙ closed))
+
+-- each packet passes at its turn
+pub passes_next : (h : HostSide) (m : Message) (rest : List Message) → IsWholeHost h → left_of h.transactions ≡ m ∷ rest → MayPass h.requests.plan (length (offered_words h.requests)) m
+passes_next h m rest w left =
+    let t = h.transactions in
+    let o = w.in_order in next_passes t.asked h.requests.plan t.next t.part (offered_words h.requests) m rest o.issuable o.made o.offered left
 
 -- a word begins within its transaction's page
 pub within_page : (t : Txn) (j : ℕ) → IsTransaction t → j < t.count → t.addr % 4096 + j * 2 ^ t.size < 4096

@@ -2,38 +2,52 @@
 use Rattle.std.proofs.Common.{◌≡◌, List, [], ◌∷◌, ◌++◌, Bool, true, ℕ, sym, ap, subst, ◌∙◌, append-nil}
 use Rattle.sb_packet.specs.Accesses.{Access, accesses_of}
 use Rattle.sb_packet.specs.Traffic.{has_close, item_accesses}
+use Rattle.sb_packet.specs.declared.item.Item.{Item}
 use Rattle.sb_packet.specs.declared.item.Item.TheVariants as items
 use Rattle.sb_packet.specs.declared.packet.Packet.{Packet}
-use Rattle.sb_node.specs.Sides.{PortSide, RingSide, received_words}
+use Rattle.sb_port.specs.Ports.{PortSide}
+use Rattle.sb_node.specs.Sides.{RingSide, received_words}
 use Rattle.sb_node.proofs.Items.{item_more, packet_behind, close_behind}
 use Rattle.sb_host.specs.declared.row.Row.{Row}
-use Rattle.sb_host.specs.Asked.{Asked}
 use Rattle.sb_host.specs.Hosts.{IsInOrder}
+use Rattle.sb_host.specs.Progress.{TransactionsSide}
 use Rattle.sb_host.specs.Rows.{IsTable}
 
-module _ (asked : Asked) (next part : ℕ) (ended : Bool) (port : PortSide) (ring ring_then : RingSide) where
+module _ (t : TransactionsSide) (port : PortSide) (ring ring_then : RingSide) where
   -- a packet came, and the table took it
-  pub after_packet : (rows rows_then : List Row) (p : Packet) → ring_then.received ≡ ring.received ++ items.Packet p ∷ []
-      → ((received : List Access) → IsTable asked received rows → IsTable asked (received ++ accesses_of p) rows_then)
-      → IsInOrder asked rows next part ended port ring → IsInOrder asked rows_then next part ended port ring_then
-  after_packet rows rows_then p came taken is = record {
+  pub after_packet : (rows_then : List Row) (p : Packet) → ring_then.received ≡ ring.received ++ items.Packet p ∷ []
+      → ((received : List Access) → IsTable t.asked received t.rows → IsTable t.asked (received ++ accesses_of p) rows_then)
+      → IsInOrder t port ring → IsInOrder (record t { rows = rows_then }) port ring_then
+  after_packet rows_then p came taken is = record {
     issuable = is.issuable;
     made = is.made;
     come = is.come;
     offered = is.offered;
     closes = is.closes;
-    table = subst (λ (words : List Access). IsTable asked words rows_then) (sym (ap item_accesses came ∙ item_more ring.received (items.Packet p))) (taken (received_words ring) is.table);
+    table = subst (λ (words : List Access). IsTable t.asked words rows_then) (sym (ap item_accesses came ∙ item_more ring.received (items.Packet p))) (taken (received_words ring) is.table);
     ends = is.ends ∙ sym (ap has_close came ∙ packet_behind ring.received p);
   }
 
   -- the Close came
-  pub after_close : (rows : List Row) → ring_then.received ≡ ring.received ++ items.Close ∷ [] → IsInOrder asked rows next part ended port ring → IsInOrder asked rows next part true port ring_then
-  after_close rows came is = record {
+  pub after_close : ring_then.received ≡ ring.received ++ items.Close ∷ [] → IsInOrder t port ring → IsInOrder (record t { ended = true }) port ring_then
+  after_close came is = record {
     issuable = is.issuable;
     made = is.made;
     come = is.come;
     offered = is.offered;
     closes = is.closes;
-    table = subst (λ (words : List Access). IsTable asked words rows) (sym (ap item_accesses came ∙ item_more ring.received items.Close ∙ append-nil (received_words ring))) is.table;
+    table = subst (λ (words : List Access). IsTable t.asked words t.rows) (sym (ap item_accesses came ∙ item_more ring.received items.Close ∙ append-nil (received_words ring))) is.table;
     ends = sym (ap has_close came ∙ close_behind ring.received);
+  }
+
+  -- nothing came
+  pub after_none : ring_then.received ≡ ring.received → IsInOrder t port ring → IsInOrder t port ring_then
+  after_none same is = record {
+    issuable = is.issuable;
+    made = is.made;
+    come = is.come;
+    offered = is.offered;
+    closes = is.closes;
+    table = subst (λ (list : List Item). IsTable t.asked (item_accesses list) t.rows) (sym same) is.table;
+    ends = is.ends ∙ sym (ap has_close same);
   }

@@ -1,20 +1,22 @@
 -- What a turn answers, by what the ring and the port did in it.
-use Rattle.std.proofs.Common.{◌≡◌, ◌⊎◌, inl, inr, ⊎_elim, ℕ, ◌+◌, ◌≤◌, Bool, true, false, true≢false, List, [], ◌∷◌, length, refl, sym, ap, ◌∙◌, subst, arith}
+use Rattle.std.proofs.Common.{◌≡◌, ◌≢◌, ◌⊎◌, inl, inr, ⊎_elim, ℕ, ◌+◌, ◌≤◌, Bool, true, false, true≢false, List, [], ◌∷◌, length, refl, sym, ap, ◌∙◌, subst, arith}
 use Rattle.std.specs.Prelude.{◌&&◌, Option, Some, None, if◌then◌else◌}
 use Rattle.sb_link.specs.declared.answers.Turn.{Turn}
+use Rattle.sb_link.specs.declared.answers.Turn.TheVariants.{Moved, Idle, Done}
 use Rattle.sb_link.specs.declared.answers.Cause.{Cause}
 use Rattle.sb_link.specs.declared.answers.Cause.TheVariants as causes
 use Rattle.sb_packet.specs.declared.item.Item.{Item}
 use Rattle.sb_port.specs.Waiting.{some_owed}
-use Rattle.sb_port.specs.Ports.{PortState, owes}
-use Rattle.sb_node.specs.Sides.{PortSide, RingSide, has_rest, is_full, is_drained, has_ended, is_done, port_moves, node_moves}
+use Rattle.sb_port.specs.Ports.{PortSide, PortState, owes}
+use Rattle.sb_node.specs.Sides.{RingSide, has_rest, is_full, is_drained, has_ended, is_done, port_moves, node_moves}
 use Rattle.sb_node.specs.Kept.{IsKeptPort}
-use Rattle.sb_node.specs.Turns.{first_cause, empty_cause, idle_causes}
+use Rattle.sb_node.specs.Rested.{IsRestedPort}
+use Rattle.sb_node.specs.Turns.{IsAnswered, first_cause, empty_cause, idle_causes}
 use Rattle.sb_node.specs.Found.{or_else, IsTurnOf}
-use Rattle.sb_node.specs.Steps.{IsPortServed, IsPortTurned, HasPortMoved, IsPortFull, IsPortClear, IsRingEmpty, IsRingServed}
+use Rattle.sb_node.specs.Steps.{HasFewMore, IsPortTurned, HasPortMoved, IsPortFull, IsPortClear, IsRingEmpty, IsRingServed}
 use Rattle.sb_node.specs.declared.findings.Findings.{Findings}
 use Rattle.sb_node.proofs.Answering.{HasGone, HasStood, answered_by, moves_kept, untold, moves_of_two, no_findings, one_of, same_moves}
-use Rattle.sb_host.specs.Steps.{HasOfferedNone, HasOfferedOne, IsEndsTurn, IsIdleHost, IsIssued, IsReceived, waits_for}
+use Rattle.sb_host.specs.Steps.{HasOfferedNone, HasOfferedOne, IsIdleHost, IsIssued, IsReceived}
 
 -- a host is done where its port sent its Close, and its ring gave one
 pub done_by_both : (port : PortSide) (ring : RingSide) → is_done (port ∷ []) (ring ∷ []) ≡ (port.state.shut && has_ended ring)
@@ -30,7 +32,7 @@ other_fails true b fails holds = fails
 other_fails false b fails holds = absurd (true≢false (sym holds))
 
 -- what moved before has moved
-still_moved : (more : Bool) (port port_then : PortSide) (found found_then : Findings) → IsPortTurned more port port_then found found_then → found.moved ≡ true → found_then.moved ≡ true
+pub still_moved : (more : Bool) (port port_then : PortSide) (found found_then : Findings) → IsPortTurned more port port_then found found_then → found.moved ≡ true → found_then.moved ≡ true
 still_moved more port port_then found found_then turned moved = ⊎_elim
     (λ (m : HasPortMoved port port_then found found_then). ap (λ (f : Findings). f.moved) m.found_move)
     (λ (rest : IsPortFull port port_then found found_then ⊎ IsPortClear more port port_then found found_then). ⊎_elim
@@ -49,7 +51,7 @@ module _ (ring ring_then : RingSide) (port middle port_then : PortSide) where
 
   -- the causes that hold after the turn, and the host at rest
   abbrev pub causes_then : List (Option Cause)
-  causes_then = idle_causes (port_then ∷ []) (waits_for ∷ []) (ring_then ∷ [])
+  causes_then = idle_causes (port_then ∷ []) (None ∷ []) (ring_then ∷ [])
 
   abbrev pub done_then : Bool
   done_then = is_done (port_then ∷ []) (ring_then ∷ [])
@@ -115,7 +117,7 @@ module _ (ring ring_then : RingSide) (port middle port_then : PortSide) where
           cause,
           ap (λ (o : Option Cause). first_cause (o ∷ found_then.waits ∷ found_then.empty ∷ []))
               (ap (λ (f : Findings). f.full) full.found_full ∙ ap (λ (o : Option Cause). or_else o cause) (ap (λ (f : Findings). f.full) empty.found_empty)),
-          ap (λ b. first_cause ((if b then Some cause else None) ∷ waits_for ∷ empty_cause ring_then ∷ [])) full.rest,
+          ap (λ b. first_cause ((if b then Some cause else None) ∷ None ∷ empty_cause ring_then ∷ [])) full.rest,
         );
         at_rest = record {
           at_rest = record {
@@ -144,7 +146,7 @@ module _ (ring ring_then : RingSide) (port middle port_then : PortSide) where
             let unended : has_ended ring_then ≡ false = other_fails port_then.state.shut (has_ended ring_then) (sym (done_by_both port_then ring_then) ∙ undone) shut in (
               cause,
               ap (λ (f : Findings). first_cause (f.full ∷ f.waits ∷ f.empty ∷ [])) found_is,
-              ap (λ b. first_cause ((if b then Some (causes.Full port_then.plan.ring (length port_then.state.sent) port_then.taken) else None) ∷ waits_for ∷ empty_cause ring_then ∷ [])) (clear.rest refl)
+              ap (λ b. first_cause ((if b then Some (causes.Full port_then.plan.ring (length port_then.state.sent) port_then.taken) else None) ∷ None ∷ empty_cause ring_then ∷ [])) (clear.rest refl)
                   ∙ ap (λ b. first_cause ((if b then None else Some cause) ∷ [])) unended,
             );
         at_rest = record {
@@ -186,21 +188,55 @@ module _ (ring ring_then : RingSide) (port middle port_then : PortSide) where
       rest)
       here
 
-  -- at most one item was popped
-  one_popped : (popped : Bool) (found : Findings) → IsReceived ring ring_then no_findings found popped → length ring_then.received ≤ length ring.received + 1
-  one_popped true found received = let one = received.one in omega (arith, one)
-  one_popped false found received = let same = ap (λ (list : List Item). length list) received.same in omega (arith, same)
+  -- no more items were popped than a turn takes
+  pub few_popped : (popped : Bool) (found : Findings) → IsReceived ring ring_then no_findings found popped → HasFewMore ring ring_then
+  few_popped true found received = let one = received.one in omega (arith, one)
+  few_popped false found received = let same = ap (λ (list : List Item). length list) received.same in omega (arith, same)
 
   -- the ring was served
-  served_always : (popped : Bool) (found : Findings) → IsReceived ring ring_then no_findings found popped → IsRingServed ring ring_then
-  served_always true found received = inl received.one
-  served_always false found received = inr received.drained
+  pub ring_served : (popped : Bool) (found : Findings) → IsReceived ring ring_then no_findings found popped → IsRingServed ring ring_then
+  ring_served true found received = inl received.one
+  ring_served false found received = inr received.drained
 
   -- the turn, as it is answered
   pub ends_turned : (popped offered : Bool) (found_1 found_2 found_then : Findings) (answer : Turn) → IsReceived ring ring_then no_findings found_1 popped → IsIssued port middle found_1 found_2 offered
       → IsPortTurned found_2.moved middle port_then found_2 found_then → IsKeptPort port middle → IsKeptPort middle port_then
-      → IsTurnOf found_then (port_then.state.shut && has_ended ring_then) answer → IsPortServed port port_then → IsEndsTurn ring port answer ring_then port_then
-  ends_turned popped offered found_1 found_2 found_then answer received issued turned kept kept_then told port_served =
-      let said = answered_by found_then before after done_then causes_then AtRest answer (came_of popped offered found_1 found_2 found_then received issued turned kept kept_then)
-      (subst (λ d. IsTurnOf found_then d answer) (sym (done_by_both port_then ring_then)) told) in
-      record { answered = said.0; idle = said.1; one_item = one_popped popped found_1 received; port_served = port_served; ring_served = served_always popped found_1 received }
+      → IsTurnOf found_then (port_then.state.shut && has_ended ring_then) answer
+      → IsAnswered before after done_then causes_then answer × (answer ≢ Moved → AtRest)
+  ends_turned popped offered found_1 found_2 found_then answer received issued turned kept kept_then told =
+      answered_by found_then before after done_then causes_then AtRest answer (came_of popped offered found_1 found_2 found_then received issued turned kept kept_then)
+      (subst (λ d. IsTurnOf found_then d answer) (sym (done_by_both port_then ring_then)) told)
+
+-- a turn that didn't move found no move
+pub found_unmoved : (found : Findings) (done : Bool) (answer : Turn) → IsTurnOf found done answer → answer ≢ Moved → found.moved ≡ false
+found_unmoved found done Moved told ne = absurd (ne refl)
+found_unmoved found done Done told ne = told.0
+found_unmoved found done (Idle cause) told ne = told.0
+
+-- where a turn didn't move, nothing was popped
+pub none_popped : (ring ring_then : RingSide) (popped : Bool) (found found_then : Findings) → IsReceived ring ring_then found found_then popped → found_then.moved ≡ false → popped ≡ false
+none_popped ring ring_then true found found_then received unmoved = absurd (true≢false (sym (ap (λ (f : Findings). f.moved) received.found_move) ∙ unmoved))
+none_popped ring ring_then false found found_then received unmoved = refl
+
+-- nor offered
+pub none_offered : (port port_then : PortSide) (offered : Bool) (found found_then : Findings) → IsIssued port port_then found found_then offered → found_then.moved ≡ false → offered ≡ false
+none_offered port port_then true found found_then issued unmoved = absurd (true≢false (sym (ap (λ (f : Findings). f.moved) issued.found_move) ∙ unmoved))
+none_offered port port_then false found found_then issued unmoved = refl
+
+-- what hasn't moved behind a step hadn't before it
+pub unmoved_before : (now later : Bool) → (now ≡ true → later ≡ true) → later ≡ false → now ≡ false
+unmoved_before true later goes_on unmoved = absurd (true≢false (sym (goes_on refl) ∙ unmoved))
+unmoved_before false later goes_on unmoved = refl
+
+-- a port at which a host offered nothing rests
+pub rested_by_none : (port port_then : PortSide) (found found_then : Findings) → HasOfferedNone port port_then found found_then → IsKeptPort port port_then → IsRestedPort port port_then
+rested_by_none port port_then found found_then none kept = record {
+  plan = ap (λ (p : PortSide). p.plan) none.same;
+  mark = ap (λ (p : PortSide). p.mark) none.same;
+  sent = ap (λ (p : PortSide). p.state.sent) none.same;
+  waiting = ap (λ (p : PortSide). p.state.waiting) none.same;
+  shut = ap (λ (p : PortSide). p.state.shut) none.same;
+  claimed = ap (λ (p : PortSide). p.state.claimed) none.same;
+  still_told = kept.still_told;
+  learnt = kept.learnt;
+}

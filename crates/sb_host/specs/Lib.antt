@@ -4,7 +4,9 @@ pub mod Outcomes
 pub mod Rows
 pub mod Places
 pub mod Issuing
+pub mod Progress
 pub mod Steps
 pub mod Hosts
-pub mod SideOf
+pub mod Rested
+pub mod CoreOf
 pub mod SmallNetwork

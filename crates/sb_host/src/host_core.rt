@@ -1,37 +1,47 @@
 //! A host over ends of any kind.
 
+ghost use Rattle.std.specs.Prelude.{◌≡◌, ◌≢◌, ◌&&◌};
+ghost use Rattle.sb_link.specs.declared.answers.Turn.TheVariants.{Moved};
 ghost use Rattle.sb_host.specs.Hosts.{IsHostTurn, IsKeptHost, IsWholeHost};
+ghost use Rattle.sb_host.specs.Rested.{IsRestedHost};
 
-use crate::desk::Desk;
-use crate::serving::turn_ends;
+use crate::serving::{issue_next, receive};
+use crate::transactions::Transactions;
 use sb_link::{RxEnd, Turn, TxEnd};
-use sb_node::Seat;
+use sb_node::{Findings, turn_port};
 use sb_port::OutPort;
 
-/// A host over ends of any kind: what it asks for and what was answered, and the places of its two ends.
+/// A host over ends of any kind: its transactions, and its two ends.
 #[derive(Drop)]
 pub struct HostCore<T: TxEnd, U: RxEnd> {
-    pub desk: Desk,
-    pub requests: Seat<OutPort<T>>,
-    pub answers: Seat<U>,
+    pub transactions: Transactions,
+    pub requests: OutPort<T>,
+    pub answers: U,
 }
 
 impl<T: TxEnd, U: RxEnd> HostCore<T, U> {
-    ghost use Rattle.sb_host.specs.SideOf.{core_side};
+    ghost use Rattle.sb_host.specs.CoreOf.{core_side};
 
-    /// One turn. Takes no memory.
-    pub(crate) fn turn(&mut self) -> Turn
-        requires whole { IsWholeHost (core_side T.TxEnd U.RxEnd self.old) }
-        ensures turned { IsHostTurn (core_side T.TxEnd U.RxEnd self.old) result (core_side T.TxEnd U.RxEnd self.new) }
-        ensures kept { IsKeptHost (core_side T.TxEnd U.RxEnd self.old) (core_side T.TxEnd U.RxEnd self.new) }
-        ensures whole { IsWholeHost (core_side T.TxEnd U.RxEnd self.new) }
+    // the ring of answers gave Close, and the port sent its own
+    fn is_done(&self) -> bool
+        ensures { result ≡ (self.now.requests.state.shut && self.now.transactions.ended) }
     {
-        let Some(requests) = &mut self.requests.end else {
-            unreachable!();
-        };
-        let Some(answers) = &mut self.answers.end else {
-            unreachable!();
-        };
-        turn_ends(&mut self.desk, requests, answers)
+        self.requests.closed() && self.transactions.ended()
+    }
+
+    /// One turn: it takes what came, offers its next packet, and then turns its port. Takes no memory.
+    pub(crate) fn turn(&mut self, round: u32) -> Turn
+        requires whole { IsWholeHost (core_side U.RxEnd self.old) }
+        ensures turned { IsHostTurn (core_side U.RxEnd self.old) round result (core_side U.RxEnd self.new) }
+        ensures kept { IsKeptHost round (core_side U.RxEnd self.old) (core_side U.RxEnd self.new) }
+        ensures rested { result ≢ Moved → IsRestedHost (core_side U.RxEnd self.old) (core_side U.RxEnd self.new) }
+        ensures whole { IsWholeHost (core_side U.RxEnd self.new) }
+    {
+        let mut found = Findings::new();
+        let _popped = receive(&mut self.transactions, &mut self.answers, &mut found);
+        let _offered = issue_next(&mut self.transactions, &mut self.requests, &mut found);
+        let more = found.moved;
+        turn_port(&mut self.requests, more, &mut found);
+        found.turn(self.is_done())
     }
 }

@@ -1,6 +1,6 @@
 //! Laws of hosts.
 
-ghost use Rattle.std.specs.Prelude.{◌≡◌, ◌*◌, ℕ, true, None, Some, All, filter, is_some, slice_get};
+ghost use Rattle.std.specs.Prelude.{◌≡◌, ◌∷◌, ◌*◌, ℕ, List, true, None, Some, All, filter, is_some, length, slice_get};
 ghost use Rattle.sb_packet.specs.Rings.{ring_plan};
 ghost use Rattle.sb_packet.specs.Ways.{first_link};
 ghost use Rattle.sb_port.specs.Waiting.{IsWidth};
@@ -9,19 +9,27 @@ ghost use Rattle.sb_host.specs.Issuing.{IsMadeFor};
 ghost use Rattle.sb_packet.specs.Networks.{NetHost, Network, device_at};
 ghost use Rattle.sb_packet.specs.Prefixes.{IsPrefix};
 ghost use Rattle.sb_packet.specs.Scripts.{IsTransaction, script_accesses};
-ghost use Rattle.sb_packet.specs.Traffic.{has_close};
+ghost use Rattle.sb_packet.specs.Messages.{Message};
+ghost use Rattle.sb_packet.specs.Traffic.{MayPass, has_close};
 ghost use Rattle.sb_flow.specs.Ranges.{misplaced_device};
-ghost use Rattle.sb_node.specs.Kept.{IsRestoredPort, IsRestoredRing};
-ghost use Rattle.sb_node.specs.Sides.{PortSide, RingSide, offered_words};
+ghost use Rattle.sb_port.specs.Ports.{PortSide, let_go, offered_words};
+ghost use Rattle.sb_node.specs.Kept.{IsPortMet, IsRingMet};
+ghost use Rattle.sb_node.specs.Sides.{RingSide};
 ghost use Rattle.sb_host.specs.Asked.{asked_accesses, asked_by};
 ghost use Rattle.sb_host.specs.Hosts.{HostSide, IsWholeHost};
+ghost use Rattle.sb_host.specs.Progress.{left_of};
+ghost use Rattle.sb_host.specs.Rested.{IsRestedHost};
 
 /// What a host has offered begins its words that go to devices, and once it has told its port to close, or the Close was
-/// sent, it is all of them.
+/// sent, it is all of them. Its next packet passes, so none is dropped.
 pub fn hosts_offer_their_scripts()
-    ensures in_order { (h : HostSide) (port : PortSide) → IsWholeHost h → h.requests ≡ Some port → IsPrefix (offered_words port) (asked_accesses h.asked) }
-    ensures told { (h : HostSide) (port : PortSide) → IsWholeHost h → h.requests ≡ Some port → port.state.closing ≡ true → offered_words port ≡ asked_accesses h.asked }
-    ensures closed { (h : HostSide) (port : PortSide) → IsWholeHost h → h.requests ≡ Some port → has_close port.state.sent ≡ true → offered_words port ≡ asked_accesses h.asked }
+    ensures in_order { (h : HostSide) → IsWholeHost h → IsPrefix (offered_words h.requests) (asked_accesses h.transactions.asked) }
+    ensures told { (h : HostSide) → IsWholeHost h → h.requests.state.closing ≡ true
+        → offered_words h.requests ≡ asked_accesses h.transactions.asked }
+    ensures closed { (h : HostSide) → IsWholeHost h → has_close h.requests.state.sent ≡ true
+        → offered_words h.requests ≡ asked_accesses h.transactions.asked }
+    ensures passes { (h : HostSide) (m : Message) (rest : List Message) → IsWholeHost h → left_of h.transactions ≡ m ∷ rest
+        → MayPass h.requests.plan (length (offered_words h.requests)) m }
 {}
 
 /// The words of a host that go to devices are those of its script whose address a device has: each transaction lies in
@@ -31,13 +39,21 @@ pub fn hosts_ask_what_their_scripts_aim_at()
         → asked_accesses (asked_by network host) ≡ filter (λ a. is_some (device_at network a.dst)) (script_accesses host) }
 {}
 
-/// A host whose ring's end or port was taken out is whole again once it is put back as it was, but for what it has
-/// learnt.
-pub fn host_is_whole_again()
-    ensures ring { (h : HostSide) (ring ring_then : RingSide) → IsWholeHost h → h.answers ≡ Some ring → IsRestoredRing ring ring_then
-        → IsWholeHost (record h { answers = Some ring_then }) }
-    ensures port { (h : HostSide) (port port_then : PortSide) → IsWholeHost h → h.requests ≡ Some port → IsRestoredPort port port_then
-        → IsWholeHost (record h { requests = Some port_then }) }
+/// A host whose ring or port has met the other end is whole still.
+pub fn host_stays_whole()
+    ensures ring { (h : HostSide) (ring : RingSide) → IsWholeHost h → IsRingMet h.answers ring → IsWholeHost (record h { answers = ring }) }
+    ensures port { (h : HostSide) (port : PortSide) → IsWholeHost h → IsPortMet h.requests port → IsWholeHost (record h { requests = port }) }
+{}
+
+/// Where a host didn't move, what it sent, received, offered and let go stays, and so do the packets that are left and the
+/// answers that it keeps.
+pub fn unmoved_hosts_are_still()
+    ensures sent { (before after : HostSide) → IsRestedHost before after → after.requests.state.sent ≡ before.requests.state.sent }
+    ensures received { (before after : HostSide) → IsRestedHost before after → after.answers.received ≡ before.answers.received }
+    ensures offered { (before after : HostSide) → IsRestedHost before after → offered_words after.requests ≡ offered_words before.requests }
+    ensures let_go { (before after : HostSide) → IsRestedHost before after → let_go after.requests.state ≡ let_go before.requests.state }
+    ensures left { (before after : HostSide) → IsRestedHost before after → left_of after.transactions ≡ left_of before.transactions }
+    ensures kept { (before after : HostSide) → IsRestedHost before after → after.transactions.rows ≡ before.transactions.rows }
 {}
 
 /// In an accepted network the ring of requests of a host's own link is made for the host: for each of its packets, and for

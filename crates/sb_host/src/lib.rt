@@ -2,7 +2,6 @@
 #![tactic(auto)]
 
 mod cursor;
-mod desk;
 mod host;
 mod host_core;
 #[cfg(test)]
@@ -18,9 +17,11 @@ mod serving;
 mod table;
 #[cfg(test)]
 mod tests;
+mod transactions;
 
-pub use host::Host;
+pub use host::{Host, HostParts};
 pub use laws::{
-    host_is_whole_again, hosts_ask_what_their_scripts_aim_at, hosts_offer_their_scripts,
-    own_rings_are_made_for_hosts,
+    host_stays_whole, hosts_ask_what_their_scripts_aim_at, hosts_offer_their_scripts,
+    own_rings_are_made_for_hosts, unmoved_hosts_are_still,
 };
+pub use transactions::Transactions;

@@ -1,0 +1,93 @@
+-- A host stays in order where it passes over transactions, offers its next packet, and tells its port to close.
+use Rattle.std.proofs.Common.{◌≡◌, ◌≤◌, ◌∷◌, ◌++◌, ℕ, List, [], Bool, true, false, true≢false, length, sym, ap, subst, ◌∙◌, arith, append-nil}
+use Rattle.std.specs.Prelude.{flat_map}
+use Rattle.sb_packet.specs.Accesses.{Access, message_accesses}
+use Rattle.sb_packet.specs.Messages.{Message}
+use Rattle.sb_packet.specs.Plans.{RingPlan}
+use Rattle.sb_packet.specs.Prefixes.{IsPrefix}
+use Rattle.sb_port.specs.Ports.{PortSide, offered_words}
+use Rattle.sb_node.specs.Sides.{RingSide}
+use Rattle.sb_host.specs.Hosts.{IsInOrder}
+use Rattle.sb_host.specs.Issuing.{HasComeTo, HasOffered, IsMadeFor}
+use Rattle.sb_host.specs.Progress.{TransactionsSide, left_of}
+use Rattle.sb_host.proofs.Offering.{none_left}
+use Rattle.sb_host.proofs.Passing.{next_offered}
+
+-- the words of the first packet that was left come behind those that were offered
+pub offered_first : (m first : Message) (rest others left : List Message) (words words_then : List Access) → left ≡ first ∷ others → words_then ≡ words ++ message_accesses first
+    → left ≡ m ∷ rest → IsPrefix (words ++ message_accesses m) words_then
+offered_first m first rest others left words words_then is behind here =
+    let both : first ∷ others ≡ m ∷ rest = sym is ∙ here in
+    let same : first ≡ m = cc in
+    let joined : words_then ≡ words ++ message_accesses m = behind ∙ ap (λ (x : Message). words ++ message_accesses x) same in
+    record { rest = []; joined = append-nil (words ++ message_accesses m) ∙ sym joined }
+
+-- behind the last transaction no packet is left
+pub some_left : (t : TransactionsSide) (m : Message) (rest : List Message) → HasComeTo t.asked t.next t.part → length t.asked.lines ≤ t.next → left_of t ≡ m ∷ rest → ⊥
+some_left t m rest come past left =
+    let within = come.within in
+    let all : t.next ≡ length t.asked.lines = omega (arith, within, past) in
+    let none = none_left t.asked t.next t.part all in
+    let both : m ∷ rest ≡ [] = sym left ∙ none in
+    absurd (cc)
+
+module _ (t t_then : TransactionsSide) (port port_then : PortSide) (ring : RingSide) where
+  -- it passed over transactions of which no packet is left
+  pub passed_in_order : t_then ≡ record t { next = t_then.next } → HasComeTo t_then.asked t_then.next t_then.part → t.next ≤ t_then.next → left_of t_then ≡ left_of t
+      → IsInOrder t port ring → IsInOrder t_then port ring
+  passed_in_order is come onward left o =
+      let n = t_then.next in
+      let come_here : HasComeTo t.asked n t.part = subst (λ (x : TransactionsSide). HasComeTo x.asked x.next x.part) is come in
+      let left_here : left_of (record t { next = n }) ≡ left_of t = subst (λ (x : TransactionsSide). left_of x ≡ left_of t) is left in
+      subst (λ (x : TransactionsSide). IsInOrder x port ring) (sym is) (record {
+        issuable = o.issuable;
+        made = o.made;
+        come = come_here;
+        offered = ap (λ (list : List Message). offered_words port ++ flat_map message_accesses list) left_here ∙ o.offered;
+        closes = λ told. let all = o.closes told in let within = come_here.within in omega (arith, all, within, onward);
+        table = o.table;
+        ends = o.ends;
+      })
+
+  -- it offered the first packet that was left
+  pub offered_in_order : (m : Message) → t_then ≡ record t { next = t_then.next; part = t_then.part } → HasComeTo t_then.asked t_then.next t_then.part → left_of t ≡ m ∷ left_of t_then
+      → port_then.plan ≡ port.plan → port_then.state.closing ≡ false → offered_words port_then ≡ offered_words port ++ message_accesses m
+      → IsInOrder t port ring → IsInOrder t_then port_then ring
+  offered_in_order m is come left plan untold words o =
+      let n = t_then.next in
+      let k = t_then.part in
+      let left_here : left_of t ≡ m ∷ left_of (record t { next = n; part = k }) = subst (λ (x : TransactionsSide). left_of t ≡ m ∷ left_of x) is left in
+      subst (λ (x : TransactionsSide). IsInOrder x port_then ring) (sym is) (record {
+        issuable = o.issuable;
+        made = subst (λ (p : RingPlan). IsMadeFor p t.asked) (sym plan) o.made;
+        come = subst (λ (x : TransactionsSide). HasComeTo x.asked x.next x.part) is come;
+        offered = subst (λ (list : List Access). HasOffered t.asked n k list) (sym words) (next_offered t.asked t.next t.part n k (offered_words port) m o.offered left_here);
+        closes = λ told. absurd (true≢false (sym told ∙ untold));
+        table = o.table;
+        ends = o.ends;
+      })
+
+  -- it told its port to close, behind the last packet
+  pub told_in_order : port_then ≡ record port { state = record port.state { closing = true } } → t.next ≡ length t.asked.lines → IsInOrder t port ring → IsInOrder t port_then ring
+  told_in_order is all o = subst (λ (p : PortSide). IsInOrder t p ring) (sym is) (record {
+    issuable = o.issuable;
+    made = o.made;
+    come = o.come;
+    offered = o.offered;
+    closes = λ told. all;
+    table = o.table;
+    ends = o.ends;
+  })
+
+-- a turn of its port changes nothing of that
+pub turned_in_order : (t : TransactionsSide) (port port_then : PortSide) (ring : RingSide) → port_then.plan ≡ port.plan → offered_words port_then ≡ offered_words port
+    → port_then.state.closing ≡ port.state.closing → IsInOrder t port ring → IsInOrder t port_then ring
+turned_in_order t port port_then ring plan words told o = record {
+  issuable = o.issuable;
+  made = subst (λ (p : RingPlan). IsMadeFor p t.asked) (sym plan) o.made;
+  come = o.come;
+  offered = subst (λ (list : List Access). HasOffered t.asked t.next t.part list) (sym words) o.offered;
+  closes = λ closing. o.closes (sym told ∙ closing);
+  table = o.table;
+  ends = o.ends;
+}

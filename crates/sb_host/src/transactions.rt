@@ -1,0 +1,139 @@
+//! A host's transactions.
+
+ghost use Rattle.std.specs.Prelude.{◌≡◌, ◌≤◌, ◌<◌, ◌++◌, List, [], ◌∷◌, IfOk, true, false, length, slice_index_or};
+ghost use Rattle.sb_packet.specs.Accesses.{Access, accesses_of};
+ghost use Rattle.sb_packet.specs.Messages.{message_of};
+ghost use Rattle.sb_packet.specs.Outcomes.{Outcome};
+ghost use Rattle.sb_host.specs.Issuing.{HasComeTo};
+ghost use Rattle.sb_host.specs.Outcomes.{outcomes_so_far};
+ghost use Rattle.sb_host.specs.Places.{asked_of};
+ghost use Rattle.sb_host.specs.Progress.{IsNextAimed, left_of};
+ghost use Rattle.sb_host.specs.Rows.{IsTable};
+
+use crate::cursor::Cursor;
+use crate::orders::Orders;
+use crate::table::Table;
+use sb_packet::{Packet, TxnState};
+use std::alloc::{AllocError, Global};
+use std::marker::Model;
+
+/// A host's transactions: what it asks for, how far it has come with that, and what was answered.
+#[derive(Drop)]
+pub struct Transactions {
+    orders: Orders,
+    cursor: Cursor,
+    table: Table,
+    // the ring of answers gave Close
+    ended: bool,
+}
+
+impl Model for Transactions {
+    ghost use Rattle.std.specs.Prelude.{◌≡◌, length};
+    ghost use Rattle.sb_host.specs.Progress.{TransactionsSide};
+
+    ghost Value = { TransactionsSide };
+
+    ghost use Rattle.sb_host.specs.Places.{asked_of};
+
+    ghost view = { λ t. record { asked = asked_of t.orders; rows = t.table.rows.items; next = t.cursor.next; part = t.cursor.part; ended = t.ended } };
+
+    // the table has a row for each transaction
+    ghost invariant = { λ t. length t.table.rows.items ≡ length t.orders.lines.items };
+}
+
+impl Transactions {
+    /// Transactions of which nothing was issued or answered. All memory that they will ever need is taken here.
+    ///
+    /// # Errors
+    ///
+    /// `AllocError` where there isn't enough memory.
+    pub(crate) fn new(alloc: Global, orders: Orders) -> Result<Transactions, AllocError>
+        ensures fresh { IfOk result (λ t. t ≡ record { asked = asked_of orders; rows = t.rows; next = 0; part = 0; ended = false }) }
+        ensures table { IfOk result (λ t. IsTable t.asked [] t.rows) }
+    {
+        let table = Table::new(alloc, &orders)?;
+        Ok(Transactions {
+            orders,
+            cursor: Cursor { next: 0, part: 0 },
+            table,
+            ended: false,
+        })
+    }
+
+    /// How far the transaction at that place of the script has come.
+    pub fn state(&self, index: u32) -> TxnState
+        requires index { index < length self.now.asked.lines }
+        ensures state { (received : List Access) (none : Outcome) → IsTable self.now.asked received self.now.rows
+            → (slice_index_or (outcomes_so_far self.now.asked received self.now.next) index none).state ≡ result }
+    {
+        self.table
+            .state(&self.orders, self.cursor.next, index as usize)
+    }
+
+    /// The bytes that were answered to it; none where it isn't answered.
+    pub fn body(&self, index: u32) -> &[u8]
+        requires index { index < length self.now.asked.lines }
+        ensures body { (received : List Access) (none : Outcome) → IsTable self.now.asked received self.now.rows
+            → (slice_index_or (outcomes_so_far self.now.asked received self.now.next) index none).body ≡ result.now }
+    {
+        self.table
+            .body(&self.orders, self.cursor.next, index as usize)
+    }
+
+    /// The ring of answers gave Close.
+    pub(crate) fn ended(&self) -> bool
+        ensures ended { result ≡ self.now.ended }
+    {
+        self.ended
+    }
+
+    /// Notes that the ring of answers gave Close.
+    pub(crate) fn end(&mut self)
+        ensures ended { self.new ≡ record self.old { ended = true } }
+    {
+        self.ended = true;
+    }
+
+    /// Takes each word of an answer that answers a word of a script which misses its answer, and drops the others.
+    pub(crate) fn take(&mut self, answer: &Packet)
+        requires table { (received : List Access) × IsTable self.old.asked received self.old.rows }
+        ensures taken { (received : List Access) → IsTable self.old.asked received self.old.rows
+            → IsTable self.old.asked (received ++ accesses_of answer.now) self.new.rows }
+        ensures rest { self.new ≡ record self.old { rows = self.new.rows } }
+    {
+        self.table.take(&self.orders, answer);
+    }
+
+    /// A transaction is left whose packets aren't all issued.
+    pub(crate) fn any_left(&self) -> bool
+        ensures some { result ≡ true → self.now.next < length self.now.asked.lines }
+        ensures none { result ≡ false → length self.now.asked.lines ≤ self.now.next }
+    {
+        self.cursor.next < self.orders.lines.len()
+    }
+
+    /// Passes over the transactions that are next and aimed at no device.
+    pub(crate) fn pass_over(&mut self)
+        requires come { HasComeTo self.old.asked self.old.next self.old.part }
+        ensures come { HasComeTo self.new.asked self.new.next self.new.part }
+        ensures onward { self.old.next ≤ self.new.next }
+        ensures left { left_of self.new ≡ left_of self.old }
+        ensures aimed { IsNextAimed self.new }
+        ensures rest { self.new ≡ record self.old { next = self.new.next } }
+    {
+        self.cursor.pass_over(&self.orders);
+    }
+
+    /// The next packet, of a transaction that is aimed at a device, and goes on behind it.
+    pub(crate) fn issue(&mut self) -> Packet
+        requires come { HasComeTo self.old.asked self.old.next self.old.part }
+        requires some { self.old.next < length self.old.asked.lines }
+        requires aimed { IsNextAimed self.old }
+        ensures packet { left_of self.old ≡ message_of result ∷ left_of self.new }
+        ensures come { HasComeTo self.new.asked self.new.next self.new.part }
+        ensures onward { self.old.next ≤ self.new.next }
+        ensures rest { self.new ≡ record self.old { next = self.new.next; part = self.new.part } }
+    {
+        self.cursor.issue(&self.orders)
+    }
+}
