@@ -66,16 +66,16 @@ rings_of_lane s t h =
           (subst (λ y. IsKeptRing (inlet_at s k).ring y) (sym (get_or-map ring t.inlets k no_inlet no_ring (omega (arith, lt, first, same)))) (h.inlets k).ring);
     }
 
-router_ports_kept : (round : ℕ) (x y : RouterSide) → IsKeptRouter round x y → AreKept IsKeptPort (router_ports x) (router_ports y) no_port
-router_ports_kept round x y h = both_kept IsKeptPort no_port _ _ _ _ (ports_of_lane x.requests.lane y.requests.lane h.requests.lane) (ports_of_lane x.answers.lane y.answers.lane h.answers.lane)
+router_ports_kept : (x y : RouterSide) → IsKeptRouter x y → AreKept IsKeptPort (router_ports x) (router_ports y) no_port
+router_ports_kept x y h = both_kept IsKeptPort no_port _ _ _ _ (ports_of_lane x.requests.lane y.requests.lane h.requests.lane) (ports_of_lane x.answers.lane y.answers.lane h.answers.lane)
 
-router_rings_kept : (round : ℕ) (x y : RouterSide) → IsKeptRouter round x y → AreKept IsKeptRing (router_rings x) (router_rings y) no_ring
-router_rings_kept round x y h = both_kept IsKeptRing no_ring _ _ _ _ (rings_of_lane x.requests.lane y.requests.lane h.requests.lane) (rings_of_lane x.answers.lane y.answers.lane h.answers.lane)
+router_rings_kept : (x y : RouterSide) → IsKeptRouter x y → AreKept IsKeptRing (router_rings x) (router_rings y) no_ring
+router_rings_kept x y h = both_kept IsKeptRing no_ring _ _ _ _ (rings_of_lane x.requests.lane y.requests.lane h.requests.lane) (rings_of_lane x.answers.lane y.answers.lane h.answers.lane)
 
 module _ {F T U : Type 0} where
   pub ports_kept : (round : ℕ) (x y : Member F T U) → IsKeptMember round x y → AreKept IsKeptPort (ports_of x) (ports_of y) no_port
   ports_kept round (Host x) (Host y) h = one_kept IsKeptPort no_port x.requests y.requests h.requests
-  ports_kept round (Router x) (Router y) h = router_ports_kept round x y h
+  ports_kept round (Router x) (Router y) h = router_ports_kept x y h
   ports_kept round (Device x) (Device y) h = one_kept IsKeptPort no_port x.answers y.answers h.answers
   ports_kept round (Host x) (Router y) h = absurd h
   ports_kept round (Host x) (Device y) h = absurd h
@@ -86,7 +86,7 @@ module _ {F T U : Type 0} where
 
   pub rings_kept : (round : ℕ) (x y : Member F T U) → IsKeptMember round x y → AreKept IsKeptRing (rings_of x) (rings_of y) no_ring
   rings_kept round (Host x) (Host y) h = one_kept IsKeptRing no_ring x.answers y.answers h.answers
-  rings_kept round (Router x) (Router y) h = router_rings_kept round x y h
+  rings_kept round (Router x) (Router y) h = router_rings_kept x y h
   rings_kept round (Device x) (Device y) h = one_kept IsKeptRing no_ring x.requests y.requests h.requests
   rings_kept round (Host x) (Router y) h = absurd h
   rings_kept round (Host x) (Device y) h = absurd h

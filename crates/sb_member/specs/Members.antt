@@ -4,8 +4,9 @@ use Rattle.sb_link.specs.declared.answers.Turn.{Turn}
 use Rattle.sb_host.specs.Hosts.{HostSide, IsHostTurn, IsKeptHost, IsWholeHost, kept_host_same, kept_host_then}
 use Rattle.sb_host.specs.Rested.{IsRestedHost, rested_host_same, rested_host_then}
 use Rattle.sb_router.specs.Routers.{RouterSide, IsRouterTurn, IsKeptRouter, IsWholeRouter, kept_router_same, kept_router_then}
-use Rattle.sb_router.specs.Rested.{IsRestedRouter, rested_router_same, rested_router_then}
-use Rattle.sb_device.specs.Devices.{DeviceSide, IsDeviceTurn, IsKeptDevice, IsWholeDevice, kept_device_same, kept_device_then}
+use Rattle.sb_router.specs.RestedRouters.{IsRestedRouter, rested_router_same, rested_router_then}
+use Rattle.sb_device.specs.Sides.{DeviceSide}
+use Rattle.sb_device.specs.Devices.{IsDeviceTurn, IsKeptDevice, IsWholeDevice, kept_device_same, kept_device_then}
 use Rattle.sb_device.specs.Rested.{IsRestedDevice, rested_device_same, rested_device_then}
 use Rattle.sb_member.specs.declared.member.Member.{Member}
 use Rattle.sb_member.specs.declared.member.Member.TheVariants.{Host, Router, Device}
@@ -57,22 +58,22 @@ module _ (host : HostSide → HostSide → Type 0) (router : RouterSide → Rout
 
 module _ {F T U : Type 0} where
   abbrev pub IsKeptMember : ℕ → Member F T U → Member F T U → Type 0
-  IsKeptMember round x y = ByKind (IsKeptHost round) (IsKeptRouter round) (IsKeptDevice round) x y
+  IsKeptMember round x y = ByKind (IsKeptHost round) IsKeptRouter (IsKeptDevice round) x y
 
   abbrev pub IsRestedMember : Member F T U → Member F T U → Type 0
   IsRestedMember x y = ByKind IsRestedHost IsRestedRouter IsRestedDevice x y
 
   abbrev pub IsMemberTurn : ℕ → Member F T U → Turn → Member F T U → Type 0
-  IsMemberTurn round x answer y = ByKind (λ x y. IsHostTurn round x answer y) (λ x y. IsRouterTurn x answer y) (λ x y. IsDeviceTurn x answer y) x y
+  IsMemberTurn round x answer y = ByKind (λ x y. IsHostTurn x round answer y) (λ x y. IsRouterTurn x answer y) (λ x y. IsDeviceTurn x answer y) x y
 
   pub kept_member_same : (round : ℕ) (x : Member F T U) → IsKeptMember round x x
-  kept_member_same round x = by_kind_same (IsKeptHost round) (IsKeptRouter round) (IsKeptDevice round) (kept_host_same round) (kept_router_same round) (kept_device_same round) x
+  kept_member_same round x = by_kind_same (IsKeptHost round) IsKeptRouter (IsKeptDevice round) (kept_host_same round) kept_router_same (kept_device_same round) x
 
   pub kept_member_then : (round : ℕ) (x y z : Member F T U) → IsKeptMember round x y → IsKeptMember round y z → IsKeptMember round x z
-  kept_member_then round x y z a b = by_kind_then (IsKeptHost round) (IsKeptRouter round) (IsKeptDevice round) (kept_host_then round) (kept_router_then round) (kept_device_then round) x y z a b
+  kept_member_then round x y z a b = by_kind_then (IsKeptHost round) IsKeptRouter (IsKeptDevice round) (kept_host_then round) kept_router_then (kept_device_then round) x y z a b
 
   pub rested_member_same : (x : Member F T U) → IsRestedMember x x
   rested_member_same x = by_kind_same IsRestedHost IsRestedRouter IsRestedDevice rested_host_same rested_router_same rested_device_same x
 
   pub rested_member_then : (x y z : Member F T U) → IsRestedMember x y → IsRestedMember y z → IsRestedMember x z
-  rested_member_then x y z a b = by_kind_then IsRestedHost IsRestedRouter IsRestedDevice rested_host_then rested_router_then rested_device_then x y z a b
+  rested_member_then x y z a b = by_kind_then IsRestedHost IsRestedRouter IsRestedDevice (λ x y z. rested_host_then) rested_router_then rested_device_then x y z a b

@@ -2,20 +2,20 @@
 use Rattle.std.proofs.Common.{◌≡◌, ◌<◌, ℕ, true, false, List, [], ◌∷◌, ◌++◌, length, refl, sym, ap, ◌∙◌, arith, subst, inl, inr}
 use Rattle.std.specs.Prelude.{◌⊎◌, flat_map, Some, None}
 use Rattle.std.proofs.lemmas.List.Elements.{All-head}
+use Rattle.sb_device.specs.Sides.{DeviceSide}
 use Rattle.sb_device.specs.Served.{AreSound, HasServed, entry_accesses, entry_packets, item_packets, answers_to}
 use Rattle.sb_node.specs.Idle.{IsIdleAt}
 use Rattle.sb_node.specs.Steps.{IsBlockedPort}
-use Rattle.sb_node.specs.Sides.{PortSide, RingSide, has_rest, is_full, has_ended, is_drained}
+use Rattle.sb_node.specs.Sides.{RingSide, has_rest, is_full, has_ended, is_drained}
 use Rattle.sb_packet.specs.Accesses.{Access, accesses_of}
 use Rattle.sb_packet.specs.Journals.{journal_accesses}
-use Rattle.sb_packet.specs.Memories.{MemoryState}
 use Rattle.sb_packet.specs.Networks.{Network, opening_memory}
 use Rattle.sb_packet.specs.Plans.{NetFlow}
 use Rattle.sb_packet.specs.Traffic.{has_close, item_accesses}
 use Rattle.sb_packet.specs.declared.entry.Entry.{Entry}
 use Rattle.sb_packet.specs.declared.item.Item.{Item}
 use Rattle.sb_packet.specs.declared.item.Item.TheVariants as items
-use Rattle.sb_port.specs.Ports.{IsFit}
+use Rattle.sb_port.specs.Ports.{IsFit, PortSide}
 use Rattle.sb_net.specs.Flows.{device_answers}
 use Rattle.sb_net.specs.Courses.{budget_over}
 use Rattle.sb_net.specs.Layouts.{Layout}
@@ -26,12 +26,12 @@ use Rattle.sb_net.specs.Stages.{Stages}
 use Rattle.sb_net.specs.Standstills.{IsIdleReceiver, IsIdleSender, IsBlocked, RoundEnd}
 use Rattle.sb_net.proofs.SidePromises.{idle_port}
 
-pub device_promise : (network : Network) (layout : Layout) (journal entries : List Entry) (m : Moment) (f : NetFlow) (memory : MemoryState) (ring : RingSide) (port : PortSide) →
-    HasRing m (layout.into f.device) ring → HasPort m (layout.answers.first f) port → port.plan.budget ≡ budget_over layout.answers (layout.answers.first f) →
-    journal_accesses journal f.device ≡ entry_accesses entries → HasServed (opening_memory network f.device) memory entries ring port → IsDevice network layout journal m f
-device_promise network layout journal entries m f memory ring port got has budget same served = record {
+pub device_promise : (network : Network) (layout : Layout) (journal : List Entry) (m : Moment) (f : NetFlow) (device : DeviceSide) →
+    HasRing m (layout.into f.device) device.requests → HasPort m (layout.answers.first f) device.answers → device.answers.plan.budget ≡ budget_over layout.answers (layout.answers.first f) →
+    journal_accesses journal f.device ≡ entry_accesses device.journal.entries → HasServed (opening_memory network f.device) device → IsDevice network layout journal m f
+device_promise network layout journal m f device got has budget same served = record {
   whole = λ sound few.
-      let given : device_answers network journal f.device ≡ answers_to (opening_memory network f.device) (entry_accesses entries) = ap (answers_to (opening_memory network f.device)) same in
+      let given : device_answers network journal f.device ≡ answers_to (opening_memory network f.device) (entry_accesses device.journal.entries) = ap (answers_to (opening_memory network f.device)) same in
       has.offered ∙ served.answered_all (subst AreSound got.received sound) (let long = ap length given in omega arith) ∙ sym given;
 }
 

@@ -89,8 +89,8 @@ module _ (network : Network) (routed : IsRouted network) where
     belongs h built = record {
       listed = (place, inside, get_or_from_slice_get network.hosts place host host at);
       asked = built.asked host at;
-      asks = All-map (λ f. f.host ≡ host.id → (network_layout network).requests.first f ≡ h.asks_by) flow_of (network_ways network) (λ k d below mine. way_first k d below mine ∙ sym (built.asks_by link first));
-      answered = All-map (λ f. f.host ≡ host.id → ring_home (network_layout network) f ≡ h.answered_by) flow_of (network_ways network) (λ k d below mine. way_home k d below mine ∙ sym (built.answered_by link first));
+      asks = All-map (λ f. f.host ≡ host.id → (network_layout network).requests.first f ≡ h.requests.plan.ring) flow_of (network_ways network) (λ k d below mine. way_first k d below mine ∙ sym (built.asks_by link first));
+      answered = All-map (λ f. f.host ≡ host.id → ring_home (network_layout network) f ≡ h.answers.plan.ring) flow_of (network_ways network) (λ k d below mine. way_home k d below mine ∙ sym (built.answered_by link first));
     }
 
   -- where each host stands so, each flow's host keeps its promise
@@ -101,6 +101,6 @@ module _ (network : Network) (routed : IsRouted network) where
       let w = all_host_ways network k d below in
       let n = w.place in
       let s = stand n w.inside in
-      let of_all = host_promise offer offer_all network (network_layout network) m way.host (hosts n) s.whole.port routed.scripts routed.pages (belongs n way.host w.at (hosts n) s.built) s.whole s.whole.has_port (s.has s.whole.port s.whole.has_port) in
+      let of_all = host_promise offer offer_all network (network_layout network) m way.host (hosts n) routed.scripts routed.pages (belongs n way.host w.at (hosts n) s.built) s.whole s.has in
       let at = of_all k (flow_of d) (omega (arith, below, length-map (network_ways network) flow_of)) in
       subst (λ (f : NetFlow). f.host ≡ way.host.id → IsHost network (network_layout network) m f) (get_or-map flow_of (network_ways network) k d (flow_of d) below) at refl)

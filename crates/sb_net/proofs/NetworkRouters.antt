@@ -8,7 +8,8 @@ use Rattle.sb_packet.specs.Plans.{RingPlan}
 use Rattle.sb_packet.specs.Rings.{link_ways, ring_budget}
 use Rattle.sb_packet.specs.Ways.{is_some_number, router_after, router_before}
 use Rattle.sb_router.specs.Forwarding.{IsLaid}
-use Rattle.sb_router.specs.Lanes.{OutletState}
+use Rattle.sb_port.specs.Ports.{PortSide}
+use Rattle.sb_router.specs.Lanes.{}
 use Rattle.sb_router.specs.RouteOf.{route_of}
 use Rattle.sb_router.specs.Routers.{DirectionSide}
 use Rattle.sb_net.specs.Courses.{Course, budget_over, flows_over, goes_over}
@@ -37,8 +38,8 @@ router_of network c ins outs d built rings = record {
   budgets = λ i y below. ap (λ (plan : RingPlan). plan.budget) (built.out_plans i y below) ∙ (at i y below).budget;
 }
   where
-    at : All (λ y. IsOutRing network c ins y.number) d.lane.outlets
-    at = All-unmap (IsOutRing network c ins) (λ (y : OutletState). y.number) d.lane.outlets (subst (All (IsOutRing network c ins)) (sym built.sends_by) rings)
+    at : All (λ y. IsOutRing network c ins y.plan.ring) d.lane.outlets
+    at = All-unmap (IsOutRing network c ins) (λ (y : PortSide). y.plan.ring) d.lane.outlets (subst (All (IsOutRing network c ins)) (sym built.sends_by) rings)
 
 module _ (network : Network) (routed : IsRouted network) where
   ways : HasWays network

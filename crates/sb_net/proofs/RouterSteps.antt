@@ -10,7 +10,8 @@ use Rattle.sb_packet.specs.Plans.{NetFlow, RingPlan, goes_through}
 use Rattle.sb_packet.specs.Rings.{flow_table, ring_flows, ring_plan, ring_ways}
 use Rattle.sb_packet.specs.Ways.{NetWay}
 use Rattle.sb_router.specs.Forwarding.{HasForwarded, Passes, Words}
-use Rattle.sb_router.specs.Lanes.{InletState, OutletState, inlet_at, no_inlet, no_outlet, outlet_at}
+use Rattle.sb_port.specs.Ports.{PortSide}
+use Rattle.sb_router.specs.Lanes.{InletState, inlet_at, no_inlet, no_port, outlet_at}
 use Rattle.sb_router.specs.RouteOf.{route_of}
 use Rattle.sb_router.specs.Routers.{DirectionSide, ForwardsAll}
 use Rattle.sb_net.specs.Courses.{Course}
@@ -76,7 +77,7 @@ RoutersHandOn = (words : Words) (d : DirectionSide) (f : NetFlow) (i o : ℕ) �
 pub one_step : RoutersHandOn → (network : Network) (c : Course) (m : Moment) (ins outs : List ℕ) (d : DirectionSide) → IsRouterAt network c m ins outs d → IsRouterOf c outs d.lane → (f : NetFlow) (a b : ℕ) →
     is_in a ins ≡ true → is_in b outs ≡ true → goes_through (ring_flows network a) f ≡ true → goes_through (ring_flows network b) f ≡ true → Forwards network c m f a b
 one_step hand_on network c m ins outs d at of f a b comes goes by_in by_out =
-    subst (λ (n : ℕ). Forwards network c m f n b) in_number (subst (Forwards network c m f (inlet_at d.lane i).number) out_number
+    subst (λ (n : ℕ). Forwards network c m f n b) in_number (subst (Forwards network c m f (inlet_at d.lane i).ring.plan.ring) out_number
     (router_promise network c m outs (route_of d.rows) d.lane at.has of at.whole f i o passes (hand_on _ d f i o at.forwards passes)))
   where
     in_place : (i : ℕ) × (i < length ins) × (get_or ins i 0 ≡ a)
@@ -92,22 +93,22 @@ one_step hand_on network c m ins outs d at of f a b comes goes by_in by_out =
     o = out_place.0
 
     i_within : i < length d.lane.inlets
-    i_within = let below = in_place.1 in omega (arith, below, ap length at.built.comes_by, length-map d.lane.inlets (λ (x : InletState). x.number))
+    i_within = let below = in_place.1 in omega (arith, below, ap length at.built.comes_by, length-map d.lane.inlets (λ (x : InletState). x.ring.plan.ring))
 
     o_within : o < length d.lane.outlets
-    o_within = let below = out_place.1 in omega (arith, below, ap length at.built.sends_by, length-map d.lane.outlets (λ (y : OutletState). y.number))
+    o_within = let below = out_place.1 in omega (arith, below, ap length at.built.sends_by, length-map d.lane.outlets (λ (y : PortSide). y.plan.ring))
 
-    in_number : (inlet_at d.lane i).number ≡ a
-    in_number = sym (get_or-map (λ (x : InletState). x.number) d.lane.inlets i no_inlet 0 i_within) ∙ ap (λ (l : List ℕ). get_or l i 0) at.built.comes_by ∙ in_place.2
+    in_number : (inlet_at d.lane i).ring.plan.ring ≡ a
+    in_number = sym (get_or-map (λ (x : InletState). x.ring.plan.ring) d.lane.inlets i no_inlet 0 i_within) ∙ ap (λ (l : List ℕ). get_or l i 0) at.built.comes_by ∙ in_place.2
 
-    out_number : (outlet_at d.lane o).number ≡ b
-    out_number = sym (get_or-map (λ (y : OutletState). y.number) d.lane.outlets o no_outlet 0 o_within) ∙ ap (λ (l : List ℕ). get_or l o 0) at.built.sends_by ∙ out_place.2
+    out_number : (outlet_at d.lane o).plan.ring ≡ b
+    out_number = sym (get_or-map (λ (y : PortSide). y.plan.ring) d.lane.outlets o no_port 0 o_within) ∙ ap (λ (l : List ℕ). get_or l o 0) at.built.sends_by ∙ out_place.2
 
     in_plan : (inlet_at d.lane i).ring.plan ≡ ring_plan network a
     in_plan = at.built.in_plans i no_inlet i_within ∙ ap (ring_plan network) in_number
 
-    out_plan : (outlet_at d.lane o).port.plan ≡ ring_plan network b
-    out_plan = at.built.out_plans o no_outlet o_within ∙ ap (ring_plan network) out_number
+    out_plan : (outlet_at d.lane o).plan ≡ ring_plan network b
+    out_plan = at.built.out_plans o no_port o_within ∙ ap (ring_plan network) out_number
 
     passes : Passes (route_of d.rows) d.lane f i o
     passes = record {

@@ -13,7 +13,8 @@ use Rattle.sb_packet.specs.Networks.{NetHost, Network}
 use Rattle.sb_packet.specs.Plans.{NetFlow, RingPlan, goes_through}
 use Rattle.sb_packet.specs.Rings.{has_link, link_ways, ring_plan, ring_ways}
 use Rattle.sb_packet.specs.Ways.{NetWay, flow_links, is_some_number, is_way_of, network_ways, router_after, router_before}
-use Rattle.sb_router.specs.Lanes.{OutletState, no_outlet, outlet_at}
+use Rattle.sb_port.specs.Ports.{PortSide}
+use Rattle.sb_router.specs.Lanes.{no_port, outlet_at}
 use Rattle.sb_router.specs.RouteOf.{route_of}
 use Rattle.sb_router.specs.Routers.{DirectionSide}
 use Rattle.sb_router.specs.Ways.{place_of_link}
@@ -63,7 +64,7 @@ record WayFact (network : Network) (test : ℕ → Bool) (way : NetWay) : Type 0
   unique : (a b : ℕ) → is_in a way.links ≡ true → is_in b way.links ≡ true → test a ≡ true → test b ≡ true → a ≡ b
 
 module _ (network : Network) (test : ℕ → Bool) (ring : ℕ → ℕ) (ways_are : (k : ℕ) → k < length network.links → ring_ways network (ring k) ≡ link_ways network k) (facts : All (WayFact network test) (network_ways network)) (d : DirectionSide)
-    (sends_by : ring_outs d.lane ≡ map ring (filter test (range_with_len 0 (length network.links)))) (out_plans : All (λ y. y.port.plan ≡ ring_plan network y.number) d.lane.outlets)
+    (sends_by : ring_outs d.lane ≡ map ring (filter test (range_with_len 0 (length network.links)))) (out_plans : All (λ y. y.plan ≡ ring_plan network y.plan.ring) d.lane.outlets)
     (table : (f : NetFlow) → f.host < 32 → f.device < 32 → route_of d.rows f ≡ option_and_then (place_of_link (filter test (range_with_len 0 (length network.links)))) (find test (flow_links network f)))
     (within_links : (f : NetFlow) (o : ℕ) → route_of d.rows f ≡ Some o → o < length (filter test (range_with_len 0 (length network.links)))) where
   abbrev all : List ℕ
@@ -76,10 +77,10 @@ module _ (network : Network) (test : ℕ → Bool) (ring : ℕ → ℕ) (ways_ar
   link_facts i e below = (All-filter test (λ k. k < length network.links) all (counted network) i e below, filter_passes test all i e below)
 
   count : length d.lane.outlets ≡ length links
-  count = sym (length-map d.lane.outlets (λ (y : OutletState). y.number)) ∙ ap length sends_by ∙ length-map links ring
+  count = sym (length-map d.lane.outlets (λ (y : PortSide). y.plan.ring)) ∙ ap length sends_by ∙ length-map links ring
 
-  plan_at : (o : ℕ) → o < length d.lane.outlets → (outlet_at d.lane o).port.plan ≡ ring_plan network (ring (get_or links o 0))
-  plan_at o lt = out_plans o no_outlet lt ∙ ap (ring_plan network) (sym (get_or-map (λ (y : OutletState). y.number) d.lane.outlets o no_outlet 0 lt) ∙ ap (λ (l : List ℕ). get_or l o 0) sends_by ∙ get_or-map ring links o 0 0 (omega (arith, lt, count)))
+  plan_at : (o : ℕ) → o < length d.lane.outlets → (outlet_at d.lane o).plan ≡ ring_plan network (ring (get_or links o 0))
+  plan_at o lt = out_plans o no_port lt ∙ ap (ring_plan network) (sym (get_or-map (λ (y : PortSide). y.plan.ring) d.lane.outlets o no_port 0 lt) ∙ ap (λ (l : List ℕ). get_or l o 0) sends_by ∙ get_or-map ring links o 0 0 (omega (arith, lt, count)))
 
   -- the place of a link
   place_at : (k o : ℕ) → position_from (λ link. link == k) 0 links ≡ Some o → (o < length links) × (get_or links o 0 ≡ k)
@@ -118,7 +119,7 @@ module _ (network : Network) (test : ℕ → Bool) (ring : ℕ → ℕ) (ways_ar
   within : (f : NetFlow) (o : ℕ) → route_of d.rows f ≡ Some o → o < length d.lane.outlets
   within f o e = let inside = within_links f o e in omega (arith, inside, count)
 
-  leads : (f : NetFlow) (o : ℕ) → f.host < 32 → f.device < 32 → route_of d.rows f ≡ Some o → goes_through (outlet_at d.lane o).port.plan.flows f ≡ true
+  leads : (f : NetFlow) (o : ℕ) → f.host < 32 → f.device < 32 → route_of d.rows f ≡ Some o → goes_through (outlet_at d.lane o).plan.flows f ≡ true
   leads f o host device e = by_link (find test (flow_links network f)) refl (sym (table f host device) ∙ e)
     where
       by_way : (k : ℕ) → (x : Option NetWay) → find (is_way_of f) (network_ways network) ≡ x → is_in k (option_map_or (λ way. way.links) x []) ≡ true → list_any (is_way_of f) (link_ways network k) ≡ true
@@ -128,7 +129,7 @@ module _ (network : Network) (test : ℕ → Bool) (ring : ℕ → ℕ) (ways_ar
           let place = found.1 in
           any_passing (is_way_of f) (has_link k) (network_ways network) place.0 way place.1 (ap (has_link k) place.2 ∙ on) (ap (is_way_of f) place.2 ∙ found.0)
 
-      by_link : (x : Option ℕ) → find test (flow_links network f) ≡ x → option_and_then (place_of_link links) x ≡ Some o → goes_through (outlet_at d.lane o).port.plan.flows f ≡ true
+      by_link : (x : Option ℕ) → find test (flow_links network f) ≡ x → option_and_then (place_of_link links) x ≡ Some o → goes_through (outlet_at d.lane o).plan.flows f ≡ true
       by_link None is e = absurd (cc)
       by_link (Some k) is e =
           let at = place_at k o e in
@@ -138,7 +139,7 @@ module _ (network : Network) (test : ℕ → Bool) (ring : ℕ → ℕ) (ways_ar
           let inside = at.0 in
           ap (λ (plan : RingPlan). goes_through plan.flows f) (plan_at o (omega (arith, inside, count)) ∙ ap (λ (n : ℕ). ring_plan network (ring n)) at.1) ∙ through
 
-  led : (f : NetFlow) (o : ℕ) → o < length d.lane.outlets → goes_through (outlet_at d.lane o).port.plan.flows f ≡ true → route_of d.rows f ≡ Some o
+  led : (f : NetFlow) (o : ℕ) → o < length d.lane.outlets → goes_through (outlet_at d.lane o).plan.flows f ≡ true → route_of d.rows f ≡ Some o
   led f o lt e = by_way (any_fact (λ way. WayFact network test way × (has_link k way ≡ true)) (is_way_of f) (link_ways network k) known some)
     where
       k : ℕ
@@ -189,7 +190,7 @@ module _ (network : Network) (r : ℕ) (d : DirectionSide) (routed : IsRouted ne
   same_links : (i : ℕ) (w : NetWay) → (below : i < length (network_ways network)) → (let way = get_or (network_ways network) i w in let flow : FlowWay network (flow_of way) = way_flows network ways i w below in way.links ≡ flow.head ∷ flow.tail)
   same_links i w below = let flow : FlowWay network (flow_of (get_or (network_ways network) i w)) = way_flows network ways i w below in sym (ways.found i w below) ∙ flow.links
 
-  pub request_tables : ring_outs d.lane ≡ request_outs network r → All (λ y. y.port.plan ≡ ring_plan network y.number) d.lane.outlets → HasTable network false r (links_out_of network (Some r)) d → LeadsByPlans d
+  pub request_tables : ring_outs d.lane ≡ request_outs network r → All (λ y. y.plan ≡ ring_plan network y.plan.ring) d.lane.outlets → HasTable network false r (links_out_of network (Some r)) d → LeadsByPlans d
   request_tables sends plans has = leads_by_plans network (λ k. is_some_number r (router_before network k)) request_ring (request_ways network ways) (way_facts (λ k. is_some_number r (router_before network k)) unique) d sends plans (λ f host device. has.table f host device) has.within
     where
       unique : All (λ way. (a b : ℕ) → is_in a way.links ≡ true → is_in b way.links ≡ true → is_some_number r (router_before network a) ≡ true → is_some_number r (router_before network b) ≡ true → a ≡ b) (network_ways network)
@@ -199,7 +200,7 @@ module _ (network : Network) (r : ℕ) (d : DirectionSide) (routed : IsRouted ne
           let links = same_links i w below in
           one_out_of network way.device r a b flow.head flow.tail flow.way flow.start (ap (is_in a) (sym links) ∙ x) (ap (is_in b) (sym links) ∙ y) (named r (router_before network a) s) (named r (router_before network b) t)
 
-  pub answer_tables : ring_outs d.lane ≡ answer_outs network r → All (λ y. y.port.plan ≡ ring_plan network y.number) d.lane.outlets → HasTable network true r (links_into network (Some r)) d → LeadsByPlans d
+  pub answer_tables : ring_outs d.lane ≡ answer_outs network r → All (λ y. y.plan ≡ ring_plan network y.plan.ring) d.lane.outlets → HasTable network true r (links_into network (Some r)) d → LeadsByPlans d
   answer_tables sends plans has = leads_by_plans network (λ k. is_some_number r (router_after network k)) answer_ring (answer_ways network ways) (way_facts (λ k. is_some_number r (router_after network k)) unique) d sends plans (λ f host device. has.table f host device) has.within
     where
       unique : All (λ way. (a b : ℕ) → is_in a way.links ≡ true → is_in b way.links ≡ true → is_some_number r (router_after network a) ≡ true → is_some_number r (router_after network b) ≡ true → a ≡ b) (network_ways network)

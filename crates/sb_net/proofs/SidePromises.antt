@@ -9,8 +9,8 @@ use Rattle.sb_packet.specs.Soundness.{IsSound}
 use Rattle.sb_packet.specs.Traffic.{has_close, item_accesses, item_messages, AreInTurn}
 use Rattle.sb_packet.specs.declared.item.Item.{Item}
 use Rattle.sb_port.specs.Waiting.{some_owed}
-use Rattle.sb_port.specs.Ports.{PortState, owes, IsFit}
-use Rattle.sb_node.specs.Sides.{PortSide, RingSide, has_rest, is_full}
+use Rattle.sb_port.specs.Ports.{IsFit, PortSide, PortState, owes}
+use Rattle.sb_node.specs.Sides.{RingSide, has_rest, is_full}
 use Rattle.sb_net.specs.Moments.{Moment, ClosesLast}
 use Rattle.sb_net.specs.Promises.{IsLink, IsPort}
 use Rattle.sb_net.specs.RoundSides.{HasPort, HasRing, ShowsPort, ShowsRing}

@@ -1,7 +1,7 @@
 -- A moment of a run, and what there is after a round, as ports and rings stand in their nodes.
 use Rattle.std.specs.Prelude.{◌≡◌, ℕ, is_some}
-use Rattle.sb_port.specs.Ports.{owes}
-use Rattle.sb_node.specs.Sides.{PortSide, RingSide, is_drained, is_full, offered_words}
+use Rattle.sb_port.specs.Ports.{PortSide, offered_words, owes}
+use Rattle.sb_node.specs.Sides.{RingSide, is_drained, is_full}
 use Rattle.sb_net.specs.Moments.{Moment}
 use Rattle.sb_net.specs.Standstills.{RoundEnd}
 

@@ -30,15 +30,15 @@ answer_outs network r = map (λ k. first_ring (answer_rings network k)) (links_i
 -- A direction's table leads a flow to a ring just where that ring carries it. Hosts' ids and devices are below 32.
 pub record LeadsByPlans (d : DirectionSide) : Type 0 where
   pub within : (f : NetFlow) (o : ℕ) → route_of d.rows f ≡ Some o → o < length d.lane.outlets
-  pub leads : (f : NetFlow) (o : ℕ) → f.host < 32 → f.device < 32 → route_of d.rows f ≡ Some o → goes_through (outlet_at d.lane o).port.plan.flows f ≡ true
-  pub led : (f : NetFlow) (o : ℕ) → o < length d.lane.outlets → goes_through (outlet_at d.lane o).port.plan.flows f ≡ true → route_of d.rows f ≡ Some o
+  pub leads : (f : NetFlow) (o : ℕ) → f.host < 32 → f.device < 32 → route_of d.rows f ≡ Some o → goes_through (outlet_at d.lane o).plan.flows f ≡ true
+  pub led : (f : NetFlow) (o : ℕ) → o < length d.lane.outlets → goes_through (outlet_at d.lane o).plan.flows f ≡ true → route_of d.rows f ≡ Some o
 
 -- A direction is built for a network: it stands at these rings, which have the plans of the network's, and its table leads by them.
 pub record IsBuiltFor (network : Network) (ins outs : List ℕ) (d : DirectionSide) : Type 0 where
   pub comes_by : ring_ins d.lane ≡ ins
   pub sends_by : ring_outs d.lane ≡ outs
-  pub in_plans : All (λ x. x.ring.plan ≡ ring_plan network x.number) d.lane.inlets
-  pub out_plans : All (λ y. y.port.plan ≡ ring_plan network y.number) d.lane.outlets
+  pub in_plans : All (λ x. x.ring.plan ≡ ring_plan network x.ring.plan.ring) d.lane.inlets
+  pub out_plans : All (λ y. y.plan ≡ ring_plan network y.plan.ring) d.lane.outlets
   pub table : LeadsByPlans d
 
 -- A direction stands in a network at a moment of a run: it is built for it, is whole, and has forwarded what came.

@@ -13,10 +13,10 @@ use Rattle.sb_net.specs.Standstills.{IsIdleReceiver, IsIdleSender, RoundEnd}
 
 -- the numbers of the rings that come in, and of those that go out
 abbrev pub ring_ins : LaneState → List ℕ
-ring_ins s = map (λ x. x.number) s.inlets
+ring_ins s = map (λ x. x.ring.plan.ring) s.inlets
 
 abbrev pub ring_outs : LaneState → List ℕ
-ring_outs s = map (λ y. y.number) s.outlets
+ring_outs s = map (λ y. y.plan.ring) s.outlets
 
 -- The words of a course at a direction that sends by rings of these numbers: a word goes to a place where its ring carries it.
 abbrev pub course_words : Network → Course → List ℕ → Words
@@ -25,32 +25,32 @@ course_words network c outs = record { is_of = is_of network; goes_to = λ o. is
 -- A direction sends by rings of these numbers. Each has the budget of the course, and is passed what comes by the rings of the direction.
 pub record IsRouterOf (c : Course) (outs : List ℕ) (s : LaneState) : Type 0 where
   pub sends_by : ring_outs s ≡ outs
-  pub ins : All (λ y. c.ins y.number ≡ ring_ins s) s.outlets
-  pub budgets : All (λ y. y.port.plan.budget ≡ budget_over c y.number) s.outlets
+  pub ins : All (λ y. c.ins y.plan.ring ≡ ring_ins s) s.outlets
+  pub budgets : All (λ y. y.plan.budget ≡ budget_over c y.plan.ring) s.outlets
 
 -- the lists of a ring that comes in are those of its end, and the words that are held of it those of the packet that waits
 pub record HasInlet (m : Moment) (x : InletState) : Type 0 where
-  pub ring : HasRing m x.number x.ring
-  pub held : m.held x.number ≡ held_words x.held
+  pub ring : HasRing m x.ring.plan.ring x.ring
+  pub held : m.held x.ring.plan.ring ≡ held_words x.held
 
 -- the lists of a direction's rings are those of its ends and ports
 pub record HasLane (m : Moment) (s : LaneState) : Type 0 where
   pub inlets : All (HasInlet m) s.inlets
-  pub outlets : All (λ y. HasPort m y.number y.port) s.outlets
+  pub outlets : All (λ y. HasPort m y.plan.ring y) s.outlets
 
 -- the ring to which goes what is held; none where nothing is held, or it goes nowhere
 abbrev pub ring_next : Route → LaneState → InletState → Option ℕ
-ring_next route s x = option_map (λ o. (outlet_at s o).number) (option_and_then (next_place route x.ring.plan) x.held)
+ring_next route s x = option_map (λ o. (outlet_at s o).plan.ring) (option_and_then (next_place route x.ring.plan) x.held)
 
 -- and so is what there is after a round
 pub record ShowsInlet (e : RoundEnd) (route : Route) (s : LaneState) (x : InletState) : Type 0 where
   pub lists : HasInlet e.at x
-  pub ring : ShowsRing e x.number x.ring
-  pub holds : e.holds x.number ≡ ring_next route s x
+  pub ring : ShowsRing e x.ring.plan.ring x.ring
+  pub holds : e.holds x.ring.plan.ring ≡ ring_next route s x
 
 pub record ShowsLane (e : RoundEnd) (route : Route) (s : LaneState) : Type 0 where
   pub inlets : All (ShowsInlet e route s) s.inlets
-  pub outlets : All (λ y. ShowsPort e y.number y.port) s.outlets
+  pub outlets : All (λ y. ShowsPort e y.plan.ring y) s.outlets
 
 -- a ring comes into a stage, with its end there
 pub record ComesInto (stages : Stages) (stage ring : ℕ) : Type 0 where
@@ -66,10 +66,10 @@ pub record Leaves (stages : Stages) (stage ring : ℕ) : Type 0 where
 
 -- A direction's rings come into a stage, and leave it.
 pub record IsAtStage (stages : Stages) (stage : ℕ) (s : LaneState) : Type 0 where
-  pub ins : All (λ x. ComesInto stages stage x.number) s.inlets
-  pub outs : All (λ y. Leaves stages stage y.number) s.outlets
+  pub ins : All (λ x. ComesInto stages stage x.ring.plan.ring) s.inlets
+  pub outs : All (λ y. Leaves stages stage y.plan.ring) s.outlets
 
 -- A direction is idle at each of its rings.
 pub record IsIdleAtRings (stages : Stages) (e : RoundEnd) (s : LaneState) : Type 0 where
-  pub receivers : All (λ x. IsIdleReceiver stages e x.number) s.inlets
-  pub senders : All (λ y. IsIdleSender stages e y.number) s.outlets
+  pub receivers : All (λ x. IsIdleReceiver stages e x.ring.plan.ring) s.inlets
+  pub senders : All (λ y. IsIdleSender stages e y.plan.ring) s.outlets

@@ -1,16 +1,16 @@
 //! Laws of devices as they stand in a network: they keep the promises on which whole runs rest.
 
 ghost use Rattle.std.specs.Prelude.{◌≡◌, ◌<◌, ℕ, false, List, [], ◌∷◌, None};
+ghost use Rattle.sb_device.specs.Sides.{DeviceSide};
 ghost use Rattle.sb_device.specs.Served.{HasServed, entry_accesses, entry_packets, item_packets};
 ghost use Rattle.sb_node.specs.Steps.{IsBlockedPort};
 ghost use Rattle.sb_node.specs.Idle.{IsIdleAt};
-ghost use Rattle.sb_node.specs.Sides.{PortSide, RingSide, has_ended};
+ghost use Rattle.sb_node.specs.Sides.{RingSide, has_ended};
 ghost use Rattle.sb_packet.specs.Journals.{journal_accesses};
-ghost use Rattle.sb_packet.specs.Memories.{MemoryState};
 ghost use Rattle.sb_packet.specs.Networks.{Network, opening_memory};
 ghost use Rattle.sb_packet.specs.Plans.{NetFlow};
 ghost use Rattle.sb_packet.specs.declared.entry.Entry.{Entry};
-ghost use Rattle.sb_port.specs.Ports.{IsFit};
+ghost use Rattle.sb_port.specs.Ports.{IsFit, PortSide};
 ghost use Rattle.sb_net.specs.Courses.{budget_over};
 ghost use Rattle.sb_net.specs.Layouts.{Layout};
 ghost use Rattle.sb_net.specs.Moments.{Moment, arrived};
@@ -21,16 +21,16 @@ ghost use Rattle.sb_net.specs.Standstills.{IsIdleReceiver, IsIdleSender, RoundEn
 
 /// A device that served what came in keeps a device's promise, where the journal has its entries.
 pub fn devices_keep_their_promise()
-    ensures promise { (network : Network) (layout : Layout) (journal entries : List Entry) (m : Moment) (f : NetFlow)
-        (memory : MemoryState) (ring : RingSide) (port : PortSide)
-        → HasRing m (layout.into f.device) ring → HasPort m (layout.answers.first f) port
-        → port.plan.budget ≡ budget_over layout.answers (layout.answers.first f)
-        → journal_accesses journal f.device ≡ entry_accesses entries
-        → HasServed (opening_memory network f.device) memory entries ring port
+    ensures promise { (network : Network) (layout : Layout) (journal : List Entry) (m : Moment) (f : NetFlow) (device : DeviceSide)
+        → HasRing m (layout.into f.device) device.requests → HasPort m (layout.answers.first f) device.answers
+        → device.answers.plan.budget ≡ budget_over layout.answers (layout.answers.first f)
+        → journal_accesses journal f.device ≡ entry_accesses device.journal.entries
+        → HasServed (opening_memory network f.device) device
         → IsDevice network layout journal m f }
-    ensures recorded { (layout : Layout) (journal entries : List Entry) (m : Moment) (d : ℕ) (ring : RingSide)
-        → HasRing m (layout.into d) ring
-        → journal_accesses journal d ≡ entry_accesses entries → entry_packets entries ≡ item_packets ring.received
+    ensures recorded { (layout : Layout) (journal : List Entry) (m : Moment) (d : ℕ) (device : DeviceSide)
+        → HasRing m (layout.into d) device.requests
+        → journal_accesses journal d ≡ entry_accesses device.journal.entries
+        → entry_packets device.journal.entries ≡ item_packets device.requests.received
         → journal_accesses journal d ≡ arrived m (layout.into d) }
 {}
 

@@ -17,7 +17,7 @@ ghost use Rattle.sb_net.specs.Moments.{Moment};
 ghost use Rattle.sb_net.specs.NetworkLayouts.{links_into, links_out_of, network_answers, network_requests};
 ghost use Rattle.sb_net.specs.Promises.{Forwards};
 ghost use Rattle.sb_net.specs.Routed.{IsRouted};
-ghost use Rattle.sb_net.specs.RouterEnds.{IsRestoredDirection};
+ghost use Rattle.sb_net.specs.RouterEnds.{IsDirectionMet};
 ghost use Rattle.sb_net.specs.RouterLayouts.{HasTable, IsBuiltFor, IsRouterAt, KeepsAlongWays, LeadsByPlans, answer_ins, answer_outs, request_ins, request_outs};
 ghost use Rattle.sb_net.specs.RouterSides.{HasLane, IsAtStage, IsIdleAtRings, IsRouterOf, ShowsLane, course_words, ring_outs};
 ghost use Rattle.sb_net.specs.Stages.{Stages};
@@ -30,11 +30,11 @@ pub fn routers_keep_their_promise()
     ensures flow { (network : Network) (c : Course) (m : Moment) (outs : List ℕ) (d : DirectionSide) (f : NetFlow) (i o : ℕ)
         → HasLane m d.lane → IsRouterOf c outs d.lane → IsWholeDirection d → Passes (route_of d.rows) d.lane f i o
         → HasForwarded (course_words network c outs) d.lane f i o
-        → Forwards network c m f (inlet_at d.lane i).number (outlet_at d.lane o).number }
+        → Forwards network c m f (inlet_at d.lane i).ring.plan.ring (outlet_at d.lane o).plan.ring }
     ensures all_flows { (network : Network) (c : Course) (m : Moment) (outs : List ℕ) (d : DirectionSide) (f : NetFlow) (i o : ℕ)
         → HasLane m d.lane → IsRouterOf c outs d.lane → IsWholeDirection d → Passes (route_of d.rows) d.lane f i o
         → ForwardsAll (course_words network c outs) d
-        → Forwards network c m f (inlet_at d.lane i).number (outlet_at d.lane o).number }
+        → Forwards network c m f (inlet_at d.lane i).ring.plan.ring (outlet_at d.lane o).plan.ring }
 {
     routers_hand_on();
 }
@@ -44,11 +44,11 @@ pub fn idle_routers_are_idle()
     ensures receivers { (stages : Stages) (e : RoundEnd) (stage : ℕ) (d : DirectionSide)
         → ShowsLane e (route_of d.rows) d.lane → IsAtStage stages stage d.lane
         → IsWholeDirection d → IsIdleLane (route_of d.rows) d.lane
-        → All (λ x. IsIdleReceiver stages e x.number) d.lane.inlets }
+        → All (λ x. IsIdleReceiver stages e x.ring.plan.ring) d.lane.inlets }
     ensures senders { (stages : Stages) (e : RoundEnd) (stage : ℕ) (d : DirectionSide)
         → ShowsLane e (route_of d.rows) d.lane → IsAtStage stages stage d.lane
         → IsWholeDirection d → IsIdleLane (route_of d.rows) d.lane → ClosesWhenDue d
-        → All (λ y. IsIdleSender stages e y.number) d.lane.outlets }
+        → All (λ y. IsIdleSender stages e y.plan.ring) d.lane.outlets }
 {}
 
 /// So is a router in both directions, after a turn in which it didn't move.
@@ -96,24 +96,24 @@ pub fn routers_keep_promises_along_ways()
     routers_hand_on();
 }
 
-/// Where the ends of a direction were taken out and put back, as for a meeting, it is whole and has forwarded as before.
-pub fn restored_routers_go_on()
+/// Where the ends of a direction met the other ends of their rings, it is whole and has forwarded as before.
+pub fn met_routers_go_on()
     ensures whole { (before after : DirectionSide)
-        → IsRestoredDirection before after → IsWholeDirection before → IsWholeDirection after }
+        → IsDirectionMet before after → IsWholeDirection before → IsWholeDirection after }
     ensures forwards { (words : Words) (before after : DirectionSide)
-        → IsRestoredDirection before after → ForwardsAll words before → ForwardsAll words after }
+        → IsDirectionMet before after → ForwardsAll words before → ForwardsAll words after }
 {}
 
 /// The table of a router, made from the ways of its network, leads a flow to a ring just where that ring carries it.
 pub fn tables_lead_by_plans()
     ensures requests { (network : Network) (r : ℕ) (d : DirectionSide)
         → IsRouted network → All (λ host. host.id < 32) network.hosts
-        → ring_outs d.lane ≡ request_outs network r → All (λ y. y.port.plan ≡ ring_plan network y.number) d.lane.outlets
+        → ring_outs d.lane ≡ request_outs network r → All (λ y. y.plan ≡ ring_plan network y.plan.ring) d.lane.outlets
         → HasTable network false r (links_out_of network (Some r)) d
         → LeadsByPlans d }
     ensures answers { (network : Network) (r : ℕ) (d : DirectionSide)
         → IsRouted network → All (λ host. host.id < 32) network.hosts
-        → ring_outs d.lane ≡ answer_outs network r → All (λ y. y.port.plan ≡ ring_plan network y.number) d.lane.outlets
+        → ring_outs d.lane ≡ answer_outs network r → All (λ y. y.plan ≡ ring_plan network y.plan.ring) d.lane.outlets
         → HasTable network true r (links_into network (Some r)) d
         → LeadsByPlans d }
 {}
