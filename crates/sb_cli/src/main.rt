@@ -1,13 +1,10 @@
 //! The program `sb`: it hands its words, its standard input and its standard output to the top call.
 #![tactic(auto)]
 
-use sb_top::{Journal, ReaderSource, WriterSink, top};
+use sb_top::{Journal, OUT_OF_MEMORY, ReaderSource, WriterSink, top};
 use std::io::ErrorKind;
 use std::process::ExitCode;
 use std::{env, io};
-
-/// The status where memory is missing before the top call.
-const OUT_OF_MEMORY: u8 = 6;
 
 fn main(rt: HostRuntime) -> ExitCode {
     let alloc = rt.alloc();

@@ -44,14 +44,16 @@ fn is_solo(words: &[String]) -> bool
 fn solo<K: Sink>(alloc: Global, input: &[u8], sink: &mut K, journal: &mut Journal) -> u8
     requires short { length input.now ≤ 2 ^ 26 }
     requires empty { journal.old.entries ≡ [] }
-    ensures done { result ≡ 0 → Wrote (Ran input.now journal.new.entries) (K.held sink.old) (K.held sink.new) }
-    ensures refused { result ≡ 3 → Wrote (Refused input.now journal.new.entries) (K.held sink.old) (K.held sink.new) }
-    ensures part { result ≡ 5 → WrotePart (λ text. Ran input.now journal.new.entries text ⊎ Refused input.now journal.new.entries text) (K.held sink.old) (K.held sink.new) }
-    ensures silent { result ≡ 6 → K.held sink.new ≡ K.held sink.old }
-    ensures no_run { result ≡ 6 → journal.new.entries ≡ [] }
-    ensures cause { result ≡ 5 → Rose (K.faults sink.old) (K.faults sink.new) }
-    ensures clean { result ≢ 5 → K.faults sink.new ≡ K.faults sink.old }
-    ensures others { (result ≡ 0) ⊎ (result ≡ 3) ⊎ (result ≡ 5) ⊎ (result ≡ 6) }
+    ensures done { result ≡ DONE → Wrote (Ran input.now journal.new.entries) (K.held sink.old) (K.held sink.new) }
+    ensures refused { result ≡ REFUSED → Wrote (Refused input.now journal.new.entries) (K.held sink.old) (K.held sink.new) }
+    ensures part { result ≡ WRITE_FAILED →
+        WrotePart (λ text. Ran input.now journal.new.entries text ⊎ Refused input.now journal.new.entries text)
+        (K.held sink.old) (K.held sink.new) }
+    ensures silent { result ≡ OUT_OF_MEMORY → K.held sink.new ≡ K.held sink.old }
+    ensures no_run { result ≡ OUT_OF_MEMORY → journal.new.entries ≡ [] }
+    ensures cause { result ≡ WRITE_FAILED → Rose (K.faults sink.old) (K.faults sink.new) }
+    ensures clean { result ≢ WRITE_FAILED → K.faults sink.new ≡ K.faults sink.old }
+    ensures others { (result ≡ DONE) ⊎ (result ≡ REFUSED) ⊎ (result ≡ WRITE_FAILED) ⊎ (result ≡ OUT_OF_MEMORY) }
 {
     match read_script(alloc, input) {
         Ok(script) => run(alloc, script.as_slice(), sink, journal),
@@ -62,11 +64,11 @@ fn solo<K: Sink>(alloc: Global, input: &[u8], sink: &mut K, journal: &mut Journa
 
 /// Names a fault of a script.
 fn refuse<K: Sink>(fault: ScriptFault, sink: &mut K) -> u8
-    ensures refused { result ≡ 3 → Gains (K.held sink.old) (K.held sink.new) (refusal_text fault) }
-    ensures part { result ≡ 5 → GainsPart (K.held sink.old) (K.held sink.new) (refusal_text fault) }
-    ensures cause { result ≡ 5 → Rose (K.faults sink.old) (K.faults sink.new) }
-    ensures clean { result ≢ 5 → K.faults sink.new ≡ K.faults sink.old }
-    ensures others { (result ≡ 3) ⊎ (result ≡ 5) }
+    ensures refused { result ≡ REFUSED → Gains (K.held sink.old) (K.held sink.new) (refusal_text fault) }
+    ensures part { result ≡ WRITE_FAILED → GainsPart (K.held sink.old) (K.held sink.new) (refusal_text fault) }
+    ensures cause { result ≡ WRITE_FAILED → Rose (K.faults sink.old) (K.faults sink.new) }
+    ensures clean { result ≢ WRITE_FAILED → K.faults sink.new ≡ K.faults sink.old }
+    ensures others { (result ≡ REFUSED) ⊎ (result ≡ WRITE_FAILED) }
 {
     status_of(write_all(sink, refusal(fault).as_slice()), REFUSED)
 }
@@ -76,14 +78,16 @@ fn run<K: Sink>(alloc: Global, script: &[Txn], sink: &mut K, journal: &mut Journ
     requires transactions { All IsTransaction script.now }
     requires few { length script.now ≤ 65536 }
     requires empty { journal.old.entries ≡ [] }
-    ensures packets { (result ≡ 0) ⊎ (result ≡ 5) → IsSoloJournal script.now journal.new.entries }
-    ensures done { result ≡ 0 → Gains (K.held sink.old) (K.held sink.new) (run_report (solo_network script.now) journal.new.entries false None) }
-    ensures part { result ≡ 5 → GainsPart (K.held sink.old) (K.held sink.new) (run_report (solo_network script.now) journal.new.entries false None) }
-    ensures silent { result ≡ 6 → K.held sink.new ≡ K.held sink.old }
-    ensures no_run { result ≡ 6 → journal.new.entries ≡ [] }
-    ensures cause { result ≡ 5 → Rose (K.faults sink.old) (K.faults sink.new) }
-    ensures clean { result ≢ 5 → K.faults sink.new ≡ K.faults sink.old }
-    ensures others { (result ≡ 0) ⊎ (result ≡ 5) ⊎ (result ≡ 6) }
+    ensures packets { (result ≡ DONE) ⊎ (result ≡ WRITE_FAILED) → IsSoloJournal script.now journal.new.entries }
+    ensures done { result ≡ DONE →
+        Gains (K.held sink.old) (K.held sink.new) (run_report (solo_network script.now) journal.new.entries false None) }
+    ensures part { result ≡ WRITE_FAILED →
+        GainsPart (K.held sink.old) (K.held sink.new) (run_report (solo_network script.now) journal.new.entries false None) }
+    ensures silent { result ≡ OUT_OF_MEMORY → K.held sink.new ≡ K.held sink.old }
+    ensures no_run { result ≡ OUT_OF_MEMORY → journal.new.entries ≡ [] }
+    ensures cause { result ≡ WRITE_FAILED → Rose (K.faults sink.old) (K.faults sink.new) }
+    ensures clean { result ≢ WRITE_FAILED → K.faults sink.new ≡ K.faults sink.old }
+    ensures others { (result ≡ DONE) ⊎ (result ≡ WRITE_FAILED) ⊎ (result ≡ OUT_OF_MEMORY) }
 {
     match run_script(alloc, script, journal) {
         Ok(run) => status_of(print_report(sink, &run.outcomes, run.memory.image()), DONE),
@@ -104,21 +108,29 @@ pub fn top<S: Source, K: Sink>(
     requires { journal.old.entries ≡ [] }
 
     // What was written, by the status; and what the journal is.
-    ensures done { result ≡ 0 → Wrote (IsSoloRun (S.left source.old) (S.left source.new) journal.new.entries) (K.held sink.old) (K.held sink.new) }
-    ensures usage { result ≡ 2 → Wrote (IsUsage (map string_bytes words.now) (S.left source.old) (S.left source.new) journal.new.entries) (K.held sink.old) (K.held sink.new) }
-    ensures refused { result ≡ 3 → Wrote (IsRefusal (S.left source.old) (S.left source.new) journal.new.entries) (K.held sink.old) (K.held sink.new) }
-    ensures long { result ≡ 7 → Wrote (IsTooLong (S.left source.old) (S.left source.new) journal.new.entries) (K.held sink.old) (K.held sink.new) }
-    ensures part { result ≡ 5 → WrotePart (IsAnyText (map string_bytes words.now) (S.left source.old) (S.left source.new) journal.new.entries) (K.held sink.old) (K.held sink.new) }
-    ensures silent { (result ≡ 4) ⊎ (result ≡ 6) → K.held sink.new ≡ K.held sink.old }
-    ensures no_run { (result ≡ 4) ⊎ (result ≡ 6) → journal.new.entries ≡ [] }
+    ensures done { result ≡ DONE →
+        Wrote (IsSoloRun (S.left source.old) (S.left source.new) journal.new.entries) (K.held sink.old) (K.held sink.new) }
+    ensures usage { result ≡ USAGE →
+        Wrote (IsUsage (map string_bytes words.now) (S.left source.old) (S.left source.new) journal.new.entries)
+        (K.held sink.old) (K.held sink.new) }
+    ensures refused { result ≡ REFUSED →
+        Wrote (IsRefusal (S.left source.old) (S.left source.new) journal.new.entries) (K.held sink.old) (K.held sink.new) }
+    ensures long { result ≡ TOO_LONG →
+        Wrote (IsTooLong (S.left source.old) (S.left source.new) journal.new.entries) (K.held sink.old) (K.held sink.new) }
+    ensures part { result ≡ WRITE_FAILED →
+        WrotePart (IsAnyText (map string_bytes words.now) (S.left source.old) (S.left source.new) journal.new.entries)
+        (K.held sink.old) (K.held sink.new) }
+    ensures silent { (result ≡ READ_FAILED) ⊎ (result ≡ OUT_OF_MEMORY) → K.held sink.new ≡ K.held sink.old }
+    ensures no_run { (result ≡ READ_FAILED) ⊎ (result ≡ OUT_OF_MEMORY) → journal.new.entries ≡ [] }
 
     // When each status comes.
-    ensures words { asks_solo (map string_bytes words.now) ≡ false → (result ≡ 2) ⊎ (result ≡ 5) }
-    ensures read_cause { result ≡ 4 → Rose (S.faults source.old) (S.faults source.new) }
-    ensures write_cause { result ≡ 5 → Rose (K.faults sink.old) (K.faults sink.new) }
-    ensures read_clean { result ≢ 4 → S.faults source.new ≡ S.faults source.old }
-    ensures write_clean { result ≢ 5 → K.faults sink.new ≡ K.faults sink.old }
-    ensures others { (result ≡ 0) ⊎ (result ≡ 2) ⊎ (result ≡ 3) ⊎ (result ≡ 4) ⊎ (result ≡ 5) ⊎ (result ≡ 6) ⊎ (result ≡ 7) }
+    ensures words { asks_solo (map string_bytes words.now) ≡ false → (result ≡ USAGE) ⊎ (result ≡ WRITE_FAILED) }
+    ensures read_cause { result ≡ READ_FAILED → Rose (S.faults source.old) (S.faults source.new) }
+    ensures write_cause { result ≡ WRITE_FAILED → Rose (K.faults sink.old) (K.faults sink.new) }
+    ensures read_clean { result ≢ READ_FAILED → S.faults source.new ≡ S.faults source.old }
+    ensures write_clean { result ≢ WRITE_FAILED → K.faults sink.new ≡ K.faults sink.old }
+    ensures others { (result ≡ DONE) ⊎ (result ≡ USAGE) ⊎ (result ≡ REFUSED) ⊎ (result ≡ READ_FAILED)
+        ⊎ (result ≡ WRITE_FAILED) ⊎ (result ≡ OUT_OF_MEMORY) ⊎ (result ≡ TOO_LONG) }
 {
     if !is_solo(words) {
         return status_of(write_all(sink, b"usage\n"), USAGE);

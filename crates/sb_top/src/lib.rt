@@ -15,3 +15,4 @@ mod status;
 pub use command::top;
 pub use sb_io::{ReaderSource, WriterSink};
 pub use sb_packet::Journal;
+pub use status::{DONE, OUT_OF_MEMORY, READ_FAILED, REFUSED, TOO_LONG, USAGE, WRITE_FAILED};
