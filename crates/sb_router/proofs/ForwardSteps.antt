@@ -11,8 +11,9 @@ use Rattle.sb_packet.specs.Prefixes.{IsSubsequence}
 use Rattle.sb_packet.specs.Traffic.{IsPlanned, item_accesses}
 use Rattle.sb_packet.specs.declared.packet.Packet.{Packet}
 use Rattle.sb_packet.specs.declared.item.Item.{Item}
-use Rattle.sb_node.specs.Sides.{PortSide, offered_words, received_words}
-use Rattle.sb_router.specs.Lanes.{InletState, LaneState, OutletState, Route, came_at, held_at, held_words, inlet_at, no_inlet, no_outlet, offered_at, outlet_at, next_place}
+use Rattle.sb_port.specs.Ports.{PortSide, offered_words}
+use Rattle.sb_node.specs.Sides.{received_words}
+use Rattle.sb_router.specs.Lanes.{InletState, LaneState, Route, came_at, held_at, held_words, inlet_at, no_inlet, no_port, offered_at, outlet_at, next_place}
 use Rattle.sb_router.specs.Steps.{Step, Steps, receives, looks, drops, offers, turns, tells, none, further}
 use Rattle.sb_router.specs.Whole.{IsWholeInlet, IsWholeLane}
 use Rattle.sb_router.specs.Forwarding.{Words, Forwards, IsLaid, came_for, held_for, part, popped_for}
@@ -29,25 +30,25 @@ laid_then {words} {route} {s} {t} shape laid = record {
   apart = λ f i j lt lt' a b. laid.apart f i j (omega (arith, lt, shape.inlets)) (omega (arith, lt', shape.inlets))
       (sym (ap (λ (plan : RingPlan). goes_through plan.flows f) (shape.in_plans i)) ∙ a) (sym (ap (λ (plan : RingPlan). goes_through plan.flows f) (shape.in_plans j)) ∙ b);
   leads_on = λ i o p lt planned next.
-      let there : IsPlanned (outlet_at s o).port.plan (message_of p) = laid.leads_on i o p (omega (arith, lt, shape.inlets)) (subst (λ (plan : RingPlan). IsPlanned plan (message_of p)) (shape.in_plans i) planned)
+      let there : IsPlanned (outlet_at s o).plan (message_of p) = laid.leads_on i o p (omega (arith, lt, shape.inlets)) (subst (λ (plan : RingPlan). IsPlanned plan (message_of p)) (shape.in_plans i) planned)
       (sym (ap (λ (plan : RingPlan). next_place route plan p) (shape.in_plans i)) ∙ next) in
       subst (λ (plan : RingPlan). IsPlanned plan (message_of p)) (sym (shape.out_plans o)) there;
 }
 
 -- what was offered at the place of a list in which one was set that was offered nothing more
-offered_same : (s : LaneState) (o : ℕ) (y : OutletState) → o < length s.outlets → offered_words y.port ≡ offered_at s o → (q : ℕ) → offered_words (get_or (set s.outlets o y) q no_outlet).port ≡ offered_at s q
-offered_same s o y lt e = same_at_each s.outlets o y no_outlet lt (λ (z : OutletState). offered_words z.port) e
+offered_same : (s : LaneState) (o : ℕ) (y : PortSide) → o < length s.outlets → offered_words y ≡ offered_at s o → (q : ℕ) → offered_words (get_or (set s.outlets o y) q no_port) ≡ offered_at s q
+offered_same s o y lt e = same_at_each s.outlets o y no_port lt (λ (z : PortSide). offered_words z) e
 
 module _ {words : Words} {route : Route} (s : LaneState) (h : Forwards words route s) where
   -- a port did something, but was offered nothing
-  pub acting : (o : ℕ) (y : OutletState) → o < length s.outlets → y.port.plan ≡ (outlet_at s o).port.plan → offered_words y.port ≡ offered_at s o → Forwards words route (record s { outlets = set s.outlets o y })
+  pub acting : (o : ℕ) (y : PortSide) → o < length s.outlets → y.plan ≡ (outlet_at s o).plan → offered_words y ≡ offered_at s o → Forwards words route (record s { outlets = set s.outlets o y })
   acting o y lt plan e =
       let shape : SameShape s (record s { outlets = set s.outlets o y }) = outlets_shape s o y lt plan in
       record {
-        few = λ q. let old = h.few q in let same : length (offered_words (get_or (set s.outlets o y) q no_outlet).port) ≡ length (offered_at s q) = ap length (offered_same s o y lt e q) in omega (arith, old, same);
+        few = λ q. let old = h.few q in let same : length (offered_words (get_or (set s.outlets o y) q no_port)) ≡ length (offered_at s q) = ap length (offered_same s o y lt e q) in omega (arith, old, same);
         picks = λ f i q passes. subst (λ (l : List Access). IsSubsequence (part words f l ++ part words f (held_at s i)) (part words f (came_at s i))) (sym (offered_same s o y lt e q)) (h.picks f i q (passed_before shape passes));
         whole = λ f i q passes sound room.
-            let budget : (get_or (set s.outlets o y) q no_outlet).port.plan.budget ≡ (outlet_at s q).port.plan.budget = ap (λ (plan : RingPlan). plan.budget) (shape.out_plans q) in
+            let budget : (get_or (set s.outlets o y) q no_port).plan.budget ≡ (outlet_at s q).plan.budget = ap (λ (plan : RingPlan). plan.budget) (shape.out_plans q) in
             subst (λ (l : List Access). part words f (came_at s i) ≡ part words f l ++ part words f (held_at s i)) (sym (offered_same s o y lt e q)) (h.whole f i q (passed_before shape passes) sound (omega (arith, room, budget)));
       }
 

@@ -12,7 +12,6 @@ use Rattle.sb_packet.specs.Prefixes.{IsSubsequence}
 use Rattle.sb_packet.specs.Soundness.{IsSound}
 use Rattle.sb_packet.specs.Traffic.{item_accesses, item_messages}
 use Rattle.sb_packet.specs.declared.item.Item.{Item}
-use Rattle.sb_packet.specs.declared.item.Item.TheVariants as items
 use Rattle.sb_node.specs.Sides.{received_words}
 use Rattle.sb_router.specs.Lanes.{InletState, LaneState, Route, came_at, held_at, held_words, inlet_at, no_inlet, offered_at}
 use Rattle.sb_router.specs.Steps.{IsReceived, held_of}
@@ -20,6 +19,7 @@ use Rattle.sb_router.specs.Forwarding.{Words, Passes, AreSound, Forwards, HasFor
 use Rattle.sb_router.proofs.Places.{set_cases}
 use Rattle.sb_router.proofs.Shapes.{inlets_shape, passed_before}
 use Rattle.sb_router.proofs.Subsequences.{all_came, more_came, without_end}
+use Rattle.sb_packet.specs.declared.item.Item.TheVariants as items
 
 pub has_forwarded : {words : Words} {route : Route} {s : LaneState} → Forwards words route s → (f : NetFlow) (i o : ℕ) → Passes route s f i o → HasForwarded words s f i o
 has_forwarded {words} {route} {s} h f i o passes = record {

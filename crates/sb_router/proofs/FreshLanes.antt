@@ -4,39 +4,40 @@ use Rattle.std.specs.Prelude.{sum_by}
 use Rattle.std.proofs.lemmas.List.{length-map}
 use Rattle.std.proofs.lemmas.List.Elements.{All-cons, All-nil}
 use Rattle.std.proofs.lemmas.List.Sums.{sum_by-cons}
-use Rattle.sb_link.specs.declared.ends.RxEnd as rx
-use Rattle.sb_link.specs.declared.ends.TxEnd as tx
 use Rattle.sb_packet.specs.Accesses.{Access}
 use Rattle.sb_packet.specs.Plans.{NetFlow}
 use Rattle.sb_packet.specs.Prefixes.{IsSubsequence, none}
-use Rattle.sb_node.specs.Sides.{offered_words, received_words}
-use Rattle.sb_router.specs.Lanes.{InletState, LaneState, OutletState, Route, held_words, no_inlet, no_outlet}
-use Rattle.sb_router.specs.Fresh.{fresh_inlet, fresh_outlet}
+use Rattle.sb_port.specs.Ports.{PortSide, fresh_port, offered_words}
+use Rattle.sb_node.specs.Sides.{received_words}
+use Rattle.sb_router.specs.Lanes.{InletState, LaneState, Route, held_words, no_inlet, no_port}
+use Rattle.sb_router.specs.Fresh.{fresh_inlet}
 use Rattle.sb_router.specs.Forwarding.{Forwards, Words, held_for, part}
 use Rattle.sb_router.specs.Whole.{IsWholeInlet, IsWholeLane, IsWholeOutlet}
 use Rattle.sb_router.proofs.SameLane.{same_lane}
+use Rattle.sb_link.specs.declared.ends.RxEnd as rx
+use Rattle.sb_link.specs.declared.ends.TxEnd as tx
 
 module _ {T U A B : Type 0} (sending : tx.Ghosts T) (receiving : rx.Ghosts U) (from : A → U) (to : B → T) where
   -- the rings that come in, and those that go out
   abbrev pub inlets : List A → List InletState
   inlets ins = map (λ a. fresh_inlet receiving (from a)) ins
 
-  abbrev pub outlets : List B → List OutletState
-  outlets outs = map (λ b. fresh_outlet sending (to b)) outs
+  abbrev pub outlets : List B → List PortSide
+  outlets outs = map (λ b. fresh_port sending (to b)) outs
 
   whole_inlet : (u : U) → IsWholeInlet (fresh_inlet receiving u)
-  whole_inlet u = record { there = refl; number = refl; ended = refl; last = λ p e. let no_way : ⊥ = cc in absurd no_way; carriable = λ p e. let no_way : ⊥ = cc in absurd no_way }
+  whole_inlet u = record { ended = refl; last = λ p e. let no_way : ⊥ = cc in absurd no_way; carriable = λ p e. let no_way : ⊥ = cc in absurd no_way }
 
   whole_inlets : (ins : List A) → All IsWholeInlet (inlets ins)
   whole_inlets [] = All-nil IsWholeInlet
   whole_inlets (a ∷ ins) = All-cons IsWholeInlet (fresh_inlet receiving (from a)) (inlets ins) (whole_inlet (from a)) (whole_inlets ins)
 
-  unclosed : (outs : List B) (o : ℕ) → (get_or (outlets outs) o no_outlet).port.state.closing ≡ false
+  unclosed : (outs : List B) (o : ℕ) → (get_or (outlets outs) o no_port).state.closing ≡ false
   unclosed [] o = refl
   unclosed (b ∷ outs) zero = refl
   unclosed (b ∷ outs) (suc o) = unclosed outs o
 
-  unoffered : (outs : List B) (o : ℕ) → offered_words (get_or (outlets outs) o no_outlet).port ≡ []
+  unoffered : (outs : List B) (o : ℕ) → offered_words (get_or (outlets outs) o no_port) ≡ []
   unoffered [] o = refl
   unoffered (b ∷ outs) zero = refl
   unoffered (b ∷ outs) (suc o) = unoffered outs o
@@ -72,7 +73,7 @@ module _ {T U A B : Type 0} (sending : tx.Ghosts T) (receiving : rx.Ghosts U) (f
     inlets = whole_inlets ins;
     outlets = whole;
     silent = λ o lt told. let open' = unclosed outs o in let no_way : ⊥ = cc in absurd no_way;
-    routed = λ f o e. let lt = routed f o e in omega (arith, lt, length-map outs (λ b. fresh_outlet sending (to b)));
+    routed = λ f o e. let lt = routed f o e in omega (arith, lt, length-map outs (λ b. fresh_port sending (to b)));
   }
 
   module _ (route : Route) (s : LaneState) (ins : List A) (outs : List B) (same_in : s.inlets ≡ inlets ins) (same_out : s.outlets ≡ outlets outs) where
@@ -80,4 +81,4 @@ module _ {T U A B : Type 0} (sending : tx.Ghosts T) (receiving : rx.Ghosts U) (f
     lane_forwards words = subst (λ (t : LaneState). Forwards words route t) (sym (same_lane same_in same_out)) (fresh_forwards words route ins outs)
 
     pub lane_whole : All IsWholeOutlet s.outlets → ((f : NetFlow) (o : ℕ) → route f ≡ Some o → o < length outs) → IsWholeLane route s
-    lane_whole whole routed = subst (λ (t : LaneState). IsWholeLane route t) (sym (same_lane same_in same_out)) (fresh_whole route ins outs (subst (λ (l : List OutletState). All IsWholeOutlet l) same_out whole) routed)
+    lane_whole whole routed = subst (λ (t : LaneState). IsWholeLane route t) (sym (same_lane same_in same_out)) (fresh_whole route ins outs (subst (λ (l : List PortSide). All IsWholeOutlet l) same_out whole) routed)

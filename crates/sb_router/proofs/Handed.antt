@@ -4,8 +4,8 @@ use Rattle.std.proofs.lemmas.List.{set-get_or}
 use Rattle.sb_packet.specs.Messages.{message_of}
 use Rattle.sb_packet.specs.Traffic.{MayPass}
 use Rattle.sb_packet.specs.declared.packet.Packet.{Packet}
-use Rattle.sb_node.specs.Sides.{offered_words}
-use Rattle.sb_router.specs.Lanes.{LaneState, OutletState, Route, inlet_at, next_place, no_outlet, outlet_at}
+use Rattle.sb_port.specs.Ports.{offered_words, PortSide}
+use Rattle.sb_router.specs.Lanes.{LaneState, Route, inlet_at, next_place, no_port, outlet_at}
 use Rattle.sb_router.specs.Steps.{emptied}
 use Rattle.sb_router.specs.Handing.{Drops, Offers}
 use Rattle.sb_router.specs.Sending.{IsHandedAt, IsHandedTo}
@@ -24,6 +24,6 @@ handed_on route s t u i o p held next handed is = by_case handed.handed
     by_case (inr away) = inr record {
       packet = p;
       held = held;
-      refused = λ q e. let there : Some o ≡ Some q = sym next ∙ e in let same : o ≡ q = cc in subst (λ (k : ℕ). MayPass (outlet_at s k).port.plan (length (offered_words (outlet_at s k).port)) (message_of p) → ⊥) same away.fails;
-      state = is ∙ same_lane refl (same_outlets ∙ ap (λ (y : OutletState). set s.outlets o y) away.same ∙ set-get_or s.outlets o no_outlet);
+      refused = λ q e. let there : Some o ≡ Some q = sym next ∙ e in let same : o ≡ q = cc in subst (λ (k : ℕ). MayPass (outlet_at s k).plan (length (offered_words (outlet_at s k))) (message_of p) → ⊥) same away.fails;
+      state = is ∙ same_lane refl (same_outlets ∙ ap (λ (y : PortSide). set s.outlets o y) away.same ∙ set-get_or s.outlets o no_port);
     }

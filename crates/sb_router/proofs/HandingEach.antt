@@ -1,6 +1,7 @@
 -- Handing on what is held of one ring after another.
 use Rattle.std.proofs.Common.{◌≡◌, inl, inr, ℕ, ◌<◌, ◌≤◌, ◌+◌, ◌||◌, Bool, true, false, length, set, get_or, refl, sym, ◌∙◌, subst, arith}
-use Rattle.sb_router.specs.Lanes.{InletState, LaneState, OutletState, Route, inlet_at, no_inlet, no_outlet}
+use Rattle.sb_router.specs.Lanes.{InletState, LaneState, Route, inlet_at, no_inlet, no_port}
+use Rattle.sb_port.specs.Ports.{PortSide}
 use Rattle.sb_router.specs.Steps.{Step, Steps, drops, offers, none, further, emptied}
 use Rattle.sb_router.specs.Handing.{Drops, IsHanded, IsWaiting, Offers}
 use Rattle.sb_router.specs.Moves.{IsToldMoved}
@@ -29,7 +30,7 @@ one_offer {route} s t i w lt offer =
       step = offers i offer.place offer.packet offer.port lt within offer.held offer.next offer.given;
       moved = both_more s i offer.place offer.packet offer.port lt within offer.held offer.given.kept;
       rings = emptied_ring s i lt;
-      unsent = same_at_each s.outlets offer.place offer.port no_outlet within (λ (y : OutletState). y.port.state.sent) offer.given.sent;
+      unsent = same_at_each s.outlets offer.place offer.port no_port within (λ (y : PortSide). y.state.sent) offer.given.sent;
     } in subst (λ (u : LaneState). IsOneHanding route s u) (sym offer.state) at
 
 one_drop : {route : Route} (s t : LaneState) (i : ℕ) → i < length s.inlets → Drops route i s t → IsOneHanding route s t

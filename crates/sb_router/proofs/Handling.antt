@@ -14,10 +14,10 @@ use Rattle.sb_packet.specs.Soundness.{IsSound}
 use Rattle.sb_packet.specs.Traffic.{MayPass, item_messages}
 use Rattle.sb_packet.specs.declared.packet.Packet.{Packet}
 use Rattle.sb_packet.specs.declared.item.Item.{Item}
-use Rattle.sb_packet.specs.declared.item.Item.TheVariants as items
 use Rattle.sb_port.proofs.Items.{item_messages-packet}
-use Rattle.sb_node.specs.Sides.{offered_words, received_words}
-use Rattle.sb_router.specs.Lanes.{InletState, LaneState, OutletState, Route, came_at, held_at, held_words, inlet_at, no_inlet, no_outlet, offered_at, outlet_at, next_place}
+use Rattle.sb_port.specs.Ports.{offered_words, PortSide}
+use Rattle.sb_node.specs.Sides.{received_words}
+use Rattle.sb_router.specs.Lanes.{InletState, LaneState, Route, came_at, held_at, held_words, inlet_at, no_inlet, no_port, offered_at, outlet_at, next_place}
 use Rattle.sb_router.specs.Steps.{IsGiven, IsRefused, emptied}
 use Rattle.sb_router.specs.Whole.{IsWholeInlet}
 use Rattle.sb_router.specs.Forwarding.{Words, Passes, AreSound, Forwards, IsLaid, IsOneFlow, came_for, held_for, part, popped_for}
@@ -26,6 +26,7 @@ use Rattle.sb_router.proofs.NextPlaces.{next_flow}
 use Rattle.sb_router.proofs.Shapes.{SameShape, inlets_shape, outlet_set, passed_before}
 use Rattle.sb_router.proofs.Subsequences.{without_end}
 use Rattle.sb_router.proofs.Forwards.{sound_before}
+use Rattle.sb_packet.specs.declared.item.Item.TheVariants as items
 
 -- what may go over a ring is of a flow that does
 pub allowed_flow : (flows : RingFlows) (m : Message) → is_allowed flows m ≡ true → (g : NetFlow) × (message_flow flows m ≡ Some g) × (goes_through flows g ≡ true)
@@ -85,7 +86,7 @@ module _ {words : Words} {route : Route} (s : LaneState) (laid : IsLaid words ro
   shape = inlets_shape s i (emptied (inlet_at s i)) lt refl
 
   -- where all is sound and within the budget, the packet passes
-  would_pass : (o : ℕ) → route found.0 ≡ Some o → AreSound s → popped_for words s o ≤ (outlet_at s o).port.plan.budget → MayPass (outlet_at s o).port.plan (length (offered_at s o)) (message_of p)
+  would_pass : (o : ℕ) → route found.0 ≡ Some o → AreSound s → popped_for words s o ≤ (outlet_at s o).plan.budget → MayPass (outlet_at s o).plan (length (offered_at s o)) (message_of p)
   would_pass o e sound room =
       let few = h.few o in let here = get_or-le-sum_by (held_for words o) s.inlets i no_inlet lt in
       record {
@@ -103,7 +104,7 @@ module _ {words : Words} {route : Route} (s : LaneState) (laid : IsLaid words ro
     picks = λ f j o passes. picks f j o (h.picks f j o (passed_before shape passes));
     whole = λ f j o passes sound room.
         let now = passed_before shape passes in
-        let enough : popped_for words s o ≤ (outlet_at s o).port.plan.budget = omega (arith, room, came_sum o) in
+        let enough : popped_for words s o ≤ (outlet_at s o).plan.budget = omega (arith, room, came_sum o) in
         whole_then f j o now (sound_then sound) enough (h.whole f j o now (sound_then sound) enough);
   }
     where
@@ -118,13 +119,13 @@ module _ {words : Words} {route : Route} (s : LaneState) (laid : IsLaid words ro
             | inr q ↦ subst (λ (y : InletState). IsSubsequence (O ++ part words f (held_words y.held)) (part words f (received_words y.ring))) (sym q) old
           ]
 
-      nothing_lost : (f : NetFlow) (o : ℕ) → Passes route s f i o → AreSound s → popped_for words s o ≤ (outlet_at s o).port.plan.budget → part words f (held_at s i) ≡ []
+      nothing_lost : (f : NetFlow) (o : ℕ) → Passes route s f i o → AreSound s → popped_for words s o ≤ (outlet_at s o).plan.budget → part words f (held_at s i) ≡ []
       nothing_lost f o passes sound room = elim (one.no_other f) [
         | inl is ↦ let goes : route found.0 ≡ Some o = sym (ap route is) ∙ passes.route_to in absurd (refused o (rw found.1 goes) (would_pass o goes sound room))
         | inr none ↦ ap (part words f) its_words ∙ none
       ]
 
-      whole_then : (f : NetFlow) (j o : ℕ) → Passes route s f j o → AreSound s → popped_for words s o ≤ (outlet_at s o).port.plan.budget
+      whole_then : (f : NetFlow) (j o : ℕ) → Passes route s f j o → AreSound s → popped_for words s o ≤ (outlet_at s o).plan.budget
           → part words f (came_at s j) ≡ part words f (offered_at s o) ++ part words f (held_at s j)
           → part words f (came_at (record s { inlets = rest }) j) ≡ part words f (offered_at s o) ++ part words f (held_words (get_or rest j no_inlet).held)
       whole_then f j o passes sound room old = let O = part words f (offered_at s o) in
@@ -137,7 +138,7 @@ module _ {words : Words} {route : Route} (s : LaneState) (laid : IsLaid words ro
             | inr q ↦ subst (λ (y : InletState). part words f (received_words y.ring) ≡ O ++ part words f (held_words y.held)) (sym q) old
           ]
 
-  module _ (o : ℕ) (y : OutletState) (within : o < length s.outlets) (next : next_place route (inlet_at s i).ring.plan p ≡ Some o) (given : IsGiven (outlet_at s o) y p) where
+  module _ (o : ℕ) (y : PortSide) (within : o < length s.outlets) (next : next_place route (inlet_at s i).ring.plan p ≡ Some o) (given : IsGiven (outlet_at s o) y p) where
     abbrev pub given_to : LaneState
     given_to = record { inlets = rest; outlets = set s.outlets o y }
 
@@ -147,7 +148,7 @@ module _ {words : Words} {route : Route} (s : LaneState) (laid : IsLaid words ro
     full_shape : SameShape s given_to
     full_shape = record { inlets = shape.inlets; outlets = length-set s.outlets o y; in_plans = shape.in_plans; out_plans = outlet_set s o y within given.kept.plan }
 
-    offered_more : (f : NetFlow) → part words f (offered_words y.port) ≡ part words f (offered_at s o) ++ part words f (accesses_of p)
+    offered_more : (f : NetFlow) → part words f (offered_words y) ≡ part words f (offered_at s o) ++ part words f (accesses_of p)
     offered_more f = ap (part words f) given.words ∙ filter-append (words.is_of f) (offered_at s o) (accesses_of p)
 
     -- what a flow has at the port and held, before and after
@@ -157,19 +158,19 @@ module _ {words : Words} {route : Route} (s : LaneState) (laid : IsLaid words ro
       | inl is ↦
           let at_i : j ≡ i = laid.apart f j i passes.inlet lt passes.through (ap (goes_through (inlet_at s i).ring.plan.flows) is ∙ found.2) in
           let at_o : Some q ≡ Some o = sym passes.route_to ∙ ap route is ∙ goes in let same : q ≡ o = cc in
-          let outlet : outlet_at given_to q ≡ y = ap (λ (k : ℕ). get_or (set s.outlets o y) k no_outlet) same ∙ get_or-set_same s.outlets o y no_outlet within in
+          let outlet : outlet_at given_to q ≡ y = ap (λ (k : ℕ). get_or (set s.outlets o y) k no_port) same ∙ get_or-set_same s.outlets o y no_port within in
           let inlet : inlet_at given_to j ≡ emptied (inlet_at s i) = ap (λ (k : ℕ). get_or rest k no_inlet) at_i ∙ get_or-set_same s.inlets i (emptied (inlet_at s i)) no_inlet lt in
-          let left : part words f (offered_at given_to q) ++ part words f (held_at given_to j) ≡ part words f (offered_words y.port) ++ [] =
-          ap (λ (z : OutletState). part words f (offered_words z.port) ++ part words f (held_at given_to j)) outlet ∙ ap (λ (z : InletState). part words f (offered_words y.port) ++ part words f (held_words z.held)) inlet in
+          let left : part words f (offered_at given_to q) ++ part words f (held_at given_to j) ≡ part words f (offered_words y) ++ [] =
+          ap (λ (z : PortSide). part words f (offered_words z) ++ part words f (held_at given_to j)) outlet ∙ ap (λ (z : InletState). part words f (offered_words y) ++ part words f (held_words z.held)) inlet in
           let right : part words f (offered_at s o) ++ part words f (accesses_of p) ≡ part words f (offered_at s q) ++ part words f (held_at s j) =
           ap (λ (l : List Access). part words f (offered_at s o) ++ part words f l) (sym its_words) ∙ ap (λ (k : ℕ). part words f (offered_at s k) ++ part words f (held_at s i)) (sym same)
           ∙ ap (λ (k : ℕ). part words f (offered_at s q) ++ part words f (held_at s k)) (sym at_i) in
-          left ∙ append-nil (part words f (offered_words y.port)) ∙ offered_more f ∙ right
+          left ∙ append-nil (part words f (offered_words y)) ∙ offered_more f ∙ right
       | inr none ↦
-          let offered : part words f (offered_at given_to q) ≡ part words f (offered_at s q) = elim (set_cases s.outlets o q y no_outlet within) [
-            | inl w ↦ ap (λ (z : OutletState). part words f (offered_words z.port)) w.1 ∙ offered_more f ∙ ap (λ (l : List Access). part words f (offered_at s o) ++ l) none
+          let offered : part words f (offered_at given_to q) ≡ part words f (offered_at s q) = elim (set_cases s.outlets o q y no_port within) [
+            | inl w ↦ ap (λ (z : PortSide). part words f (offered_words z)) w.1 ∙ offered_more f ∙ ap (λ (l : List Access). part words f (offered_at s o) ++ l) none
                 ∙ append-nil (part words f (offered_at s o)) ∙ ap (λ (k : ℕ). part words f (offered_at s k)) (sym w.0)
-            | inr w ↦ ap (λ (z : OutletState). part words f (offered_words z.port)) w
+            | inr w ↦ ap (λ (z : PortSide). part words f (offered_words z)) w
           ] in
           let holds : part words f (held_at given_to j) ≡ part words f (held_at s j) = elim (set_cases s.inlets i j (emptied (inlet_at s i)) no_inlet lt) [
             | inl w ↦ ap (λ (z : InletState). part words f (held_words z.held)) w.1 ∙ sym (ap (part words f) its_words ∙ none) ∙ ap (λ (k : ℕ). part words f (held_at s k)) (sym w.0)
@@ -182,14 +183,14 @@ module _ {words : Words} {route : Route} (s : LaneState) (laid : IsLaid words ro
     came_part f j = ap (λ ring. part words f (received_words ring)) (came_same j)
 
     few : (q : ℕ) → length (offered_at given_to q) + sum_by (held_for words q) rest ≤ popped_for words given_to q
-    few q = let old = h.few q in elim (set_cases s.outlets o q y no_outlet within) [
+    few q = let old = h.few q in elim (set_cases s.outlets o q y no_port within) [
       | inl w ↦
           let length_now : length (offered_at given_to q) ≡ length (offered_at s o) + length (accesses_of p) =
-          ap (λ (z : OutletState). length (offered_words z.port)) w.1 ∙ ap length given.words ∙ length-append (offered_at s o) (accesses_of p) in
+          ap (λ (z : PortSide). length (offered_words z)) w.1 ∙ ap length given.words ∙ length-append (offered_at s o) (accesses_of p) in
           let before : length (offered_at s q) ≡ length (offered_at s o) = ap (λ (k : ℕ). length (offered_at s k)) w.0 in
           let goal_here = its_goal q (goes ∙ ap (λ (k : ℕ). Some k) (sym w.0)) in
           omega (arith, old, length_now, before, goal_here, came_sum q, held_sum q)
-      | inr w ↦ let same : length (offered_at given_to q) ≡ length (offered_at s q) = ap (λ (z : OutletState). length (offered_words z.port)) w in omega (arith, old, same, came_sum q, held_sum q)
+      | inr w ↦ let same : length (offered_at given_to q) ≡ length (offered_at s q) = ap (λ (z : PortSide). length (offered_words z)) w in omega (arith, old, same, came_sum q, held_sum q)
     ]
 
     pub offering : Forwards words route given_to
@@ -201,6 +202,6 @@ module _ {words : Words} {route : Route} (s : LaneState) (laid : IsLaid words ro
           (subst (λ (l : List Access). IsSubsequence (part words f (offered_at s q) ++ part words f (held_at s j)) l) (sym (came_part f j)) (h.picks f j q now));
       whole = λ f j q passes sound room.
           let now = passed_before full_shape passes in
-          let budget : (outlet_at given_to q).port.plan.budget ≡ (outlet_at s q).port.plan.budget = ap (λ (plan : RingPlan). plan.budget) (full_shape.out_plans q) in
+          let budget : (outlet_at given_to q).plan.budget ≡ (outlet_at s q).plan.budget = ap (λ (plan : RingPlan). plan.budget) (full_shape.out_plans q) in
           came_part f j ∙ h.whole f j q now (sound_then sound) (omega (arith, room, budget, came_sum q)) ∙ sym (joined f j q now);
     }

@@ -2,11 +2,12 @@
 use Rattle.std.proofs.Common.{◌≡◌, ◌<◌, List, [], ◌∷◌, ◌++◌, length, map, remove, get_or, All, refl, sym, ap, ◌∙◌, subst, arith, append_assoc}
 use Rattle.std.proofs.lemmas.List.{append-nil}
 use Rattle.std.proofs.lemmas.List.Elements.{All-head, All-nil, All-tail}
+use Rattle.sb_router.specs.Fresh.{IsFreshPair, fresh_inlet}
+use Rattle.sb_router.specs.Lanes.{InletState}
+use Rattle.sb_port.specs.Ports.{PortSide, fresh_port}
+use Rattle.sb_router.specs.Whole.{IsWholeOutlet}
 use Rattle.sb_link.specs.declared.ends.RxEnd as rx
 use Rattle.sb_link.specs.declared.ends.TxEnd as tx
-use Rattle.sb_router.specs.Fresh.{IsFreshPair, fresh_inlet, fresh_outlet}
-use Rattle.sb_router.specs.Lanes.{InletState, OutletState}
-use Rattle.sb_router.specs.Whole.{IsWholeOutlet}
 
 -- a list is its first element and the rest
 pub first_and_rest : {X : Type 0} (xs rest : List X) (x : X) → 0 < length xs → x ≡ get_or xs 0 x → rest ≡ remove xs 0 → xs ≡ x ∷ rest
@@ -36,43 +37,43 @@ module _ {L T U : Type 0} (sending : tx.Ghosts T) (receiving : rx.Ghosts U) (fro
   abbrev inlets_of : List L → List InletState
   inlets_of legs = map (λ leg. fresh_inlet receiving (from leg)) legs
 
-  abbrev outlets_of : List L → List OutletState
-  outlets_of legs = map (λ leg. fresh_outlet sending (to leg)) legs
+  abbrev outlets_of : List L → List PortSide
+  outlets_of legs = map (λ leg. fresh_port sending (to leg)) legs
 
   abbrev IsFreshLeg : L → Type 0
   IsFreshLeg leg = IsFreshPair sending receiving (to leg) (from leg)
 
   -- The ends that were taken, and then those of the legs that are left, are those of all legs.
-  pub record TakenSoFar (all left : List L) (inlets : List InletState) (outlets : List OutletState) : Type 0 where
+  pub record TakenSoFar (all left : List L) (inlets : List InletState) (outlets : List PortSide) : Type 0 where
     pub fresh : All IsFreshLeg left
     pub inlets_are : inlets ++ inlets_of left ≡ inlets_of all
     pub outlets_are : outlets ++ outlets_of left ≡ outlets_of all
     pub whole : All IsWholeOutlet outlets
 
-  pub none_taken : (all : List L) (inlets : List InletState) (outlets : List OutletState) → inlets ≡ [] → outlets ≡ [] → All IsFreshLeg all → TakenSoFar all all inlets outlets
-  none_taken all inlets outlets no_inlets no_outlets fresh = record {
+  pub none_taken : (all : List L) (inlets : List InletState) (outlets : List PortSide) → inlets ≡ [] → outlets ≡ [] → All IsFreshLeg all → TakenSoFar all all inlets outlets
+  none_taken all inlets outlets no_inlets no_ports fresh = record {
     fresh = fresh;
     inlets_are = ap (λ l. l ++ inlets_of all) no_inlets;
-    outlets_are = ap (λ l. l ++ outlets_of all) no_outlets;
-    whole = subst (All IsWholeOutlet) (sym no_outlets) (All-nil IsWholeOutlet);
+    outlets_are = ap (λ l. l ++ outlets_of all) no_ports;
+    whole = subst (All IsWholeOutlet) (sym no_ports) (All-nil IsWholeOutlet);
   }
 
-  module _ {all left rest : List L} {leg : L} {inlets : List InletState} {outlets : List OutletState} (split : left ≡ leg ∷ rest) (taken : TakenSoFar all left inlets outlets) where
+  module _ {all left rest : List L} {leg : L} {inlets : List InletState} {outlets : List PortSide} (split : left ≡ leg ∷ rest) (taken : TakenSoFar all left inlets outlets) where
     pub next_is_fresh : IsFreshLeg leg
     next_is_fresh = of_first IsFreshLeg left rest leg split taken.fresh
 
-    pub one_taken : {more_inlets : List InletState} {more_outlets : List OutletState} → more_inlets ≡ inlets ++ fresh_inlet receiving (from leg) ∷ [] → more_outlets ≡ outlets ++ fresh_outlet sending (to leg) ∷ []
+    pub one_taken : {more_inlets : List InletState} {more_outlets : List PortSide} → more_inlets ≡ inlets ++ fresh_inlet receiving (from leg) ∷ [] → more_outlets ≡ outlets ++ fresh_port sending (to leg) ∷ []
         → (All IsWholeOutlet outlets → All IsWholeOutlet more_outlets) → TakenSoFar all rest more_inlets more_outlets
     one_taken {more_inlets} {more_outlets} inlet outlet whole = record {
       fresh = of_rest IsFreshLeg left rest leg split taken.fresh;
       inlets_are = one_made (λ leg. fresh_inlet receiving (from leg)) inlets more_inlets (inlets_of all) left rest leg split inlet taken.inlets_are;
-      outlets_are = one_made (λ leg. fresh_outlet sending (to leg)) outlets more_outlets (outlets_of all) left rest leg split outlet taken.outlets_are;
+      outlets_are = one_made (λ leg. fresh_port sending (to leg)) outlets more_outlets (outlets_of all) left rest leg split outlet taken.outlets_are;
       whole = whole taken.whole;
     }
 
-  module _ {all left : List L} {inlets : List InletState} {outlets : List OutletState} (none_left : length left ≡ 0) (taken : TakenSoFar all left inlets outlets) where
+  module _ {all left : List L} {inlets : List InletState} {outlets : List PortSide} (none_left : length left ≡ 0) (taken : TakenSoFar all left inlets outlets) where
     pub all_inlets : inlets ≡ inlets_of all
     all_inlets = all_made (λ leg. fresh_inlet receiving (from leg)) inlets (inlets_of all) left none_left taken.inlets_are
 
     pub all_outlets : outlets ≡ outlets_of all
-    all_outlets = all_made (λ leg. fresh_outlet sending (to leg)) outlets (outlets_of all) left none_left taken.outlets_are
+    all_outlets = all_made (λ leg. fresh_port sending (to leg)) outlets (outlets_of all) left none_left taken.outlets_are

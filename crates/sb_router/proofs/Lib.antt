@@ -21,10 +21,10 @@ pub mod RouterTurning
 pub mod Tables
 pub mod Legs
 pub mod FreshLanes
-pub mod Found
-pub mod Restored
+pub mod Meetings
 pub mod Results
 pub mod KeptSteps
 pub mod ForwardSteps
-pub mod Marks
-pub mod SampleNetwork
+pub mod RestedSteps
+pub mod Besides
+pub mod Lent

@@ -6,7 +6,8 @@ use Rattle.sb_packet.specs.declared.item.Item.{Item}
 use Rattle.sb_node.specs.Kept.{IsKeptPort}
 use Rattle.sb_node.specs.Sides.{port_moves}
 use Rattle.sb_node.proofs.Answering.{moves_kept}
-use Rattle.sb_router.specs.Lanes.{InletState, LaneState, OutletState, inlet_at, no_inlet, no_outlet, outlet_at}
+use Rattle.sb_router.specs.Lanes.{InletState, LaneState, inlet_at, no_inlet, no_port, outlet_at}
+use Rattle.sb_port.specs.Ports.{PortSide}
 use Rattle.sb_router.specs.Steps.{IsReceived, IsUnmoved, emptied}
 use Rattle.sb_router.specs.Moves.{IsToldMoved, free_count, inlet_moves, lane_moves}
 
@@ -34,8 +35,8 @@ module _ (s : LaneState) where
   pub inlet_sum : (i : ℕ) (x : InletState) → i < length s.inlets → lane_moves (record s { inlets = set s.inlets i x }) + inlet_moves (inlet_at s i) ≡ lane_moves s + inlet_moves x
   inlet_sum i x lt = let sum = sum_by-set inlet_moves s.inlets i x no_inlet lt in omega (arith, sum)
 
-  pub outlet_sum : (o : ℕ) (y : OutletState) → o < length s.outlets → lane_moves (record s { outlets = set s.outlets o y }) + port_moves (outlet_at s o).port ≡ lane_moves s + port_moves y.port
-  outlet_sum o y lt = let sum = sum_by-set (λ z. port_moves z.port) s.outlets o y no_outlet lt in omega (arith, sum)
+  pub outlet_sum : (o : ℕ) (y : PortSide) → o < length s.outlets → lane_moves (record s { outlets = set s.outlets o y }) + port_moves (outlet_at s o) ≡ lane_moves s + port_moves y
+  outlet_sum o y lt = let sum = sum_by-set port_moves s.outlets o y no_port lt in omega (arith, sum)
 
   -- a ring was set at which more went through, or as much
   pub inlet_more : (i : ℕ) (x : InletState) → i < length s.inlets → inlet_moves (inlet_at s i) < inlet_moves x → IsToldMoved s (record s { inlets = set s.inlets i x }) true
@@ -44,19 +45,19 @@ module _ (s : LaneState) where
   pub inlet_same : (i : ℕ) (x : InletState) → i < length s.inlets → inlet_moves x ≡ inlet_moves (inlet_at s i) → IsToldMoved s (record s { inlets = set s.inlets i x }) false
   inlet_same i x lt same = record { more = λ e. let no_way : ⊥ = cc in absurd no_way; none = λ _. omega (arith, same, inlet_sum i x lt) }
 
-  pub outlet_more : (o : ℕ) (y : OutletState) → o < length s.outlets → port_moves (outlet_at s o).port < port_moves y.port → IsToldMoved s (record s { outlets = set s.outlets o y }) true
+  pub outlet_more : (o : ℕ) (y : PortSide) → o < length s.outlets → port_moves (outlet_at s o) < port_moves y → IsToldMoved s (record s { outlets = set s.outlets o y }) true
   outlet_more o y lt more = record { more = λ _. omega (arith, more, outlet_sum o y lt); none = λ e. let no_way : ⊥ = cc in absurd no_way }
 
-  pub outlet_same : (o : ℕ) (y : OutletState) → o < length s.outlets → port_moves y.port ≡ port_moves (outlet_at s o).port → IsToldMoved s (record s { outlets = set s.outlets o y }) false
+  pub outlet_same : (o : ℕ) (y : PortSide) → o < length s.outlets → port_moves y ≡ port_moves (outlet_at s o) → IsToldMoved s (record s { outlets = set s.outlets o y }) false
   outlet_same o y lt same = record { more = λ e. let no_way : ⊥ = cc in absurd no_way; none = λ _. omega (arith, same, outlet_sum o y lt) }
 
   -- a packet that was held was handed on to a port
-  pub both_more : (i o : ℕ) (p : Packet) (y : OutletState) → i < length s.inlets → o < length s.outlets → (inlet_at s i).held ≡ Some p → IsKeptPort (outlet_at s o).port y.port
+  pub both_more : (i o : ℕ) (p : Packet) (y : PortSide) → i < length s.inlets → o < length s.outlets → (inlet_at s i).held ≡ Some p → IsKeptPort (outlet_at s o) y
       → IsToldMoved s (record { inlets = set s.inlets i (emptied (inlet_at s i)); outlets = set s.outlets o y }) true
   both_more i o p y lt within held kept = record {
     more = λ _.
         let in_sum = sum_by-set inlet_moves s.inlets i (emptied (inlet_at s i)) no_inlet lt in
-        let out_sum = sum_by-set (λ z. port_moves z.port) s.outlets o y no_outlet within in
+        let out_sum = sum_by-set port_moves s.outlets o y no_port within in
         let more = inlet_emptied (inlet_at s i) p held in let port = moves_kept kept in omega (arith, in_sum, out_sum, more, port);
     none = λ e. let no_way : ⊥ = cc in absurd no_way;
   }

@@ -1,22 +1,24 @@
 -- Popping one ring after another.
 use Rattle.std.proofs.Common.{◌≡◌, ◌≢◌, ◌⊎◌, inl, inr, ℕ, ◌<◌, ◌≤◌, ◌+◌, ◌||◌, Bool, true, false, cond, is_some, List, [], ◌∷◌, length, map, take, set, Option, Some, None, refl, sym, ap, ◌∙◌, subst, arith, length-append}
 use Rattle.std.proofs.lemmas.List.{get_or_default, take_all}
-use Rattle.sb_link.specs.declared.answers.Cause.TheVariants as causes
 use Rattle.sb_packet.specs.declared.packet.Packet.{Packet}
 use Rattle.sb_node.specs.declared.findings.Findings.{Findings}
 use Rattle.sb_node.specs.Kept.{kept_ring_same}
 use Rattle.sb_router.specs.Lanes.{InletState, LaneState, Route, inlet_at, no_inlet}
 use Rattle.sb_router.specs.Steps.{IsUnmoved, Step, Steps, receives, looks, none, further}
-use Rattle.sb_router.specs.Causes.{found_in_both, lowest, nothing_found}
+use Rattle.sb_router.specs.Causes.{FindsBesides, found_in_both, lowest, nothing_found}
+use Rattle.sb_router.specs.Rested.{IsRestedInlet, IsRestedLane, rested_lane_same, rested_lane_then}
 use Rattle.sb_router.specs.Moves.{IsToldMoved}
 use Rattle.sb_router.specs.Popping.{IsPopped, IsPoppedAt}
 use Rattle.sb_node.specs.Sides.{RingSide}
 use Rattle.sb_router.specs.Turning.{HasPopped, IsSeen, OneItemEach, pop_cause, IsServed}
 use Rattle.sb_router.proofs.Cases.{or_false}
+use Rattle.sb_router.proofs.RestedSteps.{rested_inlets, rested_unmoved}
 use Rattle.sb_router.proofs.Shapes.{steps_shape}
 use Rattle.sb_router.proofs.Places.{ahead_same, at_each, so_far}
-use Rattle.sb_router.proofs.Lowest.{lowest_next}
+use Rattle.sb_router.proofs.Lowest.{lowest_next, neither_found}
 use Rattle.sb_router.proofs.MoveSteps.{inlet_more, inlet_received, inlet_same, inlet_unmoved, moved_none, moved_then}
+use Rattle.sb_link.specs.declared.answers.Cause.TheVariants as causes
 
 -- What one pop shows of a ring, by what was found.
 pub record IsOnePop (route : Route) (s t : LaneState) (i : ℕ) (x : InletState) (one : Findings) : Type 0 where
@@ -26,11 +28,12 @@ pub record IsOnePop (route : Route) (s t : LaneState) (i : ℕ) (x : InletState)
   pub cause : one.moved ≡ false → one.empty ≡ pop_cause x
   pub one_item : length x.ring.received ≤ length (inlet_at s i).ring.received + 1
   pub served : IsServed (inlet_at s i) x.ring
+  pub rests : one.moved ≡ false → IsRestedInlet (inlet_at s i) x
   pub full : one.full ≡ None
   pub waits : one.waits ≡ None
 
 unmoved_same : (x : InletState) → IsUnmoved x x
-unmoved_same x = record { there = refl; number = refl; received = refl; kept = kept_ring_same x.ring; ended = refl; held = refl }
+unmoved_same x = record { received = refl; kept = kept_ring_same x.ring; ended = refl; held = refl }
 
 -- a ring that was left has no cause
 left_none : (ended : Bool) (held : Option Packet) → (ended ≡ true) ⊎ (held ≢ None) → (ended || is_some held) ≡ true
@@ -60,6 +63,7 @@ one_pop {route} s i x one lt (inl left) =
           ∙ sym (ap (λ (b : Bool). cond b None (Some (causes.Empty x.ring.plan.ring (length x.ring.received) x.ring.known))) (left_none x.ended x.held cause));
       one_item = let same = ap length is.received in omega (arith, same);
       served = left_not (inlet_at s i) x.ring left.cause;
+      rests = λ _. rested_unmoved is;
       full = ap (λ (f : Findings). f.full) left.found_nothing;
       waits = ap (λ (f : Findings). f.waits) left.found_nothing;
     }
@@ -72,6 +76,7 @@ one_pop {route} s i x one lt (inr (inl taken)) =
       cause = λ e. let no_way : ⊥ = cc in absurd no_way;
       one_item = let long = ap length taken.received.received ∙ length-append (inlet_at s i).ring.received (taken.item ∷ []) in omega (arith, long);
       served = λ unended free. inl (ap length taken.received.received ∙ length-append (inlet_at s i).ring.received (taken.item ∷ []));
+      rests = λ e. let no_way : ⊥ = cc in absurd no_way;
       full = ap (λ (f : Findings). f.full) taken.found_move;
       waits = ap (λ (f : Findings). f.waits) taken.found_move;
     }
@@ -85,6 +90,7 @@ one_pop {route} s i x one lt (inr (inr empty)) =
           ∙ ap (λ (h : Option Packet). cond (is_some h) None (Some (causes.Empty x.ring.plan.ring (length x.ring.received) x.ring.known))) empty.free);
       one_item = let same = ap length empty.same.received in omega (arith, same);
       served = λ unended free. inr empty.drained;
+      rests = λ _. rested_unmoved empty.same;
       full = ap (λ (f : Findings). f.full) empty.found_empty;
       waits = ap (λ (f : Findings). f.waits) empty.found_empty;
     }
@@ -92,6 +98,7 @@ one_pop {route} s i x one lt (inr (inr empty)) =
 -- The rings before a place were popped, and no other ones.
 pub record PopsSoFar (route : Route) (s now : LaneState) (found : Findings) (place : ℕ) : Type 0 where
   pub steps : Steps route s now
+  pub rests : found.moved ≡ false → IsRestedLane s now
   pub outlets : now.outlets ≡ s.outlets
   pub moved : IsToldMoved s now found.moved
   pub one_item : OneItemEach s now
@@ -99,10 +106,13 @@ pub record PopsSoFar (route : Route) (s now : LaneState) (found : Findings) (pla
   pub ahead : (j : ℕ) → place ≤ j → inlet_at now j ≡ inlet_at s j
   pub seen : found.moved ≡ false → (j : ℕ) → j < place → IsSeen (inlet_at now j)
   pub empty : found.moved ≡ false → found.empty ≡ lowest (map pop_cause (take place now.inlets))
+  pub full : found.full ≡ None
+  pub waits : found.waits ≡ None
 
 pub pops_none : (route : Route) (s : LaneState) {found : Findings} → found ≡ nothing_found → PopsSoFar route s s found 0
 pops_none route s nothing = subst (λ (f : Findings). PopsSoFar route s s f 0) (sym nothing) (record {
   steps = none;
+  rests = λ _. rested_lane_same s;
   outlets = refl;
   moved = moved_none s;
   one_item = λ i. omega arith;
@@ -110,13 +120,21 @@ pops_none route s nothing = subst (λ (f : Findings). PopsSoFar route s s f 0) (
   ahead = λ j le. refl;
   seen = λ e j lt. absurd (omega arith);
   empty = λ e. refl;
+  full = refl;
+  waits = refl;
 })
 
-pub pops_more : {route : Route} {s now then : LaneState} {found one both : Findings} {place : ℕ} → PopsSoFar route s now found place → place < length now.inlets → IsPoppedAt place now then one → both ≡ found_in_both found one
-    → PopsSoFar route s then both (place + 1)
-pops_more {route} {s} {now} {then} {found} {one} {both} {place} h lt at is =
-    subst (λ (f : Findings). PopsSoFar route s then f (place + 1)) (sym is) (subst (λ (t : LaneState). PopsSoFar route s t (found_in_both found one) (place + 1)) (sym at.state) popped_more)
+pub pops_more : {route : Route} {s now then : LaneState} {found found_then : Findings} {place : ℕ} → PopsSoFar route s now found place → place < length now.inlets → FindsBesides (IsPoppedAt place now then) found found_then
+    → PopsSoFar route s then found_then (place + 1)
+pops_more {route} {s} {now} {then} {found} {found_then} {place} h lt more =
+    subst (λ (f : Findings). PopsSoFar route s then f (place + 1)) (sym more.both) (subst (λ (t : LaneState). PopsSoFar route s t (found_in_both found one) (place + 1)) (sym at.state) popped_more)
   where
+    one : Findings
+    one = more.one
+
+    at : IsPoppedAt place now then one
+    at = more.has
+
     x : InletState
     x = at.inlet
 
@@ -129,6 +147,7 @@ pops_more {route} {s} {now} {then} {found} {one} {both} {place} h lt at is =
     popped_more : PopsSoFar route s t (found_in_both found one) (place + 1)
     popped_more = record {
       steps = further h.steps popped.step;
+      rests = λ e. let two = or_false found.moved one.moved e in rested_lane_then (h.rests two.0) (rested_inlets now place x lt (popped.rests two.1));
       outlets = h.outlets;
       moved = moved_then found.moved one.moved h.moved popped.moved;
       one_item = at_each now.inlets place x no_inlet lt (λ j y. length y.ring.received ≤ length (inlet_at s j).ring.received + 1)
@@ -138,15 +157,20 @@ pops_more {route} {s} {now} {then} {found} {one} {both} {place} h lt at is =
       ahead = ahead_same now.inlets place x no_inlet lt (inlet_at s) h.ahead;
       seen = λ e. let two = or_false found.moved one.moved e in so_far now.inlets place x no_inlet lt (λ _ y. IsSeen y) (popped.seen two.1) (h.seen two.0);
       empty = λ e. let two = or_false found.moved one.moved e in lowest_next pop_cause now.inlets place x found.empty one.empty lt (h.empty two.0) (popped.cause two.1);
+      full = neither_found h.full popped.full;
+      waits = neither_found h.waits popped.waits;
     }
 
 pub pops_all : {route : Route} {s now : LaneState} {found : Findings} {place : ℕ} → PopsSoFar route s now found place → length now.inlets ≤ place → HasPopped route s now found
 pops_all {route} {s} {now} {found} {place} h over = record {
   steps = h.steps;
+  rests = h.rests;
   outlets = h.outlets;
   moved = h.moved;
   one_item = h.one_item;
   served = λ j lt. h.served j (omega (arith, lt, over, (steps_shape h.steps).inlets));
   seen = λ e k d lt. subst IsSeen (get_or_default now.inlets k no_inlet d lt) (h.seen e k (omega (arith, over, lt)));
   empty = λ e. h.empty e ∙ ap (λ (l : List InletState). lowest (map pop_cause l)) (take_all place now.inlets over);
+  full = h.full;
+  waits = h.waits;
 }

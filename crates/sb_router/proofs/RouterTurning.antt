@@ -15,11 +15,11 @@ use Rattle.sb_router.proofs.RouterTurns.{done_both, has_cause}
 
 -- a direction is done
 abbrev pub lane_done : LaneState → Bool
-lane_done t = list_all (λ y. y.port.state.shut) t.outlets && list_all (λ x. x.ended) t.inlets
+lane_done t = list_all (λ y. y.state.shut) t.outlets && list_all (λ x. x.ended) t.inlets
 
 -- both are
 abbrev pub both_done : LaneState → LaneState → Bool
-both_done a b = is_done (map (λ y. y.port) a.outlets ++ map (λ y. y.port) b.outlets) (map (λ x. x.ring) a.inlets ++ map (λ x. x.ring) b.inlets)
+both_done a b = is_done (a.outlets ++ b.outlets) (map (λ x. x.ring) a.inlets ++ map (λ x. x.ring) b.inlets)
 
 are_done : (a b : LaneState) (x y : Bool) → All IsWholeInlet a.inlets → All IsWholeInlet b.inlets → x ≡ lane_done a → y ≡ lane_done b → (x && y) ≡ both_done a b
 are_done a b x y w v e f = ap (λ (z : Bool). z && y) e ∙ ap (λ (z : Bool). lane_done a && z) f ∙ done_both a b w v

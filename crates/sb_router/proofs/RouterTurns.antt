@@ -1,32 +1,34 @@
 -- One turn of a router, of the turns of its two directions.
 use Rattle.std.proofs.Common.{◌≡◌, ◌≢◌, ℕ, ◌<◌, ◌+◌, ◌||◌, ◌&&◌, not, Bool, true, false, cond, is_some, List, [], ◌∷◌, ◌++◌, length, map, get_or, All, Option, Some, None, refl, sym, ap, ◌∙◌, subst, arith, nat_le, zero, suc}
 use Rattle.std.specs.List.{AllByRecursion, list_all}
-use Rattle.std.proofs.lemmas.List.{get_or_default}
+use Rattle.std.proofs.lemmas.List.{get_or_default, map-append}
 use Rattle.std.proofs.lemmas.List.Elements.{All-get_or, recursion_from_All}
 use Rattle.std.proofs.lemmas.List.Folds.{list_all-append, list_all-map}
 use Rattle.sb_link.specs.declared.answers.Cause.{Cause}
-use Rattle.sb_link.specs.declared.answers.Cause.TheVariants as causes
 use Rattle.sb_link.specs.declared.answers.Turn.{Turn}
 use Rattle.sb_link.specs.declared.answers.Turn.TheVariants.{Moved, Idle, Done}
 use Rattle.sb_packet.specs.declared.packet.Packet.{Packet}
 use Rattle.sb_port.specs.Waiting.{some_owed}
 use Rattle.sb_node.specs.declared.findings.Findings.{Findings}
 use Rattle.sb_node.specs.Found.{IsTurnOf}
-use Rattle.sb_node.specs.Sides.{PortSide, has_ended, has_rest, is_done}
+use Rattle.sb_port.specs.Ports.{PortSide}
+use Rattle.sb_node.specs.Sides.{has_ended, has_rest, is_done}
 use Rattle.sb_node.specs.Turns.{IsAnswered, empty_cause, first_cause, full_cause}
-use Rattle.sb_router.specs.Lanes.{InletState, LaneState, OutletState, Route, inlet_at, no_inlet, no_outlet, outlet_at}
+use Rattle.sb_router.specs.Lanes.{InletState, LaneState, Route, inlet_at, no_inlet, no_port, outlet_at}
 use Rattle.sb_router.specs.Steps.{IsSilent}
 use Rattle.sb_router.specs.Causes.{found_in_both, lower, lowest, ring_of_cause}
 use Rattle.sb_router.specs.Moves.{lane_moves}
 use Rattle.sb_router.specs.Turning.{IsIdleLane, IsLaneTurn}
 use Rattle.sb_router.specs.Whole.{IsWholeInlet, IsWholeLane}
 use Rattle.sb_router.specs.RouteOf.{route_of}
+use Rattle.sb_router.specs.RestedRouters.{IsRestedRouter}
 use Rattle.sb_router.specs.Routers.{IsKeptDirection, IsRouterTurn, RouterSide, router_moves, router_ports, router_rings}
 use Rattle.sb_router.proofs.Cases.{or_false}
 use Rattle.sb_router.proofs.ForwardSteps.{forwards_steps, laid_steps}
 use Rattle.sb_router.proofs.KeptSteps.{kept_steps}
 use Rattle.sb_router.proofs.Lowest.{lowest_append}
 use Rattle.sb_router.proofs.WholeSteps.{whole_steps}
+use Rattle.sb_link.specs.declared.answers.Cause.TheVariants as causes
 
 -- where two have no cause, neither has
 none_lower : (a b : Option Cause) → lower a b ≡ None → (a ≡ None) × (b ≡ None)
@@ -50,15 +52,15 @@ all_found test (x ∷ xs) h = ap (λ (b : Bool). b && list_all test xs) h.0 ∙ 
 
 -- a direction in which nothing moved, and no port is a cause
 module _ {route : Route} (t : LaneState) (whole : IsWholeLane route t) (idle : IsIdleLane route t)
-    (closed : All IsSilent t.inlets → (o : ℕ) → o < length t.outlets → (outlet_at t o).port.state.closing ≡ true)
-    (no_full : lowest (map (λ y. full_cause y.port) t.outlets) ≡ None) where
-  full_none : (o : ℕ) → o < length t.outlets → full_cause (outlet_at t o).port ≡ None
-  full_none o lt = none_lowest (λ (y : OutletState). full_cause y.port) t.outlets o no_outlet no_full lt
+    (closed : All IsSilent t.inlets → (o : ℕ) → o < length t.outlets → (outlet_at t o).state.closing ≡ true)
+    (no_full : lowest (map full_cause t.outlets) ≡ None) where
+  full_none : (o : ℕ) → o < length t.outlets → full_cause (outlet_at t o) ≡ None
+  full_none o lt = none_lowest full_cause t.outlets o no_port no_full lt
 
-  no_rest : (o : ℕ) → o < length t.outlets → has_rest (outlet_at t o).port ≡ false
-  no_rest o lt = by_test (has_rest (outlet_at t o).port) (full_none o lt)
+  no_rest : (o : ℕ) → o < length t.outlets → has_rest (outlet_at t o) ≡ false
+  no_rest o lt = by_test (has_rest (outlet_at t o)) (full_none o lt)
     where
-      by_test : (b : Bool) → cond b (Some (causes.Full (outlet_at t o).port.plan.ring (length (outlet_at t o).port.state.sent) (outlet_at t o).port.taken)) None ≡ None → b ≡ false
+      by_test : (b : Bool) → cond b (Some (causes.Full (outlet_at t o).plan.ring (length (outlet_at t o).state.sent) (outlet_at t o).taken)) None ≡ None → b ≡ false
       by_test true e = let no_way : ⊥ = cc in absurd no_way
       by_test false e = refl
 
@@ -66,7 +68,7 @@ module _ {route : Route} (t : LaneState) (whole : IsWholeLane route t) (idle : I
   nothing_held_at i lt None e = refl
   nothing_held_at i lt (Some p) e =
       let waits = idle.held_awaits_full i p lt e in
-      let rest : has_rest (outlet_at t waits.place).port ≡ true = ap (λ (b : Bool). b || is_some (outlet_at t waits.place).port.state.waiting.held) waits.owing in
+      let rest : has_rest (outlet_at t waits.place) ≡ true = ap (λ (b : Bool). b || is_some (outlet_at t waits.place).state.waiting.held) waits.owing in
       let none = no_rest waits.place waits.within in let no_way : ⊥ = cc in absurd no_way
 
   pub nothing_held : All (λ x. x.held ≡ None) t.inlets
@@ -84,8 +86,8 @@ module _ {route : Route} (t : LaneState) (whole : IsWholeLane route t) (idle : I
     silent : All IsSilent t.inlets
     silent k d lt = subst IsSilent (get_or_default t.inlets k no_inlet d lt) (record { ended = ended_at k lt; free = nothing_held_at k lt (inlet_at t k).held refl })
 
-    shut_at : (o : ℕ) → o < length t.outlets → (outlet_at t o).port.state.shut ≡ true
-    shut_at o lt = by_tests (some_owed (outlet_at t o).port.state.waiting) (outlet_at t o).port.state.closing (outlet_at t o).port.state.shut (is_some (outlet_at t o).port.state.waiting.held)
+    shut_at : (o : ℕ) → o < length t.outlets → (outlet_at t o).state.shut ≡ true
+    shut_at o lt = by_tests (some_owed (outlet_at t o).state.waiting) (outlet_at t o).state.closing (outlet_at t o).state.shut (is_some (outlet_at t o).state.waiting.held)
         (closed silent o lt) (no_rest o lt)
       where
         by_tests : (owed closing shut held : Bool) → closing ≡ true → ((owed || (closing && not shut)) || held) ≡ false → shut ≡ true
@@ -94,10 +96,10 @@ module _ {route : Route} (t : LaneState) (whole : IsWholeLane route t) (idle : I
         by_tests false true false held c e = let no_way : ⊥ = cc in absurd no_way
         by_tests false false false held c e = let no_way : ⊥ = cc in absurd no_way
 
-    pub all_done : (list_all (λ y. y.port.state.shut) t.outlets && list_all (λ x. x.ended) t.inlets) ≡ true
+    pub all_done : (list_all (λ y. y.state.shut) t.outlets && list_all (λ x. x.ended) t.inlets) ≡ true
     all_done = ap (λ (b : Bool). b && list_all (λ x. x.ended) t.inlets)
-        (all_found (λ (y : OutletState). y.port.state.shut) t.outlets
-        (recursion_from_All (λ (y : OutletState). y.port.state.shut ≡ true) t.outlets (λ k d lt. subst (λ (y : OutletState). y.port.state.shut ≡ true) (get_or_default t.outlets k no_outlet d lt) (shut_at k lt))))
+        (all_found (λ (y : PortSide). y.state.shut) t.outlets
+        (recursion_from_All (λ (y : PortSide). y.state.shut ≡ true) t.outlets (λ k d lt. subst (λ (y : PortSide). y.state.shut ≡ true) (get_or_default t.outlets k no_port d lt) (shut_at k lt))))
         ∙ all_found (λ (x : InletState). x.ended) t.inlets
         (recursion_from_All (λ (x : InletState). x.ended ≡ true) t.inlets (λ k d lt. subst (λ (x : InletState). x.ended ≡ true) (get_or_default t.inlets k no_inlet d lt) (ended_at k lt)))
 
@@ -114,21 +116,18 @@ four false b c d = refl
 
 -- a router is done where both directions are
 pub done_both : (p q : LaneState) → All IsWholeInlet p.inlets → All IsWholeInlet q.inlets
-    → ((list_all (λ y. y.port.state.shut) p.outlets && list_all (λ x. x.ended) p.inlets) && (list_all (λ y. y.port.state.shut) q.outlets && list_all (λ x. x.ended) q.inlets))
-    ≡ is_done (map (λ y. y.port) p.outlets ++ map (λ y. y.port) q.outlets) (map (λ x. x.ring) p.inlets ++ map (λ x. x.ring) q.inlets)
+    → ((list_all (λ y. y.state.shut) p.outlets && list_all (λ x. x.ended) p.inlets) && (list_all (λ y. y.state.shut) q.outlets && list_all (λ x. x.ended) q.inlets))
+    ≡ is_done (p.outlets ++ q.outlets) (map (λ x. x.ring) p.inlets ++ map (λ x. x.ring) q.inlets)
 done_both p q w v =
     let shut : PortSide → Bool = λ port. port.state.shut in
-    let ports : list_all shut (map (λ y. y.port) p.outlets ++ map (λ y. y.port) q.outlets) ≡ (list_all (λ y. y.port.state.shut) p.outlets && list_all (λ y. y.port.state.shut) q.outlets) =
-    list_all-append shut (map (λ y. y.port) p.outlets) (map (λ y. y.port) q.outlets)
-    ∙ ap (λ (b : Bool). b && list_all shut (map (λ y. y.port) q.outlets)) (list_all-map shut (λ (y : OutletState). y.port) p.outlets)
-    ∙ ap (λ (b : Bool). list_all (λ y. y.port.state.shut) p.outlets && b) (list_all-map shut (λ (y : OutletState). y.port) q.outlets) in
+    let ports : list_all shut (p.outlets ++ q.outlets) ≡ (list_all (λ y. y.state.shut) p.outlets && list_all (λ y. y.state.shut) q.outlets) = list_all-append shut p.outlets q.outlets in
     let rings : list_all has_ended (map (λ x. x.ring) p.inlets ++ map (λ x. x.ring) q.inlets) ≡ (list_all (λ x. x.ended) p.inlets && list_all (λ x. x.ended) q.inlets) =
     list_all-append has_ended (map (λ x. x.ring) p.inlets) (map (λ x. x.ring) q.inlets)
     ∙ ap (λ (b : Bool). b && list_all has_ended (map (λ x. x.ring) q.inlets)) (list_all-map has_ended (λ (x : InletState). x.ring) p.inlets ∙ sym (ended_same p.inlets (recursion_from_All IsWholeInlet p.inlets w)))
     ∙ ap (λ (b : Bool). list_all (λ x. x.ended) p.inlets && b) (list_all-map has_ended (λ (x : InletState). x.ring) q.inlets ∙ sym (ended_same q.inlets (recursion_from_All IsWholeInlet q.inlets v))) in
-    four (list_all (λ y. y.port.state.shut) p.outlets) (list_all (λ y. y.port.state.shut) q.outlets) (list_all (λ x. x.ended) p.inlets) (list_all (λ x. x.ended) q.inlets)
+    four (list_all (λ y. y.state.shut) p.outlets) (list_all (λ y. y.state.shut) q.outlets) (list_all (λ x. x.ended) p.inlets) (list_all (λ x. x.ended) q.inlets)
     ∙ sym (ap (λ (b : Bool). b && list_all has_ended (map (λ x. x.ring) p.inlets ++ map (λ x. x.ring) q.inlets)) ports
-    ∙ ap (λ (b : Bool). (list_all (λ y. y.port.state.shut) p.outlets && list_all (λ y. y.port.state.shut) q.outlets) && b) rings)
+    ∙ ap (λ (b : Bool). (list_all (λ y. y.state.shut) p.outlets && list_all (λ y. y.state.shut) q.outlets) && b) rings)
 
 -- the lowest cause of two lists of rings
 mapped : {X Y : Type 0} (c : Y → Option Cause) (f : X → Y) (xs ys : List X) → map c (map f xs ++ map f ys) ≡ map (λ x. c (f x)) xs ++ map (λ x. c (f x)) ys
@@ -138,6 +137,9 @@ mapped c f (x ∷ xs) ys = ap (λ (l : List (Option Cause)). c (f x) ∷ l) (map
 
 lowest_both : {X Y : Type 0} (c : Y → Option Cause) (f : X → Y) (xs ys : List X) → lowest (map c (map f xs ++ map f ys)) ≡ lower (lowest (map (λ x. c (f x)) xs)) (lowest (map (λ x. c (f x)) ys))
 lowest_both c f xs ys = ap lowest (mapped c f xs ys) ∙ lowest_append (map (λ x. c (f x)) xs) (map (λ x. c (f x)) ys)
+
+lowest_of_both : {X : Type 0} (c : X → Option Cause) (xs ys : List X) → lowest (map c (xs ++ ys)) ≡ lower (lowest (map c xs)) (lowest (map c ys))
+lowest_of_both c xs ys = ap lowest (map-append c xs ys) ∙ lowest_append (map c xs) (map c ys)
 
 -- more went through one of two directions
 moved_both : (a b c d : ℕ) (x y : Bool) → (x ≡ true → a < b) → (x ≡ false → b ≡ a) → (y ≡ true → c < d) → (y ≡ false → d ≡ c) → ((x || y) ≡ true → a + c < b + d) × ((x || y) ≡ false → b + d ≡ a + c)
@@ -152,6 +154,7 @@ pub kept_direction : {rows : List (List (Option ℕ))} {s t : LaneState} {found 
 kept_direction {rows} {s} {t} turn = record {
   rows = refl;
   lane = kept_steps turn.steps;
+  steps = turn.steps;
   forwards = λ words w h. record { laid = laid_steps h.laid turn.steps; forwards = forwards_steps h.laid w h.forwards turn.steps };
   whole = λ w. whole_steps w turn.steps;
 }
@@ -175,8 +178,8 @@ module _ (down up : List (List (Option ℕ))) {p q p' q' : LaneState} {a b : Fin
 
   fulls : (a.moved || b.moved) ≡ false → lower a.full b.full ≡ lowest (map full_cause (router_ports after))
   fulls e = let two = or_false a.moved b.moved e in
-      ap (λ (c : Option Cause). lower c b.full) (turn_p.full two.0) ∙ ap (lower (lowest (map (λ y. full_cause y.port) p'.outlets))) (turn_q.full two.1)
-      ∙ sym (lowest_both full_cause (λ (y : OutletState). y.port) p'.outlets q'.outlets)
+      ap (λ (c : Option Cause). lower c b.full) (turn_p.full two.0) ∙ ap (lower (lowest (map full_cause p'.outlets))) (turn_q.full two.1)
+      ∙ sym (lowest_of_both full_cause p'.outlets q'.outlets)
 
   waits_none : lower a.waits b.waits ≡ None
   waits_none = ap (λ (c : Option Cause). lower c b.waits) turn_p.waits ∙ turn_q.waits
@@ -189,10 +192,10 @@ module _ (down up : List (List (Option ℕ))) {p q p' q' : LaneState} {a b : Fin
     still : (a.moved ≡ false) × (b.moved ≡ false)
     still = or_false a.moved b.moved e
 
-    none_p : lowest (map (λ y. full_cause y.port) p'.outlets) ≡ None
+    none_p : lowest (map full_cause p'.outlets) ≡ None
     none_p = sym (turn_p.full still.0) ∙ neither.0
 
-    none_q : lowest (map (λ y. full_cause y.port) q'.outlets) ≡ None
+    none_q : lowest (map full_cause q'.outlets) ≡ None
     none_q = sym (turn_q.full still.1) ∙ neither.1
 
     empty_p : a.empty ≡ lowest (map (λ x. empty_cause x.ring) p'.inlets)
@@ -209,7 +212,7 @@ module _ (down up : List (List (Option ℕ))) {p q p' q' : LaneState} {a b : Fin
     none_done : lower a.empty b.empty ≡ None → done ≡ true
     none_done none_empty = let two = none_lower a.empty b.empty none_empty in
         sym (done_both p' q' whole_p.inlets whole_q.inlets)
-        ∙ ap (λ (x : Bool). x && (list_all (λ y. y.port.state.shut) q'.outlets && list_all (λ x. x.ended) q'.inlets)) (all_done p' whole_p (turn_p.idle still.0) turn_p.closed none_p (sym empty_p ∙ two.0))
+        ∙ ap (λ (x : Bool). x && (list_all (λ y. y.state.shut) q'.outlets && list_all (λ x. x.ended) q'.inlets)) (all_done p' whole_p (turn_p.idle still.0) turn_p.closed none_p (sym empty_p ∙ two.0))
         ∙ all_done q' whole_q (turn_q.idle still.1) turn_q.closed none_q (sym empty_q ∙ two.1)
 
   first_of : (full empty : Option Cause) → first_cause (full ∷ None ∷ empty ∷ []) ≡ first_cause (full ∷ empty ∷ [])
@@ -246,6 +249,13 @@ module _ (down up : List (List (Option ℕ))) {p q p' q' : LaneState} {a b : Fin
   unmoved Moved is other = absurd (other refl)
   unmoved Done is other = is.0
   unmoved (Idle cause) is other = is.0
+
+  -- nothing moved in either direction
+  pub router_rests : (answer : Turn) → IsTurnOf all_found_in done answer → answer ≢ Moved → IsRestedRouter before after
+  router_rests answer is other = let still = or_false a.moved b.moved (unmoved answer is other) in record {
+    requests = record { rows = refl; lane = turn_p.rests still.0 };
+    answers = record { rows = refl; lane = turn_q.rests still.1 };
+  }
 
   pub router_turn : (answer : Turn) → IsTurnOf all_found_in done answer → IsRouterTurn before answer after
   router_turn answer is = record {

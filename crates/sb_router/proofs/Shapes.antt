@@ -2,8 +2,8 @@
 use Rattle.std.proofs.Common.{◌≡◌, ℕ, ◌<◌, length, set, get_or, refl, sym, ap, ◌∙◌, arith}
 use Rattle.std.proofs.lemmas.List.{length-set}
 use Rattle.sb_packet.specs.Plans.{NetFlow, RingPlan, goes_through}
-use Rattle.sb_node.specs.Sides.{PortSide}
-use Rattle.sb_router.specs.Lanes.{InletState, LaneState, OutletState, Route, inlet_at, no_inlet, no_outlet, outlet_at}
+use Rattle.sb_port.specs.Ports.{PortSide}
+use Rattle.sb_router.specs.Lanes.{InletState, LaneState, Route, inlet_at, no_inlet, no_port, outlet_at}
 use Rattle.sb_router.specs.Steps.{Step, Steps, receives, looks, drops, offers, turns, tells, none, further, emptied}
 use Rattle.sb_router.specs.Forwarding.{Passes}
 use Rattle.sb_router.proofs.Places.{same_at_each}
@@ -12,7 +12,7 @@ pub record SameShape (s t : LaneState) : Type 0 where
   pub inlets : length t.inlets ≡ length s.inlets
   pub outlets : length t.outlets ≡ length s.outlets
   pub in_plans : (i : ℕ) → (inlet_at t i).ring.plan ≡ (inlet_at s i).ring.plan
-  pub out_plans : (o : ℕ) → (outlet_at t o).port.plan ≡ (outlet_at s o).port.plan
+  pub out_plans : (o : ℕ) → (outlet_at t o).plan ≡ (outlet_at s o).plan
 
 pub same_shape : (s : LaneState) → SameShape s s
 same_shape s = record { inlets = refl; outlets = refl; in_plans = λ i. refl; out_plans = λ o. refl }
@@ -30,13 +30,13 @@ pub inlet_set : (s : LaneState) (i : ℕ) (x : InletState) → i < length s.inle
 inlet_set s i x lt e = same_at_each s.inlets i x no_inlet lt (λ (y : InletState). y.ring.plan) e
 
 -- a ring that goes out was set
-pub outlet_set : (s : LaneState) (o : ℕ) (y : OutletState) → o < length s.outlets → y.port.plan ≡ (outlet_at s o).port.plan → (q : ℕ) → (get_or (set s.outlets o y) q no_outlet).port.plan ≡ (outlet_at s q).port.plan
-outlet_set s o y lt e = same_at_each s.outlets o y no_outlet lt (λ (z : OutletState). z.port.plan) e
+pub outlet_set : (s : LaneState) (o : ℕ) (y : PortSide) → o < length s.outlets → y.plan ≡ (outlet_at s o).plan → (q : ℕ) → (get_or (set s.outlets o y) q no_port).plan ≡ (outlet_at s q).plan
+outlet_set s o y lt e = same_at_each s.outlets o y no_port lt (λ (z : PortSide). z.plan) e
 
 pub inlets_shape : (s : LaneState) (i : ℕ) (x : InletState) → i < length s.inlets → x.ring.plan ≡ (inlet_at s i).ring.plan → SameShape s (record s { inlets = set s.inlets i x })
 inlets_shape s i x lt e = record { inlets = length-set s.inlets i x; outlets = refl; in_plans = inlet_set s i x lt e; out_plans = λ o. refl }
 
-pub outlets_shape : (s : LaneState) (o : ℕ) (y : OutletState) → o < length s.outlets → y.port.plan ≡ (outlet_at s o).port.plan → SameShape s (record s { outlets = set s.outlets o y })
+pub outlets_shape : (s : LaneState) (o : ℕ) (y : PortSide) → o < length s.outlets → y.plan ≡ (outlet_at s o).plan → SameShape s (record s { outlets = set s.outlets o y })
 outlets_shape s o y lt e = record { inlets = refl; outlets = length-set s.outlets o y; in_plans = λ i. refl; out_plans = outlet_set s o y lt e }
 
 pub step_shape : {route : Route} {s t : LaneState} → Step route s t → SameShape s t

@@ -7,15 +7,15 @@ use Rattle.sb_packet.specs.Plans.{RingPlan}
 use Rattle.sb_packet.specs.Traffic.{IsCarriable, has_close, is_close}
 use Rattle.sb_packet.specs.declared.packet.Packet.{Packet}
 use Rattle.sb_packet.specs.declared.item.Item.{Item}
-use Rattle.sb_packet.specs.declared.item.Item.TheVariants as items
 use Rattle.sb_port.proofs.Items.{has_close-close, has_close-packet}
-use Rattle.sb_node.specs.Sides.{PortSide}
-use Rattle.sb_router.specs.Lanes.{InletState, LaneState, OutletState, Route, inlet_at, no_inlet, no_outlet, outlet_at}
+use Rattle.sb_port.specs.Ports.{PortSide}
+use Rattle.sb_router.specs.Lanes.{InletState, LaneState, Route, inlet_at, no_inlet, no_port, outlet_at}
 use Rattle.sb_router.specs.Steps.{IsReceived, IsSilent, IsUnmoved, Step, Steps, receives, looks, drops, offers, turns, tells, none, further, emptied, held_of}
 use Rattle.sb_router.specs.RouteOf.{route_of}
 use Rattle.sb_router.specs.declared.routes.Routes.{Routes}
 use Rattle.sb_router.specs.Whole.{IsWholeInlet, IsWholeLane, IsWholeOutlet}
 use Rattle.sb_router.proofs.Places.{at_each}
+use Rattle.sb_packet.specs.declared.item.Item.TheVariants as items
 
 -- the last item says whether a Close was given, where none was before
 closes : (list : List Item) (item : Item) → has_close list ≡ false → has_close (list ++ item ∷ []) ≡ is_close item
@@ -29,8 +29,6 @@ holds_item items.Close p e = let no_way : ⊥ = cc in absurd no_way
 
 whole_received : (before after : InletState) (item : Item) → IsWholeInlet before → IsReceived before after item → IsWholeInlet after
 whole_received before after item w is = record {
-  there = is.there ∙ w.there;
-  number = is.number ∙ w.number ∙ ap (λ (plan : RingPlan). plan.ring) (sym is.kept.plan);
   ended = is.ended ∙ sym (ap has_close is.received ∙ closes before.ring.received item (sym w.ended ∙ is.open_before));
   last = λ p e. let is_p = holds_item item p (sym is.held ∙ e) in record { before = before.ring.received; joined = is.received ∙ ap (λ (i : Item). before.ring.received ++ i ∷ []) is_p };
   carriable = λ p e. subst (λ (plan : RingPlan). IsCarriable plan (message_of p)) (sym is.kept.plan) (is.lawful.fit p (holds_item item p (sym is.held ∙ e)));
@@ -38,8 +36,6 @@ whole_received before after item w is = record {
 
 whole_unmoved : (before after : InletState) → IsWholeInlet before → IsUnmoved before after → IsWholeInlet after
 whole_unmoved before after w is = record {
-  there = is.there ∙ w.there;
-  number = is.number ∙ w.number ∙ ap (λ (plan : RingPlan). plan.ring) (sym is.kept.plan);
   ended = is.ended ∙ w.ended ∙ sym (ap has_close is.received);
   last = λ p e. let last = w.last p (sym is.held ∙ e) in record { before = last.before; joined = is.received ∙ last.joined };
   carriable = λ p e. subst (λ (plan : RingPlan). IsCarriable plan (message_of p)) (sym is.kept.plan) (w.carriable p (sym is.held ∙ e));
@@ -47,8 +43,6 @@ whole_unmoved before after w is = record {
 
 whole_emptied : (before : InletState) → IsWholeInlet before → IsWholeInlet (emptied before)
 whole_emptied before w = record {
-  there = w.there;
-  number = w.number;
   ended = w.ended;
   last = λ p e. let no_way : ⊥ = cc in absurd no_way;
   carriable = λ p e. let no_way : ⊥ = cc in absurd no_way;
@@ -63,9 +57,9 @@ not_ended : (s : LaneState) (i : ℕ) → i < length s.inlets → (inlet_at s i)
 not_ended s i lt open' silent = let at = All-get_or IsSilent s.inlets i no_inlet lt silent in let ended = at.ended in cc
 
 -- a port of a list in which one was set was told, where that one wasn't
-pub told_before : (s : LaneState) (o q : ℕ) (y : OutletState) → o < length s.outlets → (y.port.state.closing ≡ true → (outlet_at s o).port.state.closing ≡ true)
-    → (get_or (set s.outlets o y) q no_outlet).port.state.closing ≡ true → (outlet_at s q).port.state.closing ≡ true
-told_before s o q y lt same = at_each s.outlets o y no_outlet lt (λ q z. z.port.state.closing ≡ true → (outlet_at s q).port.state.closing ≡ true) same (λ q e. e) q
+pub told_before : (s : LaneState) (o q : ℕ) (y : PortSide) → o < length s.outlets → (y.state.closing ≡ true → (outlet_at s o).state.closing ≡ true)
+    → (get_or (set s.outlets o y) q no_port).state.closing ≡ true → (outlet_at s q).state.closing ≡ true
+told_before s o q y lt same = at_each s.outlets o y no_port lt (λ q z. z.state.closing ≡ true → (outlet_at s q).state.closing ≡ true) same (λ q e. e) q
 
 pub whole_step : {route : Route} {s t : LaneState} → IsWholeLane route s → Step route s t → IsWholeLane route t
 whole_step {route} {s} w (receives i x item lt is) = record {
@@ -88,9 +82,9 @@ whole_step {route} {s} w (drops i p lt held refused) = record {
   routed = w.routed;
 }
 whole_step {route} {s} w (offers i o p y lt within held next is) =
-    let old = All-get_or IsWholeOutlet s.outlets o no_outlet within w.outlets in record {
+    record {
       inlets = All-set IsWholeInlet s.inlets i (emptied (inlet_at s i)) (whole_emptied (inlet_at s i) (All-get_or IsWholeInlet s.inlets i no_inlet lt w.inlets)) w.inlets;
-      outlets = All-set IsWholeOutlet s.outlets o y (record { there = is.there ∙ old.there; number = is.number ∙ old.number ∙ ap (λ (plan : RingPlan). plan.ring) (sym is.kept.plan); fit = is.fit }) w.outlets;
+      outlets = All-set IsWholeOutlet s.outlets o y (record { fit = is.fit }) w.outlets;
       silent = λ q inside told.
           let untold = is.untold in
           let before = told_before s o q y within (λ e. let no_way : ⊥ = cc in absurd no_way) told in
@@ -98,16 +92,16 @@ whole_step {route} {s} w (offers i o p y lt within held next is) =
       routed = λ f q e. let r = w.routed f q e in omega (arith, r, length-set s.outlets o y);
     }
 whole_step {route} {s} w (turns o y within is) =
-    let old = All-get_or IsWholeOutlet s.outlets o no_outlet within w.outlets in record {
+    record {
       inlets = w.inlets;
-      outlets = All-set IsWholeOutlet s.outlets o y (record { there = is.there ∙ old.there; number = is.number ∙ old.number ∙ ap (λ (plan : RingPlan). plan.ring) (sym is.kept.plan); fit = is.fit }) w.outlets;
+      outlets = All-set IsWholeOutlet s.outlets o y (record { fit = is.fit }) w.outlets;
       silent = λ q inside told. w.silent q (omega (arith, inside, length-set s.outlets o y)) (told_before s o q y within (λ e. sym is.told ∙ e) told);
       routed = λ f q e. let r = w.routed f q e in omega (arith, r, length-set s.outlets o y);
     }
 whole_step {route} {s} w (tells o y within silent is) =
-    let old = All-get_or IsWholeOutlet s.outlets o no_outlet within w.outlets in record {
+    record {
       inlets = w.inlets;
-      outlets = All-set IsWholeOutlet s.outlets o y (record { there = is.there ∙ old.there; number = is.number ∙ old.number ∙ ap (λ (port : PortSide). port.plan.ring) (sym is.told); fit = is.fit }) w.outlets;
+      outlets = All-set IsWholeOutlet s.outlets o y (record { fit = is.fit }) w.outlets;
       silent = λ q inside told. silent;
       routed = λ f q e. let r = w.routed f q e in omega (arith, r, length-set s.outlets o y);
     }

@@ -1,5 +1,5 @@
 -- Of some causes the one at the ring of the lowest number.
-use Rattle.std.specs.Prelude.{ℕ, false, ◌||◌, nat_le, List, [], ◌∷◌, Option, None, Some, if◌then◌else◌}
+use Rattle.std.specs.Prelude.{◌≡◌, ℕ, false, ◌||◌, nat_le, List, [], ◌∷◌, Option, None, Some, if◌then◌else◌}
 use Rattle.sb_link.specs.declared.answers.Cause.{Cause}
 use Rattle.sb_link.specs.declared.answers.Cause.TheVariants.{Empty, Full, Window, Later, Broken}
 use Rattle.sb_node.specs.declared.findings.Findings.{Findings}
@@ -30,3 +30,9 @@ nothing_found = record { moved = false; full = None; waits = None; empty = None 
 -- what was found in two turns
 abbrev pub found_in_both : Findings → Findings → Findings
 found_in_both a b = record { moved = a.moved || b.moved; full = lower a.full b.full; waits = lower a.waits b.waits; empty = lower a.empty b.empty }
+
+-- Something was found that has this, besides all that was found before.
+pub record FindsBesides (Has : Findings → Type 0) (found found_then : Findings) : Type 0 where
+  pub one : Findings
+  pub has : Has one
+  pub both : found_then ≡ found_in_both found one

@@ -1,24 +1,17 @@
 -- Rings at which nothing happened yet, as a router begins with them.
-use Rattle.std.specs.Prelude.{◌≡◌, true, false, [], None}
+use Rattle.std.specs.Prelude.{◌≡◌, false, [], None}
 use Rattle.sb_link.specs.declared.ends.RxEnd as rx
 use Rattle.sb_link.specs.declared.ends.TxEnd as tx
 use Rattle.sb_port.specs.Waiting.{IsWidth}
-use Rattle.sb_node.specs.Sides.{fresh_port}
-use Rattle.sb_router.specs.Lanes.{InletState, OutletState}
+use Rattle.sb_router.specs.Lanes.{InletState}
 
 -- a ring that comes in, at whose end nothing was received
 abbrev pub fresh_inlet : {U : Type 0} → rx.Ghosts U → U → InletState
 fresh_inlet receiving end = record {
-  there = true;
-  number = (receiving.planned end).ring;
   ring = record { plan = receiving.planned end; mark = receiving.mark end; received = []; known = receiving.known end };
   ended = false;
   held = None;
 }
-
--- a ring that goes out, at whose end nothing was sent
-abbrev pub fresh_outlet : {T : Type 0} → tx.Ghosts T → T → OutletState
-fresh_outlet sending end = record { there = true; number = (sending.planned end).ring; port = fresh_port sending end }
 
 -- nothing was sent over a ring of the width that ports serve, and nothing received over the other one
 pub record IsFreshPair {T U : Type 0} (sending : tx.Ghosts T) (receiving : rx.Ghosts U) (to : T) (from : U) : Type 0 where

@@ -6,29 +6,20 @@ use Rattle.sb_packet.specs.Messages.{message_of}
 use Rattle.sb_packet.specs.Plans.{NetFlow, RingPlan, message_flow}
 use Rattle.sb_packet.specs.declared.packet.Packet.{Packet}
 use Rattle.sb_port.specs.Waiting.{nothing_waits}
-use Rattle.sb_node.specs.Sides.{PortSide, RingSide, offered_words, received_words}
+use Rattle.sb_port.specs.Ports.{PortSide, offered_words}
+use Rattle.sb_node.specs.Sides.{RingSide, received_words}
 
 -- a ring that comes into a router, and the packet that came by it and waits to be handed on
 pub record InletState : Type 0 where
-  -- the ring's end stands in its place
-  pub there : Bool
-  pub number : ℕ
   pub ring : RingSide
   -- the ring gave its Close
   pub ended : Bool
   pub held : Option Packet
 
--- a ring by which a router sends
-pub record OutletState : Type 0 where
-  -- the ring's port stands in its place
-  pub there : Bool
-  pub number : ℕ
-  pub port : PortSide
-
--- one direction of a router
+-- one direction of a router: the rings that come in, and the ports by which it sends
 pub record LaneState : Type 0 where
   pub inlets : List InletState
-  pub outlets : List OutletState
+  pub outlets : List PortSide
 
 -- a ring of which nothing is known
 abbrev pub no_plan : RingPlan
@@ -46,18 +37,15 @@ no_port = record {
 }
 
 abbrev pub no_inlet : InletState
-no_inlet = record { there = false; number = 0; ring = no_ring; ended = false; held = None }
-
-abbrev pub no_outlet : OutletState
-no_outlet = record { there = false; number = 0; port = no_port }
+no_inlet = record { ring = no_ring; ended = false; held = None }
 
 -- the ring that comes in at a place
 abbrev pub inlet_at : LaneState → ℕ → InletState
 inlet_at s i = slice_index_or s.inlets i no_inlet
 
--- the ring that goes out at a place
-abbrev pub outlet_at : LaneState → ℕ → OutletState
-outlet_at s o = slice_index_or s.outlets o no_outlet
+-- the port at a place
+abbrev pub outlet_at : LaneState → ℕ → PortSide
+outlet_at s o = slice_index_or s.outlets o no_port
 
 -- the words of a packet that is held
 abbrev pub held_words : Option Packet → List Access
@@ -72,7 +60,7 @@ abbrev pub held_at : LaneState → ℕ → List Access
 held_at s i = held_words (inlet_at s i).held
 
 abbrev pub offered_at : LaneState → ℕ → List Access
-offered_at s o = offered_words (outlet_at s o).port
+offered_at s o = offered_words (outlet_at s o)
 
 -- what the places of rings mean: that to which each flow goes, none where it doesn't pass the router
 abbrev pub Route : Type 0

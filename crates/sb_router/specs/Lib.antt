@@ -5,8 +5,6 @@ pub mod Whole
 pub mod Causes
 pub mod Popping
 pub mod Sending
-pub mod InletOf
-pub mod OutletOf
 pub mod RouteOf
 pub mod Fresh
 pub mod Ways
@@ -18,7 +16,8 @@ pub mod Ports
 pub mod Kept
 pub mod Routers
 pub mod RouterOf
-pub mod SideOf
-pub mod Taking
+pub mod Ends
 pub mod Samples
-pub mod Marks
+pub mod CoreEnds
+pub mod Rested
+pub mod RestedRouters

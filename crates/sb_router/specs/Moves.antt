@@ -15,7 +15,7 @@ inlet_moves x = length x.ring.received + length x.ring.received + free_count x.h
 
 -- How much went through: what came, what was handed on or dropped, and what ports did.
 abbrev pub lane_moves : LaneState → ℕ
-lane_moves s = sum_by inlet_moves s.inlets + sum_by (λ y. port_moves y.port) s.outlets
+lane_moves s = sum_by inlet_moves s.inlets + sum_by port_moves s.outlets
 
 -- whether something was found to move says whether more went through
 pub record IsToldMoved (before after : LaneState) (moved : Bool) : Type 0 where

@@ -1,12 +1,12 @@
 -- What one pop of an incoming ring does, and what it finds.
 use Rattle.std.specs.Prelude.{◌≡◌, ◌≢◌, ◌⊎◌, ℕ, true, false, length, None, Some, set}
-use Rattle.sb_link.specs.declared.answers.Cause.TheVariants as causes
 use Rattle.sb_packet.specs.declared.item.Item.{Item}
 use Rattle.sb_node.specs.Sides.{is_drained}
 use Rattle.sb_node.specs.declared.findings.Findings.{Findings}
 use Rattle.sb_router.specs.Lanes.{InletState, LaneState, inlet_at}
 use Rattle.sb_router.specs.Steps.{IsReceived, IsUnmoved}
 use Rattle.sb_router.specs.Causes.{nothing_found}
+use Rattle.sb_link.specs.declared.answers.Cause.TheVariants as causes
 
 -- the ring wasn't popped: it gave its Close, or a packet that came by it is held
 pub record IsLeft (before after : InletState) (found : Findings) : Type 0 where

@@ -1,13 +1,14 @@
 -- A router as rounds see it: its two directions.
 use Rattle.std.specs.Prelude.{◌≡◌, ◌≢◌, ◌<◌, ◌+◌, ◌++◌, ℕ, true, List, [], ◌∷◌, length, map, All, Option}
-use Rattle.std.proofs.Common.{refl, ◌∙◌}
+use Rattle.std.proofs.Common.{refl, ◌∙◌, subst}
 use Rattle.sb_link.specs.declared.answers.Turn.{Turn}
 use Rattle.sb_link.specs.declared.answers.Turn.TheVariants.{Moved}
-use Rattle.sb_node.specs.Sides.{PortSide, RingSide, is_done}
+use Rattle.sb_port.specs.Ports.{PortSide}
+use Rattle.sb_node.specs.Sides.{RingSide, is_done}
 use Rattle.sb_node.specs.Turns.{IsAnswered, empty_cause, full_cause}
 use Rattle.sb_router.specs.Lanes.{LaneState, outlet_at}
 use Rattle.sb_router.specs.RouteOf.{route_of}
-use Rattle.sb_router.specs.Steps.{IsSilent}
+use Rattle.sb_router.specs.Steps.{IsSilent, Steps, none, steps_then}
 use Rattle.sb_router.specs.Whole.{IsWholeLane}
 use Rattle.sb_router.specs.Moves.{lane_moves}
 use Rattle.sb_router.specs.Causes.{lowest}
@@ -43,6 +44,8 @@ pub record ForwardsAll (words : Words) (d : DirectionSide) : Type 0 where
 pub record IsKeptDirection (before after : DirectionSide) : Type 0 where
   pub rows : after.rows ≡ before.rows
   pub lane : IsKeptLane before.lane after.lane
+  -- step by step: a packet is dropped just where it doesn't pass
+  pub steps : Steps (route_of before.rows) before.lane after.lane
   pub forwards : (words : Words) → IsWholeDirection before → ForwardsAll words before → ForwardsAll words after
   pub whole : IsWholeDirection before → IsWholeDirection after
 
@@ -56,14 +59,14 @@ router_moves r = lane_moves r.requests.lane + lane_moves r.answers.lane
 
 -- its ports and its rings
 abbrev pub router_ports : RouterSide → List PortSide
-router_ports r = map (λ y. y.port) r.requests.lane.outlets ++ map (λ y. y.port) r.answers.lane.outlets
+router_ports r = r.requests.lane.outlets ++ r.answers.lane.outlets
 
 abbrev pub router_rings : RouterSide → List RingSide
 router_rings r = map (λ x. x.ring) r.requests.lane.inlets ++ map (λ x. x.ring) r.answers.lane.inlets
 
 -- all ports of a direction were told to close once nothing more comes
 abbrev pub ClosesWhenDue : DirectionSide → Type 0
-ClosesWhenDue d = All IsSilent d.lane.inlets → (o : ℕ) → o < length d.lane.outlets → (outlet_at d.lane o).port.state.closing ≡ true
+ClosesWhenDue d = All IsSilent d.lane.inlets → (o : ℕ) → o < length d.lane.outlets → (outlet_at d.lane o).state.closing ≡ true
 
 -- What one turn of a router does, and answers: of two causes of one kind it answers that at the ring of the lower number.
 pub record IsRouterTurn (before : RouterSide) (answer : Turn) (after : RouterSide) : Type 0 where
@@ -88,16 +91,17 @@ pub kept_router_same : (r : RouterSide) → IsKeptRouter r r
 kept_router_same r = record { requests = same r.requests; answers = same r.answers }
   where
     same : (d : DirectionSide) → IsKeptDirection d d
-    same d = record { rows = refl; lane = kept_lane_same d.lane; forwards = λ words w h. h; whole = λ w. w }
+    same d = record { rows = refl; lane = kept_lane_same d.lane; steps = none; forwards = λ words w h. h; whole = λ w. w }
 
 -- one thing after another happened to a router
 pub kept_router_then : (x y z : RouterSide) → IsKeptRouter x y → IsKeptRouter y z → IsKeptRouter x z
 kept_router_then x y z a b = record { requests = both a.requests b.requests; answers = both a.answers b.answers }
   where
     both : {p q r : DirectionSide} → IsKeptDirection p q → IsKeptDirection q r → IsKeptDirection p r
-    both f g = record {
+    both {p} {q} {r} f g = record {
       rows = g.rows ∙ f.rows;
       lane = kept_lane_then f.lane g.lane;
+      steps = steps_then f.steps (subst (λ (rows : List (List (Option ℕ))). Steps (route_of rows) q.lane r.lane) f.rows g.steps);
       forwards = λ words w h. g.forwards words (f.whole w) (f.forwards words w h);
       whole = λ w. g.whole (f.whole w);
     }

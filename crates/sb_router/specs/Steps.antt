@@ -5,11 +5,10 @@ use Rattle.sb_packet.specs.Messages.{message_of}
 use Rattle.sb_packet.specs.Traffic.{MayFollow, MayPass, is_close}
 use Rattle.sb_packet.specs.declared.packet.Packet.{Packet}
 use Rattle.sb_packet.specs.declared.item.Item.{Item}
-use Rattle.sb_packet.specs.declared.item.Item.TheVariants as items
-use Rattle.sb_port.specs.Ports.{IsFit}
-use Rattle.sb_node.specs.Sides.{offered_words}
+use Rattle.sb_port.specs.Ports.{IsFit, offered_words, PortSide}
 use Rattle.sb_node.specs.Kept.{IsKeptPort, IsKeptRing}
-use Rattle.sb_router.specs.Lanes.{InletState, OutletState, LaneState, Route, inlet_at, outlet_at, next_place}
+use Rattle.sb_router.specs.Lanes.{InletState, LaneState, Route, inlet_at, outlet_at, next_place}
+use Rattle.sb_packet.specs.declared.item.Item.TheVariants as items
 
 -- the packet that an item is
 abbrev pub held_of : Item → Option Packet
@@ -18,8 +17,6 @@ held_of items.Close = None
 
 -- an item was received; where it is a packet, it is held
 pub record IsReceived (before after : InletState) (item : Item) : Type 0 where
-  pub there : after.there ≡ before.there
-  pub number : after.number ≡ before.number
   pub open_before : before.ended ≡ false
   pub free : before.held ≡ None
   pub lawful : MayFollow before.ring.plan before.ring.received item
@@ -30,8 +27,6 @@ pub record IsReceived (before after : InletState) (item : Item) : Type 0 where
 
 -- no item was received
 pub record IsUnmoved (before after : InletState) : Type 0 where
-  pub there : after.there ≡ before.there
-  pub number : after.number ≡ before.number
   pub received : after.ring.received ≡ before.ring.received
   pub kept : IsKeptRing before.ring after.ring
   pub ended : after.ended ≡ before.ended
@@ -42,31 +37,25 @@ abbrev pub emptied : InletState → InletState
 emptied x = record x { held = None }
 
 -- a port took a packet
-pub record IsGiven (before after : OutletState) (p : Packet) : Type 0 where
-  pub there : after.there ≡ before.there
-  pub number : after.number ≡ before.number
-  pub passes : MayPass before.port.plan (length (offered_words before.port)) (message_of p)
-  pub words : offered_words after.port ≡ offered_words before.port ++ accesses_of p
-  pub sent : after.port.state.sent ≡ before.port.state.sent
-  pub kept : IsKeptPort before.port after.port
-  pub fit : IsFit after.port.plan after.port.state
-  pub untold : after.port.state.closing ≡ false
+pub record IsGiven (before after : PortSide) (p : Packet) : Type 0 where
+  pub passes : MayPass before.plan (length (offered_words before)) (message_of p)
+  pub words : offered_words after ≡ offered_words before ++ accesses_of p
+  pub sent : after.state.sent ≡ before.state.sent
+  pub kept : IsKeptPort before after
+  pub fit : IsFit after.plan after.state
+  pub untold : after.state.closing ≡ false
 
 -- a port took its turn
-pub record IsTurned (before after : OutletState) : Type 0 where
-  pub there : after.there ≡ before.there
-  pub number : after.number ≡ before.number
-  pub words : offered_words after.port ≡ offered_words before.port
-  pub kept : IsKeptPort before.port after.port
-  pub fit : IsFit after.port.plan after.port.state
-  pub told : after.port.state.closing ≡ before.port.state.closing
+pub record IsTurned (before after : PortSide) : Type 0 where
+  pub words : offered_words after ≡ offered_words before
+  pub kept : IsKeptPort before after
+  pub fit : IsFit after.plan after.state
+  pub told : after.state.closing ≡ before.state.closing
 
 -- a port was told to close, or had been told before
-pub record IsTold (before after : OutletState) : Type 0 where
-  pub there : after.there ≡ before.there
-  pub number : after.number ≡ before.number
-  pub told : after.port ≡ record before.port { state = record before.port.state { closing = true } }
-  pub fit : IsFit after.port.plan after.port.state
+pub record IsTold (before after : PortSide) : Type 0 where
+  pub told : after ≡ record before { state = record before.state { closing = true } }
+  pub fit : IsFit after.plan after.state
 
 -- by a ring nothing more comes, and nothing is held of it
 pub record IsSilent (x : InletState) : Type 0 where
@@ -76,7 +65,7 @@ pub record IsSilent (x : InletState) : Type 0 where
 -- a packet doesn't pass: there is no port to which it goes, or it may not be offered there
 abbrev pub IsRefused : Route → LaneState → ℕ → Packet → Type 0
 IsRefused route s i p = (o : ℕ) → next_place route (inlet_at s i).ring.plan p ≡ Some o →
-    MayPass (outlet_at s o).port.plan (length (offered_words (outlet_at s o).port)) (message_of p) → ⊥
+    MayPass (outlet_at s o).plan (length (offered_words (outlet_at s o))) (message_of p) → ⊥
 
 -- One step.
 pub data Step (route : Route) : LaneState → LaneState → Type 0 where
@@ -86,15 +75,20 @@ pub data Step (route : Route) : LaneState → LaneState → Type 0 where
       Step route s (record s { inlets = set s.inlets i x })
   drops : {s : LaneState} (i : ℕ) (p : Packet) → i < length s.inlets → (inlet_at s i).held ≡ Some p → IsRefused route s i p →
       Step route s (record s { inlets = set s.inlets i (emptied (inlet_at s i)) })
-  offers : {s : LaneState} (i o : ℕ) (p : Packet) (y : OutletState) → i < length s.inlets → o < length s.outlets → (inlet_at s i).held ≡ Some p →
+  offers : {s : LaneState} (i o : ℕ) (p : Packet) (y : PortSide) → i < length s.inlets → o < length s.outlets → (inlet_at s i).held ≡ Some p →
       next_place route (inlet_at s i).ring.plan p ≡ Some o → IsGiven (outlet_at s o) y p →
       Step route s (record { inlets = set s.inlets i (emptied (inlet_at s i)); outlets = set s.outlets o y })
-  turns : {s : LaneState} (o : ℕ) (y : OutletState) → o < length s.outlets → IsTurned (outlet_at s o) y →
+  turns : {s : LaneState} (o : ℕ) (y : PortSide) → o < length s.outlets → IsTurned (outlet_at s o) y →
       Step route s (record s { outlets = set s.outlets o y })
-  tells : {s : LaneState} (o : ℕ) (y : OutletState) → o < length s.outlets → All IsSilent s.inlets → IsTold (outlet_at s o) y →
+  tells : {s : LaneState} (o : ℕ) (y : PortSide) → o < length s.outlets → All IsSilent s.inlets → IsTold (outlet_at s o) y →
       Step route s (record s { outlets = set s.outlets o y })
 
 -- One step after another.
 pub data Steps (route : Route) : LaneState → LaneState → Type 0 where
   none : {s : LaneState} → Steps route s s
   further : {s t u : LaneState} → Steps route s t → Step route t u → Steps route s u
+
+-- runs of steps, one after another
+pub steps_then : {route : Route} {s t u : LaneState} → Steps route s t → Steps route t u → Steps route s u
+steps_then before none = before
+steps_then before (further more step) = further (steps_then before more) step

@@ -16,8 +16,8 @@ fn ring_of(cause: Cause) -> u16
     }
 }
 
-// of two causes the one at the lower ring
-fn lower(first: Option<Cause>, second: Option<Cause>) -> Option<Cause>
+/// Of two causes the one at the ring of the lower number.
+pub fn lower(first: Option<Cause>, second: Option<Cause>) -> Option<Cause>
     ensures lower { result ≡ lower first second }
 {
     match (first, second) {

@@ -1,60 +1,27 @@
 //! The ends of a router's links, as it begins with them.
 
 ghost use Rattle.std.specs.Prelude.{◌≡◌, [], ◌∷◌, ◌++◌, All, map, IfOk, OnOk};
-ghost use Rattle.sb_port.specs.Waiting.{IsWidth};
-ghost use Rattle.sb_router.specs.Fresh.{IsFreshPair, fresh_inlet, fresh_outlet};
-ghost use Rattle.sb_router.specs.InletOf.{inlet_of};
-ghost use Rattle.sb_router.specs.OutletOf.{outlet_of};
+ghost use Rattle.sb_port.specs.Ports.{fresh_port};
+ghost use Rattle.sb_router.specs.Fresh.{IsFreshPair, fresh_inlet};
 ghost use Rattle.sb_router.specs.Whole.{IsWholeOutlet};
 
 use crate::inlet::Inlet;
 use sb_link::{Fabric, RxEnd, TxEnd};
-use sb_node::Seat;
 use sb_port::{InLeg, OutLeg, OutPort};
 use std::alloc::{AllocError, Global};
-
-/// A ring that comes in, at whose end nothing was received.
-pub fn inlet<U: RxEnd>(end: U) -> Inlet<U>
-    requires unreceived { U.received end ≡ [] }
-    ensures inlet { inlet_of U.RxEnd result ≡ fresh_inlet U.RxEnd end }
-{
-    let ring = end.plan().ring;
-    Inlet {
-        seat: Seat {
-            ring,
-            end: Some(end),
-        },
-        ended: false,
-        held: None,
-    }
-}
-
-/// A ring that goes out, at whose end nothing was sent.
-pub fn outlet<T: TxEnd>(end: T) -> Seat<OutPort<T>>
-    requires unsent { T.sent end ≡ [] }
-    requires wide { IsWidth (T.planned end).width }
-    ensures outlet { outlet_of T.TxEnd result ≡ fresh_outlet T.TxEnd end }
-    ensures whole { IsWholeOutlet (outlet_of T.TxEnd result) }
-{
-    let ring = end.plan().ring;
-    Seat {
-        ring,
-        end: Some(OutPort::new(end)),
-    }
-}
 
 /// The ends of a router's links on one side of it: rings that come in, and rings that go out.
 #[derive(Drop)]
 pub struct Ends<T: TxEnd, U: RxEnd> {
     pub inlets: Vec<Inlet<U>>,
-    pub outlets: Vec<Seat<OutPort<T>>>,
+    pub outlets: Vec<OutPort<T>>,
 }
 
 impl<T: TxEnd, U: RxEnd> Ends<T, U> {
     /// No ends.
     pub fn new(alloc: Global) -> Ends<T, U>
-        ensures inlets { map (inlet_of U.RxEnd) result.inlets.items ≡ [] }
-        ensures outlets { map (outlet_of T.TxEnd) result.outlets.items ≡ [] }
+        ensures inlets { result.inlets.items ≡ [] }
+        ensures outlets { result.outlets.items ≡ [] }
     {
         Ends {
             inlets: Vec::new(alloc),
@@ -69,12 +36,12 @@ impl<T: TxEnd, U: RxEnd> Ends<T, U> {
     /// `AllocError` where there isn't enough memory.
     pub fn add(&mut self, from: U, to: T) -> Result<(), AllocError>
         requires fresh { IsFreshPair T.TxEnd U.RxEnd to from }
-        ensures inlets { OnOk result (map (inlet_of U.RxEnd) self.new.inlets.items ≡ map (inlet_of U.RxEnd) self.old.inlets.items ++ fresh_inlet U.RxEnd from ∷ []) }
-        ensures outlets { OnOk result (map (outlet_of T.TxEnd) self.new.outlets.items ≡ map (outlet_of T.TxEnd) self.old.outlets.items ++ fresh_outlet T.TxEnd to ∷ []) }
-        ensures whole { OnOk result (All IsWholeOutlet (map (outlet_of T.TxEnd) self.old.outlets.items) → All IsWholeOutlet (map (outlet_of T.TxEnd) self.new.outlets.items)) }
+        ensures inlets { OnOk result (self.new.inlets.items ≡ self.old.inlets.items ++ fresh_inlet U.RxEnd from ∷ []) }
+        ensures outlets { OnOk result (self.new.outlets.items ≡ self.old.outlets.items ++ fresh_port T.TxEnd to ∷ []) }
+        ensures whole { OnOk result (All IsWholeOutlet self.old.outlets.items → All IsWholeOutlet self.new.outlets.items) }
     {
-        self.inlets.push(inlet(from))?;
-        self.outlets.push(outlet(to))?;
+        self.inlets.push(Inlet::new(from))?;
+        self.outlets.push(OutPort::new(to))?;
         Ok(())
     }
 }
@@ -89,9 +56,9 @@ pub fn ends_in<F: Fabric>(
     legs: Vec<InLeg<F>>,
 ) -> Result<Ends<F::Tx, F::Rx>, AllocError>
     requires fresh { All (λ leg. IsFreshPair F.Tx.TxEnd F.Rx.RxEnd leg.answers leg.requests) legs.items }
-    ensures inlets { IfOk result (λ ends. map (inlet_of F.Rx.RxEnd) ends.inlets.items ≡ map (λ leg. fresh_inlet F.Rx.RxEnd leg.requests) legs.items) }
-    ensures outlets { IfOk result (λ ends. map (outlet_of F.Tx.TxEnd) ends.outlets.items ≡ map (λ leg. fresh_outlet F.Tx.TxEnd leg.answers) legs.items) }
-    ensures whole { IfOk result (λ ends. All IsWholeOutlet (map (outlet_of F.Tx.TxEnd) ends.outlets.items)) }
+    ensures inlets { IfOk result (λ ends. ends.inlets.items ≡ map (λ leg. fresh_inlet F.Rx.RxEnd leg.requests) legs.items) }
+    ensures outlets { IfOk result (λ ends. ends.outlets.items ≡ map (λ leg. fresh_port F.Tx.TxEnd leg.answers) legs.items) }
+    ensures whole { IfOk result (λ ends. All IsWholeOutlet ends.outlets.items) }
 {
     let mut legs = legs;
     let mut ends = Ends::new(alloc);
@@ -116,9 +83,9 @@ pub fn ends_out<F: Fabric>(
     legs: Vec<OutLeg<F>>,
 ) -> Result<Ends<F::Tx, F::Rx>, AllocError>
     requires fresh { All (λ leg. IsFreshPair F.Tx.TxEnd F.Rx.RxEnd leg.requests leg.answers) legs.items }
-    ensures inlets { IfOk result (λ ends. map (inlet_of F.Rx.RxEnd) ends.inlets.items ≡ map (λ leg. fresh_inlet F.Rx.RxEnd leg.answers) legs.items) }
-    ensures outlets { IfOk result (λ ends. map (outlet_of F.Tx.TxEnd) ends.outlets.items ≡ map (λ leg. fresh_outlet F.Tx.TxEnd leg.requests) legs.items) }
-    ensures whole { IfOk result (λ ends. All IsWholeOutlet (map (outlet_of F.Tx.TxEnd) ends.outlets.items)) }
+    ensures inlets { IfOk result (λ ends. ends.inlets.items ≡ map (λ leg. fresh_inlet F.Rx.RxEnd leg.answers) legs.items) }
+    ensures outlets { IfOk result (λ ends. ends.outlets.items ≡ map (λ leg. fresh_port F.Tx.TxEnd leg.requests) legs.items) }
+    ensures whole { IfOk result (λ ends. All IsWholeOutlet ends.outlets.items) }
 {
     let mut legs = legs;
     let mut ends = Ends::new(alloc);

@@ -1,58 +1,115 @@
 //! A ring that comes into a router.
 
-ghost use Rattle.std.specs.Prelude.{◌≡◌, ◌&&◌, is_none};
+ghost use Rattle.std.specs.Prelude.{◌≡◌, ◌&&◌, [], is_none};
 ghost use Rattle.std.specs.List.{list_all};
 ghost use Rattle.std.specs.Option.{option_map};
+ghost use Rattle.std.specs.Borrow.{sem, Lends};
 ghost use Rattle.sb_packet.specs.Messages.{message_of};
 ghost use Rattle.sb_packet.specs.Plans.{message_flow};
 ghost use Rattle.sb_link.specs.Plans.{flow_of};
-ghost use Rattle.sb_router.specs.InletOf.{inlet_of};
+ghost use Rattle.sb_node.specs.Sides.{ring_side};
+ghost use Rattle.sb_router.specs.Causes.{FindsBesides};
+ghost use Rattle.sb_router.specs.Fresh.{fresh_inlet};
 ghost use Rattle.sb_router.specs.Popping.{IsPopped};
+ghost use Rattle.sb_router.specs.Steps.{emptied};
 ghost use Rattle.sb_router.specs.Whole.{IsWholeInlet};
+ghost use Rattle.sb_router.specs.contracts.inlet.Inlet.{the_row};
 
+use crate::causes::lower;
 use sb_link::{Flow, RxEnd};
-use sb_node::{Findings, Seat, pop_ring};
+use sb_node::{Findings, pop_ring};
 use sb_packet::{Item, Packet};
+use std::marker::Model;
 
 /// A ring that comes into a router, and the packet that came by it and waits to be handed on.
 #[derive(Drop)]
 pub struct Inlet<U: RxEnd> {
-    pub seat: Seat<U>,
-    /// The ring gave its Close.
-    pub ended: bool,
-    pub held: Option<Packet>,
+    // the receiving end of the ring
+    end: U,
+    // the ring gave its Close
+    ended: bool,
+    // the packet that waits
+    held: Option<Packet>,
+}
+
+impl<U: RxEnd> Model for Inlet<U> {
+    ghost use Rattle.sb_node.specs.Sides.{ring_side};
+    ghost use Rattle.sb_router.specs.Lanes.{InletState};
+
+    ghost Value = { InletState };
+
+    ghost view = { λ x. record { ring = ring_side U.RxEnd x.end; ended = x.ended; held = x.held } };
 }
 
 impl<U: RxEnd> Inlet<U> {
-    /// Pops the ring once, where nothing of it is held and it didn't give its Close.
-    pub fn pop(&mut self) -> Findings
-        requires whole { IsWholeInlet (inlet_of U.RxEnd self.old) }
-        ensures popped { IsPopped (inlet_of U.RxEnd self.old) (inlet_of U.RxEnd self.new) result }
+    /// A ring that comes in, at whose end nothing was received.
+    pub(crate) fn new(end: U) -> Inlet<U>
+        requires unreceived { U.received end ≡ [] }
+        ensures fresh { result ≡ fresh_inlet U.RxEnd end }
     {
-        let mut found = Findings::new();
-        if self.ended || self.held.is_some() {
-            return found;
+        Inlet {
+            end,
+            ended: false,
+            held: None,
         }
-        let Some(ring) = &mut self.seat.end else {
-            unreachable!()
-        };
-        match pop_ring(ring, &mut found) {
+    }
+
+    /// Pops the ring once, where nothing of it is held and it didn't give its Close, and notes what it found.
+    pub(crate) fn pop(&mut self, found: &mut Findings)
+        requires whole { IsWholeInlet self.old }
+        ensures popped { FindsBesides (IsPopped self.old self.new) found.old found.new }
+    {
+        if self.ended || self.held.is_some() {
+            return;
+        }
+        let before = found.empty.take();
+        match pop_ring(&mut self.end, found) {
             Some(Item::Packet(packet)) => self.held = Some(packet),
             Some(Item::Close) => self.ended = true,
             None => {}
         }
-        found
+        found.empty = lower(before, found.empty);
+    }
+
+    /// The packet that waits to be handed on.
+    pub(crate) fn held(&self) -> Option<Packet>
+        ensures held { result ≡ self.now.held }
+    {
+        self.held
+    }
+
+    /// Lets go the packet that waits.
+    pub(crate) fn empty(&mut self)
+        ensures emptied { self.new ≡ emptied self.old }
+    {
+        self.held = None;
     }
 
     /// The flow that a packet is of which came by the ring.
-    pub fn flow(&self, packet: &Packet) -> Option<Flow>
-        requires whole { IsWholeInlet (inlet_of U.RxEnd self.now) }
-        ensures flow { option_map flow_of result ≡ message_flow (inlet_of U.RxEnd self.now).ring.plan.flows (message_of packet.now) }
+    pub(crate) fn flow(&self, packet: &Packet) -> Option<Flow>
+        ensures flow { option_map flow_of result ≡ message_flow self.now.ring.plan.flows (message_of packet.now) }
     {
-        let Some(ring) = &self.seat.end else {
-            unreachable!()
-        };
-        ring.plan().flows.flow(packet)
+        self.end.plan().flows.flow(packet)
+    }
+
+    /// Lends the receiving end, so that it can meet the sending one.
+    pub(crate) fn end(&mut self) -> &mut U
+        ensures value { ring_side U.RxEnd result.now ≡ self.old.ring }
+        ensures* writes_back { sem 𝓛 (Lends (the_row U.row U.RxEnd) U.row self.entry result (λ end. record self.old { ring = ring_side U.RxEnd end })) }
+    {
+        &mut self.end
+    }
+
+    /// Gives the ring up, and hands its end out; a packet that waits is dropped.
+    pub fn into_end(self) -> U
+        ensures ring { ring_side U.RxEnd result ≡ self.ring }
+    {
+        let Inlet {
+            end,
+            ended: _,
+            held: _,
+        } = self;
+        end
     }
 }
 

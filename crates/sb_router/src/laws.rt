@@ -1,8 +1,9 @@
 //! Laws of routers.
 
-ghost use Rattle.std.specs.Prelude.{◌≡◌, ◌<◌, ℕ, true, length, All, None, Some};
-ghost use Rattle.sb_node.specs.Kept.{IsRestoredPort, IsRestoredRing};
-ghost use Rattle.sb_node.specs.Sides.{PortSide, RingSide};
+ghost use Rattle.std.specs.Prelude.{◌≡◌, ◌<◌, ℕ, true, length, All};
+ghost use Rattle.sb_node.specs.Kept.{IsPortMet, IsRingMet};
+ghost use Rattle.sb_node.specs.Sides.{RingSide};
+ghost use Rattle.sb_port.specs.Ports.{PortSide};
 ghost use Rattle.sb_packet.specs.Plans.{NetFlow};
 ghost use Rattle.sb_packet.specs.Traffic.{has_close};
 ghost use Rattle.sb_router.specs.Forwarding.{HasForwarded, Passes, Words};
@@ -10,25 +11,24 @@ ghost use Rattle.sb_router.specs.Lanes.{inlet_at, outlet_at};
 ghost use Rattle.sb_router.specs.RouteOf.{route_of};
 ghost use Rattle.sb_router.specs.Routers.{DirectionSide, ForwardsAll, IsWholeDirection};
 ghost use Rattle.sb_router.specs.Steps.{IsSilent};
-ghost use Rattle.sb_router.specs.Taking.{with_port, with_ring};
+ghost use Rattle.sb_router.specs.Ends.{with_port, with_ring};
 
 /// Of each flow that passes a router, what was offered is what came, less some; and nothing is missing but what is held,
 /// where each packet that was popped in that direction is sound, and the words that were popped for the port's ring are
 /// within its budget. A port sends its Close only where each ring gave its own, and nothing is held.
 pub fn routers_hand_on()
     ensures forwarded { (words : Words) (d : DirectionSide) (f : NetFlow) (i o : ℕ) → ForwardsAll words d → Passes (route_of d.rows) d.lane f i o → HasForwarded words d.lane f i o }
-    ensures closed { (d : DirectionSide) (o : ℕ) → IsWholeDirection d → o < length d.lane.outlets → has_close (outlet_at d.lane o).port.state.sent ≡ true → All IsSilent d.lane.inlets }
+    ensures closed { (d : DirectionSide) (o : ℕ) → IsWholeDirection d → o < length d.lane.outlets → has_close (outlet_at d.lane o).state.sent ≡ true → All IsSilent d.lane.inlets }
 {}
 
-/// A router whose ring's end or port was taken out is whole again once it is put back as it was, but for what it has
-/// learnt; and it goes on with what it hands on.
-pub fn router_is_whole_again()
-    ensures ring { (d : DirectionSide) (k : ℕ) (ring : RingSide) → k < length d.lane.inlets → IsRestoredRing (inlet_at d.lane k).ring ring
-        → IsWholeDirection d → IsWholeDirection (with_ring (with_ring d k None) k (Some ring)) }
-    ensures ring_forwards { (words : Words) (d : DirectionSide) (k : ℕ) (ring : RingSide) → k < length d.lane.inlets → IsRestoredRing (inlet_at d.lane k).ring ring
-        → ForwardsAll words d → ForwardsAll words (with_ring (with_ring d k None) k (Some ring)) }
-    ensures port { (d : DirectionSide) (k : ℕ) (port : PortSide) → k < length d.lane.outlets → IsRestoredPort (outlet_at d.lane k).port port
-        → IsWholeDirection d → IsWholeDirection (with_port (with_port d k None) k (Some port)) }
-    ensures port_forwards { (words : Words) (d : DirectionSide) (k : ℕ) (port : PortSide) → k < length d.lane.outlets → IsRestoredPort (outlet_at d.lane k).port port
-        → ForwardsAll words d → ForwardsAll words (with_port (with_port d k None) k (Some port)) }
+/// A direction whose ring's end or port met the other one is whole still, and goes on with what it hands on.
+pub fn router_stays_whole()
+    ensures ring { (d : DirectionSide) (k : ℕ) (ring : RingSide) → k < length d.lane.inlets → IsRingMet (inlet_at d.lane k).ring ring
+        → IsWholeDirection d → IsWholeDirection (with_ring d k ring) }
+    ensures ring_forwards { (words : Words) (d : DirectionSide) (k : ℕ) (ring : RingSide) → k < length d.lane.inlets → IsRingMet (inlet_at d.lane k).ring ring
+        → ForwardsAll words d → ForwardsAll words (with_ring d k ring) }
+    ensures port { (d : DirectionSide) (k : ℕ) (port : PortSide) → k < length d.lane.outlets → IsPortMet (outlet_at d.lane k) port
+        → IsWholeDirection d → IsWholeDirection (with_port d k port) }
+    ensures port_forwards { (words : Words) (d : DirectionSide) (k : ℕ) (port : PortSide) → k < length d.lane.outlets → IsPortMet (outlet_at d.lane k) port
+        → ForwardsAll words d → ForwardsAll words (with_port d k port) }
 {}

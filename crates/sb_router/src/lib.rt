@@ -6,21 +6,16 @@ mod ends;
 mod inlet;
 mod lane;
 mod laws;
+mod lending;
 mod outlet;
 mod router;
 mod router_core;
 mod routes;
-mod seats;
 mod table;
 
 pub use inlet::Inlet;
 pub use lane::Lane;
-pub use laws::{router_is_whole_again, routers_hand_on};
-pub use router::Router;
+pub use laws::{router_stays_whole, routers_hand_on};
+pub use router::{Router, RouterEnds};
 pub use router_core::RouterCore;
 pub use routes::Routes;
-
-#[cfg(test)]
-mod sample;
-#[cfg(test)]
-mod tests;

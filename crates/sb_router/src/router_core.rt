@@ -1,9 +1,15 @@
 //! A router over ends of any kind.
 
-ghost use Rattle.std.specs.Option.{option_map};
-ghost use Rattle.sb_node.specs.Sides.{port_side, ring_side};
-ghost use Rattle.sb_router.specs.Routers.{IsKeptRouter, IsRouterTurn, IsWholeRouter};
-ghost use Rattle.sb_router.specs.Taking.{HasVacantIn, HasVacantOut, IsPutIn, IsPutOut, IsTakenIn, IsTakenOut, inlet_place, outlet_place};
+ghost use Rattle.std.specs.Prelude.{◌≡◌, ◌≢◌, ◌<◌, length};
+ghost use Rattle.std.specs.Borrow.{sem, Lends};
+ghost use Rattle.sb_link.specs.declared.answers.Turn.TheVariants.{Moved};
+ghost use Rattle.sb_node.specs.Sides.{ring_side};
+ghost use Rattle.sb_port.specs.contracts.port.OutPort.{the_row as port_row};
+ghost use Rattle.sb_router.specs.CoreEnds.{core_with_port, core_with_ring};
+ghost use Rattle.sb_router.specs.Ends.{router_port, router_ring};
+ghost use Rattle.sb_router.specs.RestedRouters.{IsRestedRouter};
+ghost use Rattle.sb_router.specs.Routers.{IsKeptRouter, IsRouterTurn, IsWholeRouter, router_ports, router_rings};
+ghost use Rattle.sb_router.specs.contracts.router_core.RouterCore.{the_row};
 
 use crate::causes::both;
 use crate::lane::Lane;
@@ -22,10 +28,11 @@ impl<T: TxEnd, U: RxEnd> RouterCore<T, U> {
 
     /// One turn. Takes no memory.
     pub(crate) fn turn(&mut self) -> Turn
-        requires whole { IsWholeRouter (core_side T.TxEnd U.RxEnd self.old) }
-        ensures turned { IsRouterTurn (core_side T.TxEnd U.RxEnd self.old) result (core_side T.TxEnd U.RxEnd self.new) }
-        ensures kept { IsKeptRouter (core_side T.TxEnd U.RxEnd self.old) (core_side T.TxEnd U.RxEnd self.new) }
-        ensures whole { IsWholeRouter (core_side T.TxEnd U.RxEnd self.new) }
+        requires whole { IsWholeRouter (core_side self.old) }
+        ensures turned { IsRouterTurn (core_side self.old) result (core_side self.new) }
+        ensures kept { IsKeptRouter (core_side self.old) (core_side self.new) }
+        ensures rested { result ≢ Moved → IsRestedRouter (core_side self.old) (core_side self.new) }
+        ensures whole { IsWholeRouter (core_side self.new) }
     {
         let requests = self.requests.turn();
         let answers = self.answers.turn();
@@ -34,59 +41,31 @@ impl<T: TxEnd, U: RxEnd> RouterCore<T, U> {
         found.turn(done)
     }
 
-    /// Hands out the end of that ring, where the router has it.
-    pub(crate) fn take_in(&mut self, ring: u16) -> Option<U>
-        ensures taken { IsTakenIn (inlet_place ring (core_side T.TxEnd U.RxEnd self.old).requests) (inlet_place ring (core_side T.TxEnd U.RxEnd self.old).answers) (core_side T.TxEnd U.RxEnd self.old) (core_side T.TxEnd U.RxEnd self.new) (option_map (ring_side U.RxEnd) result) }
+    /// Lends the port at a place: the ports of requests come first.
+    pub(crate) fn port(&mut self, place: usize) -> &mut OutPort<T>
+        requires within { place < length (router_ports (core_side self.old)) }
+        ensures value { result.now ≡ router_port (core_side self.old) place }
+        ensures* writes_back { sem 𝓛 (Lends (the_row T.row U.row T.TxEnd U.RxEnd) (port_row T.row T.TxEnd) self.entry result (λ port. core_with_port self.old place port)) }
     {
-        if let Some(place) = self.requests.place_in(ring) {
-            return self.requests.take_in(place);
-        }
-        match self.answers.place_in(ring) {
-            Some(place) => self.answers.take_in(place),
-            None => None,
+        let before = self.requests.outlets.len();
+        if place < before {
+            self.requests.port(place)
+        } else {
+            self.answers.port(place - before)
         }
     }
 
-    /// Hands out the port of that ring, where the router has it.
-    pub(crate) fn take_out(&mut self, ring: u16) -> Option<OutPort<T>>
-        ensures taken { IsTakenOut (outlet_place ring (core_side T.TxEnd U.RxEnd self.old).requests) (outlet_place ring (core_side T.TxEnd U.RxEnd self.old).answers) (core_side T.TxEnd U.RxEnd self.old) (core_side T.TxEnd U.RxEnd self.new) (option_map (port_side T.TxEnd) result) }
+    /// Lends the end of the ring that comes in at a place: those of requests come first.
+    pub(crate) fn end(&mut self, place: usize) -> &mut U
+        requires within { place < length (router_rings (core_side self.old)) }
+        ensures value { ring_side U.RxEnd result.now ≡ router_ring (core_side self.old) place }
+        ensures* writes_back { sem 𝓛 (Lends (the_row T.row U.row T.TxEnd U.RxEnd) U.row self.entry result (λ end. core_with_ring self.old place (ring_side U.RxEnd end))) }
     {
-        if let Some(place) = self.requests.place_out(ring) {
-            return self.requests.take_out(place);
-        }
-        match self.answers.place_out(ring) {
-            Some(place) => self.answers.take_out(place),
-            None => None,
-        }
-    }
-
-    /// Puts the end of that ring back into its empty place.
-    pub(crate) fn put_in(&mut self, ring: u16, end: U)
-        requires vacant { HasVacantIn (inlet_place ring (core_side T.TxEnd U.RxEnd self.old).requests) (inlet_place ring (core_side T.TxEnd U.RxEnd self.old).answers) (core_side T.TxEnd U.RxEnd self.old) }
-        ensures put { IsPutIn (inlet_place ring (core_side T.TxEnd U.RxEnd self.old).requests) (inlet_place ring (core_side T.TxEnd U.RxEnd self.old).answers) (core_side T.TxEnd U.RxEnd self.old) (core_side T.TxEnd U.RxEnd self.new) (ring_side U.RxEnd end) }
-    {
-        if let Some(place) = self.requests.place_in(ring) {
-            self.requests.put_in(place, end);
-            return;
-        }
-        match self.answers.place_in(ring) {
-            Some(place) => self.answers.put_in(place, end),
-            None => unreachable!(),
-        }
-    }
-
-    /// Puts the port of that ring back into its empty place.
-    pub(crate) fn put_out(&mut self, ring: u16, port: OutPort<T>)
-        requires vacant { HasVacantOut (outlet_place ring (core_side T.TxEnd U.RxEnd self.old).requests) (outlet_place ring (core_side T.TxEnd U.RxEnd self.old).answers) (core_side T.TxEnd U.RxEnd self.old) }
-        ensures put { IsPutOut (outlet_place ring (core_side T.TxEnd U.RxEnd self.old).requests) (outlet_place ring (core_side T.TxEnd U.RxEnd self.old).answers) (core_side T.TxEnd U.RxEnd self.old) (core_side T.TxEnd U.RxEnd self.new) (port_side T.TxEnd port) }
-    {
-        if let Some(place) = self.requests.place_out(ring) {
-            self.requests.put_out(place, port);
-            return;
-        }
-        match self.answers.place_out(ring) {
-            Some(place) => self.answers.put_out(place, port),
-            None => unreachable!(),
+        let before = self.requests.inlets.len();
+        if place < before {
+            self.requests.end(place)
+        } else {
+            self.answers.end(place - before)
         }
     }
 }

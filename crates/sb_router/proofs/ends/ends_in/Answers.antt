@@ -1,13 +1,11 @@
 -- ends_in: one leg after another.
-use Rattle.std.proofs.Common.{◌≡◌, ◌<◌, length, map, arith}
+use Rattle.std.proofs.Common.{◌≡◌, ◌<◌, length, arith}
 use Rattle.std.proofs.lemmas.Bool.Decides.{nat_tests}
-use Rattle.sb_router.specs.InletOf.{inlet_of}
-use Rattle.sb_router.specs.OutletOf.{outlet_of}
 use Rattle.sb_router.proofs.Legs.{all_inlets, all_outlets, first_and_rest, next_is_fresh, none_taken, one_taken}
 use Rattle.sb_router.proofs.ends.ends_in.Goals as goal
 
 pub loop-legs-init : goal.loop-legs-init
-loop-legs-init g c = none_taken g.F.Tx.TxEnd g.F.Rx.RxEnd (λ leg. leg.requests) (λ leg. leg.answers) c.args.legs.items (map (inlet_of g.F.Rx.RxEnd) c.new-ends.result.inlets.items) (map (outlet_of g.F.Tx.TxEnd) c.new-ends.result.outlets.items)
+loop-legs-init g c = none_taken g.F.Tx.TxEnd g.F.Rx.RxEnd (λ leg. leg.requests) (λ leg. leg.answers) c.args.legs.items (c.new-ends.result.inlets.items) (c.new-ends.result.outlets.items)
     c.new-ends.ensures.inlets c.new-ends.ensures.outlets c.requires.fresh
 
 pub add-requires : goal.add-requires

@@ -1,12 +1,10 @@
 -- The ends of the legs that are not left were taken.
-use Rattle.std.proofs.Common.{length, map}
-use Rattle.sb_router.specs.InletOf.{inlet_of}
-use Rattle.sb_router.specs.OutletOf.{outlet_of}
+use Rattle.std.proofs.Common.{length}
 use Rattle.sb_router.proofs.Legs.{TakenSoFar}
 use Rattle.sb_router.proofs.ends.ends_in.Given as goal
 
 abbrev pub invariant-loop-legs : goal.invariant-loop-legs
-invariant-loop-legs g l = TakenSoFar g.F.Tx.TxEnd g.F.Rx.RxEnd (λ leg. leg.requests) (λ leg. leg.answers) l.fn.legs.items l.legs.items (map (inlet_of g.F.Rx.RxEnd) l.ends.inlets.items) (map (outlet_of g.F.Tx.TxEnd) l.ends.outlets.items)
+invariant-loop-legs g l = TakenSoFar g.F.Tx.TxEnd g.F.Rx.RxEnd (λ leg. leg.requests) (λ leg. leg.answers) l.fn.legs.items l.legs.items (l.ends.inlets.items) (l.ends.outlets.items)
 
 abbrev pub decreases-loop-legs : goal.decreases-loop-legs
 decreases-loop-legs g l = length l.legs.items

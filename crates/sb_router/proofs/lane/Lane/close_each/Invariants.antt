@@ -7,5 +7,5 @@ use Rattle.sb_router.proofs.lane.Lane.close_each.Given as goal
 abbrev pub invariant-loop-place : goal.invariant-loop-place
 invariant-loop-place g l = record {
   routes : l.self.routes ≡ l.initial.self.routes;
-  told : TellsSoFar (lane_route l.initial.self) (lane_of g.T.TxEnd g.U.RxEnd l.initial.self) (lane_of g.T.TxEnd g.U.RxEnd l.self) l.place;
+  told : TellsSoFar (lane_route l.initial.self) (lane_of l.initial.self) (lane_of l.self) l.place;
 }

@@ -1,9 +1,7 @@
 -- hand_each: what is held of each ring was handed on once the place is behind the last one.
 use Rattle.std.proofs.Common.{refl, ◌∙◌, subst, arith}
-use Rattle.std.proofs.lemmas.List.{length-map}
 use Rattle.sb_router.specs.Lanes.{LaneState, Route}
 use Rattle.sb_router.specs.LaneOf.{lane_of, lane_route}
-use Rattle.sb_router.specs.InletOf.{inlet_of}
 use Rattle.sb_router.specs.RouteOf.{route_of}
 use Rattle.sb_router.specs.Handing.{IsHanded}
 use Rattle.sb_router.proofs.HandingEach.{hands_all, hands_more, hands_none}
@@ -13,7 +11,7 @@ use Rattle.sb_router.proofs.lane.Lane.hand_each.Goals as goal
 
 pub loop-place-init : goal.loop-place-init
 loop-place-init g c =
-    let s : LaneState = lane_of g.T.TxEnd g.U.RxEnd c.args.self.now in
+    let s : LaneState = lane_of c.args.self.now in
     record { routes = refl; handed = hands_none (lane_route c.args.self.now) s }
 
 pub hand_at-handed-requires-clause-whole : goal.hand_at-handed-requires-clause-whole
@@ -23,13 +21,13 @@ pub loop-place-preserved : goal.loop-place-preserved
 loop-place-preserved g c =
     let so_far = c.loop-place.invariant.handed in
     let shape = steps_shape so_far.steps in
-    let now : LaneState = lane_of g.T.TxEnd g.U.RxEnd c.loop-place.self in
-    let then : LaneState = lane_of g.T.TxEnd g.U.RxEnd c.hand_at-handed.new.self in
+    let now : LaneState = lane_of c.loop-place.self in
+    let then : LaneState = lane_of c.hand_at-handed.new.self in
     let route : Route = lane_route c.args.self.now in
     record {
       routes = c.hand_at-handed.ensures.routes ∙ c.loop-place.invariant.routes;
       handed = hands_more c.loop-place.moved c.hand_at-handed.result so_far (whole_steps c.requires.whole so_far.steps)
-          (omega (arith, c.loop-place-test.true, c.len-place-end.ensures, c.args.self.now.inlets.ok.0, length-map c.args.self.now.inlets.items (inlet_of g.U.RxEnd), shape.inlets))
+          (omega (arith, c.loop-place-test.true, c.len-place-end.ensures, c.args.self.now.inlets.ok.0, shape.inlets))
           (subst (λ rows. IsHanded (route_of rows.rows.items) c.loop-place.place now then c.hand_at-handed.result) c.loop-place.invariant.routes c.hand_at-handed.ensures.handed);
     }
 
@@ -42,8 +40,6 @@ hand_at-handed-requires-clause-within g c =
       c.len-place-end.ensures,
       c.args.self.now.inlets.ok.0,
       c.loop-place.self.inlets.ok.0,
-      length-map c.args.self.now.inlets.items (inlet_of g.U.RxEnd),
-      length-map c.loop-place.self.inlets.items (inlet_of g.U.RxEnd),
       shape.inlets,
     )
 
@@ -51,4 +47,4 @@ pub returns-clause-handed : goal.returns-clause-handed
 returns-clause-handed g c =
     let so_far = c.loop-place.invariant.handed in
     let shape = steps_shape so_far.steps in
-    hands_all so_far (omega (arith, c.loop-place-test.false, c.len-place-end.ensures, c.args.self.now.inlets.ok.0, length-map c.args.self.now.inlets.items (inlet_of g.U.RxEnd), shape.inlets))
+    hands_all so_far (omega (arith, c.loop-place-test.false, c.len-place-end.ensures, c.args.self.now.inlets.ok.0, shape.inlets))

@@ -7,5 +7,5 @@ use Rattle.sb_router.proofs.lane.Lane.pop_each.Given as goal
 abbrev pub invariant-loop-place : goal.invariant-loop-place
 invariant-loop-place g l = record {
   routes : l.self.routes ≡ l.initial.self.routes;
-  popped : PopsSoFar (lane_route l.initial.self) (lane_of g.T.TxEnd g.U.RxEnd l.initial.self) (lane_of g.T.TxEnd g.U.RxEnd l.self) l.found l.place;
+  popped : PopsSoFar (lane_route l.initial.self) (lane_of l.initial.self) (lane_of l.self) l.found l.place;
 }

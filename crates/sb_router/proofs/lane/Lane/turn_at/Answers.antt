@@ -1,30 +1,34 @@
 -- turn_at: the port at the place is turned, and no other one.
-use Rattle.std.proofs.Common.{sym, ap, subst, List, arith, false}
-use Rattle.std.proofs.lemmas.List.{map-set}
-use Rattle.sb_node.specs.Steps.{IsPortServed, IsPortTurned}
-use Rattle.sb_router.specs.Causes.{nothing_found}
-use Rattle.sb_router.specs.Lanes.{LaneState, OutletState, no_outlet}
+use Rattle.std.proofs.Common.{sym, ap, set, get_or, subst, arith}
+use Rattle.std.proofs.lemmas.List.{get_or-set_same}
+use Rattle.sb_port.specs.Ports.{PortSide}
+use Rattle.sb_router.specs.Lanes.{LaneState, no_port}
 use Rattle.sb_router.specs.LaneOf.{lane_of}
-use Rattle.sb_router.specs.OutletOf.{outlet_of}
-use Rattle.sb_router.specs.Steps.{IsTurned}
+use Rattle.sb_router.specs.Ports.{IsOutletTurned}
 use Rattle.sb_router.specs.Whole.{IsWholeOutlet}
 use Rattle.sb_router.proofs.Places.{at_place, of_place}
 use Rattle.sb_router.proofs.lane.Lane.turn_at.Goals as goal
 
 pub turn_outlet-requires : goal.turn_outlet-requires
 turn_outlet-requires g c = let list = c.args.self.now.outlets in record {
-  whole = of_place (outlet_of g.T.TxEnd) IsWholeOutlet list.items c.args.place c.index_mut.result.now no_outlet (omega (arith, c.requires.within, list.ok.0)) c.index_mut.ensures.value c.requires.whole.outlets;
+  whole = of_place IsWholeOutlet list.items c.args.place c.index_mut.result.now (omega (arith, c.requires.within, list.ok.0)) c.index_mut.ensures.value c.requires.whole.outlets;
 }
+
+pub returns-clause-set : goal.returns-clause-set
+returns-clause-set g c =
+    let list = c.args.self.now.outlets in
+    let s : LaneState = lane_of c.args.self.now in
+    let y = c.turn_outlet.new.port in
+    ap (λ (z : PortSide). (let t : LaneState = record s { outlets = set list.items c.args.place z } in t)) (sym (get_or-set_same list.items c.args.place y no_port (omega (arith, c.requires.within, list.ok.0))))
 
 pub returns-clause-turned : goal.returns-clause-turned
 returns-clause-turned g c =
     let list = c.args.self.now.outlets in
-    let s : LaneState = lane_of g.T.TxEnd g.U.RxEnd c.args.self.now in
-    let at = at_place (outlet_of g.T.TxEnd) list.items c.args.place c.index_mut.result.now no_outlet (omega (arith, c.requires.within, list.ok.0)) c.index_mut.ensures.value in
+    let y = c.turn_outlet.new.port in
+    let turned = c.turn_outlet.ensures.turned in
     record {
-      port = outlet_of g.T.TxEnd c.turn_outlet.new.seat;
-      turned = subst (λ y. IsTurned y (outlet_of g.T.TxEnd c.turn_outlet.new.seat)) (sym at) c.turn_outlet.ensures.turned;
-      finds = subst (λ y. IsPortTurned false y.port (outlet_of g.T.TxEnd c.turn_outlet.new.seat).port nothing_found c.turn_outlet.result) (sym at) c.turn_outlet.ensures.found;
-      served = subst (λ y. IsPortServed y.port (outlet_of g.T.TxEnd c.turn_outlet.new.seat).port) (sym at) c.turn_outlet.ensures.served;
-      state = ap (λ (outlets : List OutletState). (let t : LaneState = record s { outlets = outlets } in t)) (map-set (outlet_of g.T.TxEnd) list.items c.args.place c.turn_outlet.new.seat);
+      one = turned.one;
+      has = subst (λ (z : PortSide). IsOutletTurned c.args.more (get_or list.items c.args.place no_port) z turned.one) (sym (get_or-set_same list.items c.args.place y no_port (omega (arith, c.requires.within, list.ok.0))))
+          (subst (λ (z : PortSide). IsOutletTurned c.args.more z y turned.one) (sym (at_place list.items c.args.place c.index_mut.result.now no_port (omega (arith, c.requires.within, list.ok.0)) c.index_mut.ensures.value)) turned.has);
+      both = turned.both;
     }
