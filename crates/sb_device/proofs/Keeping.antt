@@ -12,7 +12,7 @@ use Rattle.sb_node.specs.Kept.{IsKeptPort, IsKeptRing, begins_itself, kept_port_
 use Rattle.sb_node.proofs.Items.{close_behind}
 use Rattle.sb_device.specs.Sides.{DeviceSide, held_bytes}
 use Rattle.sb_device.specs.Served.{AreSound, item_packets}
-use Rattle.sb_device.specs.Requests.{ServesNone, ServesRequest, serves, serves_none, no_step, one_more}
+use Rattle.sb_device.specs.Requests.{ServesNone, ServesRequest, serves, serves_none, no_step, then_step}
 use Rattle.sb_device.specs.Plans.{IsInOrder}
 use Rattle.sb_device.specs.Devices.{IsKeptDevice, IsWholeDevice}
 use Rattle.sb_device.proofs.Requests.{front_sound}
@@ -34,7 +34,7 @@ kept_by_none round x y none ring port sound = record {
     rounds = All-nil (λ (e : Entry). e.round ≡ round);
     devices = All-nil (λ (e : Entry). e.device ≡ x.number);
   };
-  steps = one_more no_step (serves_none none);
+  steps = then_step no_step (serves_none none);
   serves = λ opening h. served_none opening x y h none sound;
 }
 
@@ -56,7 +56,7 @@ kept_by_request round x y o s lawful asked base size readonly ring port =
         rounds = All-cons (λ (e : Entry). e.round ≡ round) e [] refl (All-nil (λ (e : Entry). e.round ≡ round));
         devices = All-cons (λ (e : Entry). e.device ≡ x.number) e [] refl (All-nil (λ (e : Entry). e.device ≡ x.number));
       };
-      steps = one_more no_step (serves s);
+      steps = then_step no_step (serves s);
       serves = λ opening h. served_request opening round x y o h s lawful asked;
     }
 

@@ -55,9 +55,9 @@ pub data DeviceStep (round : ℕ) (before after : DeviceSide) : Type 0 where
 -- One step after another.
 pub data DeviceSteps (round : ℕ) : DeviceSide → DeviceSide → Type 0 where
   no_step : {x : DeviceSide} → DeviceSteps round x x
-  one_more : {x y z : DeviceSide} → DeviceSteps round x y → DeviceStep round y z → DeviceSteps round x z
+  then_step : {x y z : DeviceSide} → DeviceSteps round x y → DeviceStep round y z → DeviceSteps round x z
 
 -- steps of a device, and then others
 pub steps_joined : {round : ℕ} {x y z : DeviceSide} → DeviceSteps round x y → DeviceSteps round y z → DeviceSteps round x z
 steps_joined before no_step = before
-steps_joined before (one_more more step) = one_more (steps_joined before more) step
+steps_joined before (then_step more step) = then_step (steps_joined before more) step

@@ -23,6 +23,7 @@ use sb_packet::{Item, Packet};
 use sb_port::OutPort;
 
 // serves a request, and hands its answer on
+#[tactic(auto, using(crate::proofs::Requests::sent_as_before, crate::proofs::Requests::served_by_answer))]
 fn serve_request<T: TxEnd>(bank: &mut Bank, answers: &mut OutPort<T>, round: u32, request: &Packet)
     requires request { IsTrue (is_request request.now.cmd.op) }
     requires within { IsInRange bank.old.memory request.now }
