@@ -1,16 +1,17 @@
 """A reading of what the crates define, by the text of their files alone: the definitions of specs/, the types of src/ as
 contracts see them, and which of them each one names."""
 import functools
+import itertools
 import re
 
 import built
 
 # in specs/: the head of a definition, what may stand above it, and what stands outside of them
-HEAD = re.compile(r"(?:(?:abbrev|unfoldable|pub) )*(?:(?:record|data) (\S+)|(\S+) : )")
+HEAD = re.compile(r"(?:(?:abbrev|unfoldable|pub) )*(?:(?:record|data) (\S+)|(\S+) :(?: |$))")
 BINDING = re.compile(r"--|infix[lr]? ")
 OUTSIDE = re.compile(r"use |(pub )?mod ")
 # in src/: a type, a trait or a constant, and what a file takes of others
-TYPE = re.compile(r"pub (?:struct|enum|trait|const) (\w+)")
+TYPE = re.compile(r"(?:pub(?:\(\w+\))? )?(?:struct|enum|trait|const) (\w+)")
 RUST_USE = re.compile(r"^(?:pub )?use (\w+)(?:::\w+)*::(\{[^}]*\}|\w+);", re.M)
 # in both: a module, its names, and the name that it is given
 USE = re.compile(r"^ *(?:ghost )?use (Rattle\.[\w.]+?)(?:\.\{([^}]*)\})?(?: as (\w+))?;?$", re.M)
@@ -109,19 +110,21 @@ def type_named(crate, name):
     """A type with its Model, where it has one."""
     path = types_of(crate)[name]
     lines = path.read_text().split("\n")
-    head = re.compile(rf"pub (struct|enum|trait|const) {name}\b|impl\b.* Model for {name}\b")
-    heads = [at for at, line in enumerate(lines) if head.match(line)]
+    model = re.compile(rf"impl\b.* Model for {name}\b")
+    heads = [at for at, line in enumerate(lines) if (item := TYPE.match(line)) and item[1] == name or model.match(line)]
     parts = [part for at in heads for part in item_at(lines, at)]
     return Definition(name, path, heads[0], "\n".join(parts), len(parts))
 
 
-def contract(path, name):
-    """A function's remarks, parameters and clauses."""
-    lines = path.read_text().split("\n")
-    head = next(at for at, line in enumerate(lines) if re.match(rf"pub fn {name}\b", line))
-    whole = item_at(lines, head)
-    parts = whole[: whole.index("{")]
-    return Definition(name, path, head, "\n".join(parts), len(parts))
+def contract(crate, name):
+    """The remarks, parameters and clauses of a function that no other of the crate shares its name with."""
+    head = re.compile(rf"pub fn {name}\b")
+    for path in sorted((built.ROOT / "crates" / crate / "src").glob("**/*.rt")):
+        lines = path.read_text().split("\n")
+        for at in (at for at, line in enumerate(lines) if head.match(line)):
+            parts = list(itertools.takewhile(lambda line: not line.startswith("{"), item_at(lines, at)))
+            return Definition(name, path, at, "\n".join(parts), len(parts))
+    raise LookupError(f"{crate} has no public function {name}")
 
 
 def words_of(text):

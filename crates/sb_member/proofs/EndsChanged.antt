@@ -14,7 +14,7 @@ use Rattle.sb_device.specs.Sides.{DeviceSide}
 use Rattle.sb_device.specs.Devices.{IsWholeDevice}
 use Rattle.sb_host.proofs.StillWhole as hosts
 use Rattle.sb_device.proofs.Meetings as devices
-use Rattle.sb_router.proofs.Restored as routers
+use Rattle.sb_router.proofs.Meetings as routers
 use Rattle.sb_member.specs.Members.{IsWholeMember}
 use Rattle.sb_member.specs.Ends.{port_at, ports_of, ring_at, rings_of, with_port, with_ring}
 use Rattle.sb_member.specs.declared.member.Member.{Member}
