@@ -35,7 +35,8 @@ answer_so_far received false false word = None
 
 -- the outcome of a transaction that is answered, by what answered its words
 abbrev pub outcome_by : Kind → List (Option Access) → Outcome
-outcome_by kind answers = if list_all is_some answers then outcome_of kind (filter_map (λ a. a) answers) else record { state = states.Waiting; body = [] }
+outcome_by kind answers =
+    if list_all is_some answers then outcome_of kind (filter_map (λ a. a) answers) else record { state = states.Waiting; body = [] }
 
 -- the outcome of any transaction: nothing answers a posted one
 abbrev pub outcome_so_far : Kind → List (Option Access) → Outcome
