@@ -1,5 +1,5 @@
 -- What a host has offered, and what its script aims at devices.
-use Rattle.std.proofs.Common.{◌≡◌, ◌<◌, ◌+◌, ◌*◌, ◌^◌, ◌%◌, ℕ, arith, refl, sym, ap, subst, ◌∙◌, length, List, [], ◌∷◌, ◌++◌, Bool, true, false, Some, None, drop, append-nil}
+use Rattle.std.proofs.Common.{◌≡◌, ◌<◌, ◌+◌, ◌*◌, ◌^◌, ◌%◌, ℕ, arith, refl, sym, ap, ◌∙◌, length, List, [], ◌∷◌, ◌++◌, Bool, true, false, None, drop, append-nil}
 use Rattle.std.specs.Prelude.{All, filter, flat_map, map, is_some, if◌then◌else◌}
 use Rattle.std.specs.List.{enumerate_from}
 use Rattle.std.proofs.Math.Pow.{pow_pos}

@@ -14,7 +14,8 @@ packets_left asked next part = drop part (packets_from asked next (drop next ask
 -- a host has come to packet `part` of transaction `next`, or to the end of its script
 pub record HasComeTo (asked : Asked) (next part : ℕ) : Type 0 where
   pub within : next ≤ length asked.lines
-  pub begun : 0 < part → (d : Line) → (next < length asked.lines) × (part < length (sent_packets asked next (slice_index_or asked.lines next d)))
+  pub begun : 0 < part → (d : Line)
+      → (next < length asked.lines) × (part < length (sent_packets asked next (slice_index_or asked.lines next d)))
 
 -- a host has passed over transactions that are aimed at no device
 pub record HasPassedOver (asked : Asked) (before after : ℕ) : Type 0 where

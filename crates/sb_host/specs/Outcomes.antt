@@ -2,7 +2,7 @@
 use Rattle.std.specs.Prelude.{ℕ, Bool, true, false, ◌&&◌, ◌==◌, nat_lt, List, [], map, filter_map, Option, None, is_some, if◌then◌else◌}
 use Rattle.std.specs.List.{enumerate_from, find, list_all}
 use Rattle.sb_word.specs.declared.command.Op.{Op}
-use Rattle.sb_word.specs.declared.command.Op.TheVariants.{ReqRd, ReqWr, ReqAtomic, RespRd, RespWr}
+use Rattle.sb_word.specs.declared.command.Op.TheVariants.{ReqRd, ReqWr, ReqWrPosted, ReqAtomic, RespRd, RespWr}
 use Rattle.sb_packet.specs.Accesses.{Access}
 use Rattle.sb_packet.specs.Answers.{unreached_by}
 use Rattle.sb_packet.specs.Outcomes.{Outcome, outcome_of}
@@ -12,12 +12,32 @@ use Rattle.sb_packet.specs.declared.transaction.TxnState.TheVariants as states
 use Rattle.sb_host.specs.declared.line.Line.{Line}
 use Rattle.sb_host.specs.Asked.{Asked, line_accesses}
 
+-- an answer that brings bytes
+abbrev pub is_read_answer : Op → Bool
+is_read_answer RespRd = true
+is_read_answer RespWr = false
+is_read_answer ReqRd = false
+is_read_answer ReqWr = false
+is_read_answer ReqWrPosted = false
+is_read_answer ReqAtomic = false
+
+-- an answer that brings none
+abbrev pub is_write_answer : Op → Bool
+is_write_answer RespWr = true
+is_write_answer RespRd = false
+is_write_answer ReqRd = false
+is_write_answer ReqWr = false
+is_write_answer ReqWrPosted = false
+is_write_answer ReqAtomic = false
+
 -- which opcode answers which: bytes come back for a read and an atomic, and none for a write; nothing answers a posted write
 abbrev pub is_answered_by : Op → Op → Bool
-is_answered_by ReqRd RespRd = true
-is_answered_by ReqAtomic RespRd = true
-is_answered_by ReqWr RespWr = true
-is_answered_by _ _ = false
+is_answered_by ReqRd answer = is_read_answer answer
+is_answered_by ReqAtomic answer = is_read_answer answer
+is_answered_by ReqWr answer = is_write_answer answer
+is_answered_by ReqWrPosted answer = false
+is_answered_by RespRd answer = false
+is_answered_by RespWr answer = false
 
 -- a received word answers a word of a script: it came to that one's reply address, with the opcode and the size of its answer
 abbrev pub is_answer_to : Access → Access → Bool
@@ -35,7 +55,8 @@ answer_so_far received false false word = None
 
 -- the outcome of a transaction that is answered, by what answered its words
 abbrev pub outcome_by : Kind → List (Option Access) → Outcome
-outcome_by kind answers = if list_all is_some answers then outcome_of kind (filter_map (λ a. a) answers) else record { state = states.Waiting; body = [] }
+outcome_by kind answers =
+    if list_all is_some answers then outcome_of kind (filter_map (λ a. a) answers) else record { state = states.Waiting; body = [] }
 
 -- the outcome of any transaction: nothing answers a posted one
 abbrev pub outcome_so_far : Kind → List (Option Access) → Outcome

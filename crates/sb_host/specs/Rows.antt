@@ -56,7 +56,8 @@ device_answers asked received i line = map (device_answer received line.aimed) (
 pub record IsTable (asked : Asked) (received : List Access) (rows : List Row) : Type 0 where
   pub rows_of_lines : length rows ≡ length asked.lines
   pub each : (i : ℕ) (l : Line) (r : Row) → i < length asked.lines
-      → IsRow (answer_width (slice_index_or asked.lines i l)) (device_answers asked received i (slice_index_or asked.lines i l)) (slice_index_or rows i r)
+      → IsRow (answer_width (slice_index_or asked.lines i l)) (device_answers asked received i (slice_index_or asked.lines i l))
+      (slice_index_or rows i r)
 
 -- a transaction is answered, by its row: all its words are, or the host has passed over it
 abbrev pub is_settled : Bool → Bool → Row → Bool
@@ -69,7 +70,9 @@ settled_code aimed row = if aimed then row.code else 3
 -- the outcome of a transaction that can be answered, by its row
 abbrev pub settled_outcome : Bool → Bool → Row → Outcome
 settled_outcome aimed passed row =
-    if is_settled aimed passed row then record { state = states.Answered (code_numbered (settled_code aimed row)); body = row.body.items } else record { state = states.Waiting; body = [] }
+    if is_settled aimed passed row
+    then record { state = states.Answered (code_numbered (settled_code aimed row)); body = row.body.items }
+    else record { state = states.Waiting; body = [] }
 
 -- the outcome of any transaction, by its row
 abbrev pub kept_outcome : Kind → Bool → Bool → Row → Outcome

@@ -25,8 +25,10 @@ impl Cursor {
         ensures passed { HasPassedOver (asked_of orders.now) self.old.next self.new.next }
         ensures part { self.new.part ≡ self.old.part }
         ensures come { HasComeTo (asked_of orders.now) self.new.next self.new.part }
-        ensures left { packets_left (asked_of orders.now) self.new.next self.new.part ≡ packets_left (asked_of orders.now) self.old.next self.old.part }
-        ensures aimed { (d : Line) → self.new.next < length orders.now.lines.items → (slice_index_or orders.now.lines.items self.new.next d).aimed ≡ true }
+        ensures left { packets_left (asked_of orders.now) self.new.next self.new.part
+            ≡ packets_left (asked_of orders.now) self.old.next self.old.part }
+        ensures aimed { (d : Line) → self.new.next < length orders.now.lines.items
+            → (slice_index_or orders.now.lines.items self.new.next d).aimed ≡ true }
     {
         while self.next < orders.lines.len() && !orders.lines[self.next].aimed {
             self.next += 1;
@@ -38,7 +40,8 @@ impl Cursor {
         requires come { HasComeTo (asked_of orders.now) self.old.next self.old.part }
         requires some { self.old.next < length orders.now.lines.items }
         requires aimed { (d : Line) → (slice_index_or orders.now.lines.items self.old.next d).aimed ≡ true }
-        ensures packet { packets_left (asked_of orders.now) self.old.next self.old.part ≡ message_of result ∷ packets_left (asked_of orders.now) self.new.next self.new.part }
+        ensures packet { packets_left (asked_of orders.now) self.old.next self.old.part
+            ≡ message_of result ∷ packets_left (asked_of orders.now) self.new.next self.new.part }
         ensures come { HasComeTo (asked_of orders.now) self.new.next self.new.part }
         ensures onward { self.old.next ≤ self.new.next }
     {

@@ -6,13 +6,12 @@ ghost use Rattle.sb_flow.specs.NetworkOf.{network_of};
 ghost use Rattle.sb_flow.specs.Rows.{device_of, host_of, link_of, place_of, router_of};
 ghost use Rattle.sb_flow.specs.Samples.{label as label_of, page_device, plain_link as plain_link_at};
 ghost use Rattle.sb_host.specs.Hosts.{IsWholeHost};
-ghost use Rattle.sb_host.specs.SideOf.{host_side};
 ghost use Rattle.sb_host.specs.SmallNetwork.{lost_script, near_script, small, small_hosts, small_links, small_routers};
 
 use crate::host::Host;
 use sb_drive::Node;
 use sb_flow::{Bundle, DevicePlan, HostPlan, LinkRow, Paths, Place, RouterPlan};
-use sb_link::{Cause, Fabric, SerialFabric, Turn};
+use sb_link::{Cause, Fabric, RxEnd, SerialFabric, Turn};
 use sb_packet::{Bytes, Code, Kind, Name, Script, Txn, TxnState};
 use sb_port::OutLeg;
 use std::alloc::Global;
@@ -182,8 +181,8 @@ fn host_at<F: Fabric>(
     requires small { network_of bundle.now ≡ small }
     requires number { number < 2 }
     requires new { F.made fabric.old ≡ [] }
-    ensures whole { IfOk result (λ h. IsWholeHost (host_side F.Tx.TxEnd F.Rx.RxEnd h)) }
-    ensures lines { IfOk result (λ h. length (host_side F.Tx.TxEnd F.Rx.RxEnd h).asked.lines ≡ 3) }
+    ensures whole { IfOk result (λ h. IsWholeHost h) }
+    ensures lines { IfOk result (λ h. length h.transactions.asked.lines ≡ 3) }
 {
     let paths = Paths::new(alloc, bundle)?;
     let ring = 2 * u16::from(number);
@@ -199,9 +198,9 @@ fn host_at<F: Fabric>(
 
 /// Five turns of a host.
 fn turns<F: Fabric>(host: &mut Host<F>) -> [Turn; 5]
-    requires whole { IsWholeHost (host_side F.Tx.TxEnd F.Rx.RxEnd host.old) }
-    requires lines { length (host_side F.Tx.TxEnd F.Rx.RxEnd host.old).asked.lines ≡ 3 }
-    ensures lines { length (host_side F.Tx.TxEnd F.Rx.RxEnd host.new).asked.lines ≡ 3 }
+    requires whole { IsWholeHost host.old }
+    requires lines { length host.old.transactions.asked.lines ≡ 3 }
+    ensures lines { length host.new.transactions.asked.lines ≡ 3 }
 {
     [
         host.turn(0),
@@ -214,15 +213,9 @@ fn turns<F: Fabric>(host: &mut Host<F>) -> [Turn; 5]
 
 /// How far each of its three transactions has come.
 fn states<F: Fabric>(host: &Host<F>) -> [TxnState; 3]
-    requires lines { length (host_side F.Tx.TxEnd F.Rx.RxEnd host.now).asked.lines ≡ 3 }
+    requires lines { length host.now.transactions.asked.lines ≡ 3 }
 {
     [host.state(0), host.state(1), host.state(2)]
-}
-
-/// How many words its port was offered, and whether it sent its Close.
-fn words_of<F: Fabric>(host: &mut Host<F>, ring: u16) -> Option<(u32, bool)> {
-    let port = host.take_out(ring)?;
-    Some((port.claimed, port.closed()))
 }
 
 /// What an idle host waits for: its ring of answers.
@@ -246,7 +239,9 @@ fn scripts_are_offered(rt: HostRuntime) -> Result<(), Fail> {
     let moved = Turn::Moved;
     assert_eq!(rt; turns(&mut host), [moved, moved, moved, moved, waits(1)]);
     assert_eq!(rt; states(&host), [TxnState::Waiting, LOST, TxnState::Posted]);
-    assert_eq!(rt; words_of(&mut host, 0), Some((6, true)));
+    assert_eq!(rt; host.requests().plan().ring, 0);
+    assert_eq!(rt; host.requests().closed(), true);
+    assert_eq!(rt; host.answers().plan().ring, 1);
     Ok(())
 }
 
@@ -263,8 +258,11 @@ fn lost_scripts_are_not_offered(rt: HostRuntime) -> Result<(), Fail> {
     );
     assert_eq!(rt; states(&host), [LOST, LOST, TxnState::Posted]);
     assert_eq!(rt; host.body(0), [0; 16].as_slice());
-    assert_eq!(rt; host.body(1).len(), 0);
-    assert_eq!(rt; host.body(2).len(), 0);
-    assert_eq!(rt; words_of(&mut host, 2), Some((0, true)));
+    let parts = host.into_parts();
+    assert_eq!(rt; parts.transactions.state(1), LOST);
+    assert_eq!(rt; parts.transactions.body(0), [0; 16].as_slice());
+    assert_eq!(rt; parts.transactions.body(2).len(), 0);
+    assert_eq!(rt; parts.requests.closed(), true);
+    assert_eq!(rt; parts.answers.plan().ring, 3);
     Ok(())
 }

@@ -41,8 +41,10 @@ pub fn hosts_ask_what_their_scripts_aim_at()
 
 /// A host whose ring or port has met the other end is whole still.
 pub fn host_stays_whole()
-    ensures ring { (h : HostSide) (ring : RingSide) → IsWholeHost h → IsRingMet h.answers ring → IsWholeHost (record h { answers = ring }) }
-    ensures port { (h : HostSide) (port : PortSide) → IsWholeHost h → IsPortMet h.requests port → IsWholeHost (record h { requests = port }) }
+    ensures ring { (h : HostSide) (ring : RingSide) → IsWholeHost h → IsRingMet h.answers ring
+        → IsWholeHost (record h { answers = ring }) }
+    ensures port { (h : HostSide) (port : PortSide) → IsWholeHost h → IsPortMet h.requests port
+        → IsWholeHost (record h { requests = port }) }
 {}
 
 /// Where a host didn't move, what it sent, received, offered and let go stays, and so do the packets that are left and the

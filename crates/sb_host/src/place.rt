@@ -23,10 +23,16 @@ pub(crate) struct Place {
 fn is_answer(kind: Kind, op: Op) -> bool
     ensures answer { result ≡ is_answered_by (request_of kind) op }
 {
-    match (kind, op) {
-        (Kind::Read | Kind::Atomic(_), Op::RespRd) => true,
-        (Kind::Write, Op::RespWr) => true,
-        _ => false,
+    match op {
+        Op::RespRd => match kind {
+            Kind::Read | Kind::Atomic(_) => true,
+            Kind::Write | Kind::Posted => false,
+        },
+        Op::RespWr => match kind {
+            Kind::Write => true,
+            Kind::Read | Kind::Posted | Kind::Atomic(_) => false,
+        },
+        Op::ReqRd | Op::ReqWr | Op::ReqWrPosted | Op::ReqAtomic => false,
     }
 }
 

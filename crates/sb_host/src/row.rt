@@ -49,7 +49,9 @@ impl Row {
         requires word { word < length self.old.answered.items }
         requires counted { self.old.missing ≡ count_by not self.old.answered.items }
         requires room { length self.old.body.items ≡ length self.old.answered.items * length bytes.now }
-        ensures row { (answers : List (Option Access)) (a : Access) → IsRow (length bytes.now) answers self.old → a.tail ≡ code → a.bytes ≡ bytes.now → IsRow (length bytes.now) (with_answer answers word a) self.new }
+        ensures row { (answers : List (Option Access)) (a : Access)
+            → IsRow (length bytes.now) answers self.old → a.tail ≡ code → a.bytes ≡ bytes.now
+            → IsRow (length bytes.now) (with_answer answers word a) self.new }
     {
         if self.answered[word] {
             return;

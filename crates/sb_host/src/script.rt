@@ -64,7 +64,8 @@ fn lines_of(alloc: Global, bundle: &Bundle, script: &[Txn]) -> Result<Vec<Line>,
 /// `AllocError` where there isn't enough memory.
 pub(crate) fn orders_of(alloc: Global, bundle: &Bundle, number: u8) -> Result<Orders, AllocError>
     requires number { number < length bundle.now.hosts.items }
-    ensures asked { IfOk result (λ o. (host : NetHost) → slice_get (network_of bundle.now).hosts number ≡ Some host → asked_of o ≡ asked_by (network_of bundle.now) host) }
+    ensures asked { IfOk result (λ o. (host : NetHost) → slice_get (network_of bundle.now).hosts number ≡ Some host
+        → asked_of o ≡ asked_by (network_of bundle.now) host) }
 {
     let plan = &bundle.hosts[usize::from(number)];
     let lines = lines_of(alloc, bundle, plan.script.as_slice())?;

@@ -1,15 +1,12 @@
 //! What a host does at its two ends.
 
 ghost use Rattle.std.specs.Prelude.{◌≡◌, ◌≤◌, ◌<◌, true, false, length};
-ghost use Rattle.sb_packet.specs.Accesses.{message_accesses};
-ghost use Rattle.sb_packet.specs.Messages.{Message};
 ghost use Rattle.sb_port.specs.Ports.{IsFit, PortSide, owes};
 ghost use Rattle.sb_node.specs.Kept.{IsKeptPort, IsKeptRing};
-ghost use Rattle.sb_node.specs.Rested.{IsRestedPort, IsRestedRing};
+ghost use Rattle.sb_node.specs.Rested.{IsRestedRing};
 ghost use Rattle.sb_node.specs.Sides.{RingSide, port_moves, ring_side};
 ghost use Rattle.sb_host.specs.Hosts.{IsInOrder};
 ghost use Rattle.sb_host.specs.Progress.{IsNextAimed, left_of};
-ghost use Rattle.sb_host.specs.Rested.{AreRestedTransactions};
 ghost use Rattle.sb_host.specs.Steps.{IsIssued, IsNextOffered, IsReceived};
 
 use crate::transactions::Transactions;

@@ -75,7 +75,8 @@ impl Table {
     pub fn state(&self, orders: &Orders, next: usize, index: usize) -> TxnState
         requires index { index < length orders.now.lines.items }
         requires rows { length self.now.rows.items ≡ length orders.now.lines.items }
-        ensures state { (received : List Access) (none : Outcome) → IsTable (asked_of orders.now) received self.now.rows.items → (slice_index_or (outcomes_so_far (asked_of orders.now) received next) index none).state ≡ result }
+        ensures state { (received : List Access) (none : Outcome) → IsTable (asked_of orders.now) received self.now.rows.items
+            → (slice_index_or (outcomes_so_far (asked_of orders.now) received next) index none).state ≡ result }
     {
         state_of(&orders.lines[index], &self.rows[index], index < next)
     }
@@ -84,7 +85,8 @@ impl Table {
     pub fn body(&self, orders: &Orders, next: usize, index: usize) -> &[u8]
         requires index { index < length orders.now.lines.items }
         requires rows { length self.now.rows.items ≡ length orders.now.lines.items }
-        ensures body { (received : List Access) (none : Outcome) → IsTable (asked_of orders.now) received self.now.rows.items → (slice_index_or (outcomes_so_far (asked_of orders.now) received next) index none).body ≡ result.now }
+        ensures body { (received : List Access) (none : Outcome) → IsTable (asked_of orders.now) received self.now.rows.items
+            → (slice_index_or (outcomes_so_far (asked_of orders.now) received next) index none).body ≡ result.now }
     {
         body_of(&orders.lines[index], &self.rows[index], index < next)
     }
@@ -93,7 +95,8 @@ impl Table {
     fn take_word(&mut self, orders: &Orders, packet: &Packet, word: u32)
         requires word { word < word_count_of packet.now.cmd }
         requires table { (received : List Access) × IsTable (asked_of orders.now) received self.old.rows.items }
-        ensures taken { (received : List Access) → IsTable (asked_of orders.now) received self.old.rows.items → IsTable (asked_of orders.now) (received ++ access_at (message_of packet.now) word ∷ []) self.new.rows.items }
+        ensures taken { (received : List Access) → IsTable (asked_of orders.now) received self.old.rows.items
+            → IsTable (asked_of orders.now) (received ++ access_at (message_of packet.now) word ∷ []) self.new.rows.items }
         ensures rows { length self.new.rows.items ≡ length self.old.rows.items }
     {
         let size = packet.cmd.size;
@@ -108,7 +111,8 @@ impl Table {
     /// Takes each word of an answer that answers a word of a script which misses its answer, and drops the others.
     pub fn take(&mut self, orders: &Orders, packet: &Packet)
         requires table { (received : List Access) × IsTable (asked_of orders.now) received self.old.rows.items }
-        ensures taken { (received : List Access) → IsTable (asked_of orders.now) received self.old.rows.items → IsTable (asked_of orders.now) (received ++ accesses_of packet.now) self.new.rows.items }
+        ensures taken { (received : List Access) → IsTable (asked_of orders.now) received self.old.rows.items
+            → IsTable (asked_of orders.now) (received ++ accesses_of packet.now) self.new.rows.items }
         ensures rows { length self.new.rows.items ≡ length self.old.rows.items }
     {
         for word in 0..word_count(&packet.cmd) {

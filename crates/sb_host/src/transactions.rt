@@ -35,7 +35,8 @@ impl Model for Transactions {
 
     ghost use Rattle.sb_host.specs.Places.{asked_of};
 
-    ghost view = { λ t. record { asked = asked_of t.orders; rows = t.table.rows.items; next = t.cursor.next; part = t.cursor.part; ended = t.ended } };
+    ghost view = { λ t.
+        record { asked = asked_of t.orders; rows = t.table.rows.items; next = t.cursor.next; part = t.cursor.part; ended = t.ended } };
 
     // the table has a row for each transaction
     ghost invariant = { λ t. length t.table.rows.items ≡ length t.orders.lines.items };

@@ -2,7 +2,7 @@
 use Rattle.sb_port.specs.Ports.{offered_words}
 use Rattle.sb_packet.specs.Messages.{message_of}
 use Rattle.sb_host.specs.Progress.{left_of}
-use Rattle.sb_host.proofs.Ordered.{offered_first, offered_in_order}
+use Rattle.sb_host.proofs.Ordered.{offered_first}
 use Rattle.sb_host.proofs.Passing.{next_passes}
 use Rattle.sb_host.proofs.serving.offer_next.Goals as goal
 

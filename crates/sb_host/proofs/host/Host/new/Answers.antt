@@ -13,7 +13,7 @@ use Rattle.sb_node.specs.Sides.{ring_side}
 use Rattle.sb_flow.specs.NetworkOf.{network_of}
 use Rattle.sb_flow.specs.Rows.{host_of}
 use Rattle.sb_flow.proofs.Bundles.{accepted, idle_plan}
-use Rattle.sb_host.specs.Asked.{Asked, asked_by}
+use Rattle.sb_host.specs.Asked.{Asked}
 use Rattle.sb_host.specs.Issuing.{IsMadeFor}
 use Rattle.sb_host.specs.Places.{AreIssuable, asked_of}
 use Rattle.sb_host.specs.Progress.{TransactionsSide}

@@ -1,5 +1,5 @@
 -- What the turn answers follows from what the ring and the port did, and the host stays in order.
-use Rattle.std.proofs.Common.{◌≡◌, ◌++◌, ◌∷◌, ◌∙◌, sym, ap, subst, Bool, true, false, arith}
+use Rattle.std.proofs.Common.{◌≡◌, ◌++◌, ◌∷◌, ◌∙◌, sym, ap, subst, Bool, false, arith}
 use Rattle.std.specs.Prelude.{◌&&◌}
 use Rattle.sb_packet.specs.Accesses.{message_accesses}
 use Rattle.sb_packet.specs.Prefixes.{IsPrefix}
