@@ -4,13 +4,13 @@ ghost use Rattle.std.specs.Prelude.{◌≡◌, ◌≢◌, ◌<◌, IsTrue, false
 ghost use Rattle.sb_link.specs.declared.answers.Turn.TheVariants.{Moved};
 ghost use Rattle.sb_packet.specs.Accesses.{accesses_of};
 ghost use Rattle.sb_packet.specs.Journals.{is_request};
-ghost use Rattle.sb_packet.specs.Memories.{MemoryState, memory_after};
+ghost use Rattle.sb_packet.specs.Memories.{memory_after};
 ghost use Rattle.sb_mem.specs.AnswerPackets.{IsInRange};
 ghost use Rattle.sb_port.specs.Ports.{IsFit, owes};
 ghost use Rattle.sb_node.specs.Kept.{IsKeptPort};
 ghost use Rattle.sb_device.specs.Sides.{held_bytes};
 ghost use Rattle.sb_device.specs.SideOf.{side_of};
-ghost use Rattle.sb_device.specs.Served.{HasServed, with_entry};
+ghost use Rattle.sb_device.specs.Served.{with_entry};
 ghost use Rattle.sb_device.specs.Requests.{IsServedBy};
 ghost use Rattle.sb_device.specs.Steps.{IsRingHandled};
 ghost use Rattle.sb_device.specs.Devices.{IsDeviceTurn, IsKeptDevice, IsWholeDevice};
