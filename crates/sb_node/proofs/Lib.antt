@@ -3,3 +3,4 @@ pub mod Items
 pub mod Serving
 pub mod Subsequences
 pub mod TurnExamples
+pub mod Offered

@@ -7,6 +7,7 @@ use Rattle.sb_router.specs.Handing.{Drops, IsHanded, IsWaiting, Offers}
 use Rattle.sb_router.specs.Moves.{IsToldMoved}
 use Rattle.sb_router.specs.Turning.{HasHanded, SendsNothing}
 use Rattle.sb_router.specs.Whole.{IsWholeLane}
+use Rattle.sb_router.proofs.BusyPorts.{BusySoFar, busy_all, busy_drop, busy_none, busy_offer, busy_wait}
 use Rattle.sb_router.proofs.Cases.{le_cases, or_false}
 use Rattle.sb_router.proofs.NextPlaces.{next_within}
 use Rattle.sb_router.proofs.Places.{same_at_each}
@@ -54,9 +55,10 @@ pub record HandsSoFar (route : Route) (s now : LaneState) (moved : Bool) (place 
   pub unsent : SendsNothing s now
   pub still : moved ≡ false → now ≡ s
   pub waiting : moved ≡ false → (i : ℕ) → i < place → IsWaiting route i now
+  pub busy : BusySoFar route s now place
 
 pub hands_none : (route : Route) (s : LaneState) → HandsSoFar route s s false 0
-hands_none route s = record { steps = none; moved_is = moved_none s; rings = λ j. refl; unsent = λ o. refl; still = λ e. refl; waiting = λ e i lt. absurd (omega arith) }
+hands_none route s = record { steps = none; moved_is = moved_none s; rings = λ j. refl; unsent = λ o. refl; still = λ e. refl; waiting = λ e i lt. absurd (omega arith); busy = busy_none route s }
 
 pub hands_more : {route : Route} {s now then : LaneState} (moved handed : Bool) {place : ℕ} → HandsSoFar route s now moved place → IsWholeLane route now → place < length now.inlets
     → IsHanded route place now then handed → HandsSoFar route s then (moved || handed) (place + 1)
@@ -69,7 +71,12 @@ hands_more {route} {s} {now} {then} moved true {place} h w lt is =
       unsent = λ o. one.unsent o ∙ h.unsent o;
       still = λ e. let two = or_false moved true e in let two' = two.1 in let no_way : ⊥ = cc in absurd no_way;
       waiting = λ e. let two = or_false moved true e in let two' = two.1 in let no_way : ⊥ = cc in absurd no_way;
+      busy = busy_more is;
     }
+  where
+    busy_more : IsHanded route place now then true → BusySoFar route s then (place + 1)
+    busy_more (inl offer) = busy_offer h.busy lt w offer
+    busy_more (inr drop') = busy_drop h.busy lt drop'
 hands_more {route} {s} {now} {then} moved false {place} h w lt is =
     subst (λ (t : LaneState). HandsSoFar route s t (moved || false) (place + 1)) (sym is.0) (record {
       steps = h.steps;
@@ -81,6 +88,7 @@ hands_more {route} {s} {now} {then} moved false {place} h w lt is =
         | inl before ↦ h.waiting (or_false moved false e).0 i before
         | inr same ↦ subst (λ (k : ℕ). IsWaiting route k now) (sym same) is.1
       ];
+      busy = busy_wait h.busy lt w is.1;
     })
 
 pub hands_all : {route : Route} {s now : LaneState} {moved : Bool} {place : ℕ} → HandsSoFar route s now moved place → length now.inlets ≤ place → HasHanded route s now moved
@@ -91,4 +99,5 @@ hands_all {route} {s} {now} {moved} {place} h over = record {
   unsent = h.unsent;
   still = h.still;
   waiting = λ e i lt. h.waiting e i (omega (arith, over, lt));
+  held_awaits_busy = busy_all h.busy over;
 }

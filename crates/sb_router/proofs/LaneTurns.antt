@@ -1,5 +1,5 @@
 -- One turn of a direction, of its parts.
-use Rattle.std.proofs.Common.{◌≡◌, ℕ, ◌<◌, ◌||◌, Bool, true, false, cond, is_some, List, [], ◌∷◌, length, map, get_or, All, Option, Some, None, refl, sym, ap, ◌∙◌, subst, arith}
+use Rattle.std.proofs.Common.{◌≡◌, inl, inr, ℕ, ◌<◌, ◌||◌, Bool, true, false, cond, is_some, List, [], ◌∷◌, length, map, get_or, All, Option, Some, None, refl, sym, ap, ◌∙◌, subst, arith}
 use Rattle.std.specs.List.{AllByRecursion}
 use Rattle.std.proofs.lemmas.List.{get_or_default}
 use Rattle.std.proofs.lemmas.List.Elements.{recursion_from_All}
@@ -14,8 +14,9 @@ use Rattle.sb_router.specs.Lanes.{InletState, LaneState, Route, inlet_at, next_p
 use Rattle.sb_router.specs.Steps.{IsSilent, Steps}
 use Rattle.sb_router.specs.Causes.{found_in_both, lower, lowest}
 use Rattle.sb_router.specs.Rested.{IsRestedLane, rested_lane_then}
+use Rattle.sb_router.specs.Awaiting.{AwaitsFullPort, HeldAwaitsBusy, WasBusy, WasOffered}
 use Rattle.sb_router.specs.Moves.{IsToldMoved}
-use Rattle.sb_router.specs.Turning.{AwaitsFullPort, HasClosed, HasHanded, HasPopped, HasTurned, IsIdleLane, IsLaneTurn, IsSeen, IsServed, SendsNothing, pop_cause}
+use Rattle.sb_router.specs.Turning.{HasClosed, HasHanded, HasPopped, HasTurned, IsIdleLane, IsLaneTurn, IsSeen, IsServed, SendsNothing, pop_cause}
 use Rattle.sb_router.specs.Whole.{IsWholeInlet, IsWholeLane}
 use Rattle.sb_router.proofs.Cases.{or_false}
 use Rattle.sb_router.specs.Steps.{steps_then}
@@ -99,6 +100,23 @@ module _ {route : Route} {s a b d t : LaneState} {popped turned : Findings} {han
   empty_found p h free = pops.empty p ∙ ap (λ (l : List InletState). lowest (map pop_cause l)) (sym (same_inlets ∙ ap (λ (x : LaneState). x.inlets) (hands.still h)))
       ∙ ap lowest (same_causes t.inlets (recursion_from_All IsWholeInlet t.inlets (whole_steps whole all_steps).inlets) (recursion_from_All (λ x. x.held ≡ None) t.inlets free))
 
+  -- a port that was busy in the handing on was busy in the turn
+  busy_since : (o : ℕ) → WasBusy (outlet_at a o) (outlet_at b o) → WasBusy (outlet_at s o) (outlet_at t o)
+  busy_since o (inl owed) = inl (ap (λ (l : List PortSide). owes (get_or l o no_port).state) (sym pops.outlets) ∙ owed)
+  busy_since o (inr offered) = inr (subst (λ (y : PortSide). WasOffered y (outlet_at t o)) (ap (λ (l : List PortSide). get_or l o no_port) pops.outlets)
+      (record { packet = offered.packet; passes = offered.passes; words = turns.words o ∙ closes.words o ∙ offered.words }))
+
+  busy_still : HeldAwaitsBusy route s t
+  busy_still i p lt held =
+      let held_before : (inlet_at b i).held ≡ Some p = sym (ap (λ (x : InletState). x.held) (inlet_same i)) ∙ held in
+      let awaits = hands.held_awaits_busy i p (omega (arith, lt, ap length same_inlets)) held_before in
+      record {
+        place = awaits.place;
+        within = omega (arith, awaits.within, (steps_shape closes.steps).outlets, (steps_shape (turns.steps route)).outlets);
+        is_next = ap (λ (x : InletState). next_place route x.ring.plan p) (inlet_same i) ∙ awaits.is_next;
+        busy = busy_since awaits.place awaits.busy;
+      }
+
   pub lane_turn : IsLaneTurn route s t found
   lane_turn = record {
     steps = all_steps;
@@ -106,6 +124,7 @@ module _ {route : Route} {s a b d t : LaneState} {popped turned : Findings} {han
     moved = moved_then (popped.moved || handed) turned.moved
         (subst (λ (x : Bool). IsToldMoved s d x) (or_none (popped.moved || handed)) (moved_then (popped.moved || handed) false (moved_then popped.moved handed pops.moved hands.moved_is) closes.moved)) turns.moved;
     one_item = λ i. let one = pops.one_item i in let first = ap (λ (x : InletState). length x.ring.received) (inlet_same i) in let second = ap (λ ring. length ring.received) (hands.rings i) in omega (arith, one, first, second);
+    held_awaits_busy = busy_still;
     served = λ i lt. subst (λ ring. IsServed (inlet_at s i) ring) (sym (ap (λ (x : InletState). x.ring) (inlet_same i) ∙ hands.rings i)) (pops.served i lt);
     served_ports = λ o lt. served_since (outlet_at s o) (outlet_at d o) (outlet_at t o) (unsent o) (turns.served o (omega (arith, lt, count_same, (steps_shape (turns.steps route)).outlets)));
     closed = λ silent o lt. turns.told o ∙ closes.told (subst (λ (l : List InletState). All IsSilent l) same_inlets silent) o (omega (arith, lt, (steps_shape (turns.steps route)).outlets));

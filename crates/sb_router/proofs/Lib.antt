@@ -28,3 +28,5 @@ pub mod ForwardSteps
 pub mod RestedSteps
 pub mod Besides
 pub mod Lent
+pub mod BusyPorts
+pub mod Stillness

@@ -268,6 +268,8 @@ module _ (down up : List (List (Option ℕ))) {p q p' q' : LaneState} {a b : Fin
     one_answer = turn_q.one_item;
     served_requests = turn_p.served;
     served_answers = turn_q.served;
+    held_requests = turn_p.held_awaits_busy;
+    held_answers = turn_q.held_awaits_busy;
     sent_requests = turn_p.served_ports;
     sent_answers = turn_q.served_ports;
   }

@@ -1,7 +1,7 @@
 -- Turning one port after another.
 use Rattle.std.proofs.Common.{◌≡◌, inl, inr, ℕ, ◌<◌, ◌≤◌, ◌+◌, Bool, true, false, cond, List, length, map, take, set, Some, None, refl, sym, ap, ◌∙◌, subst, arith}
 use Rattle.std.proofs.lemmas.List.{take_all}
-use Rattle.sb_port.specs.Ports.{PortState, let_go, port_accesses, PortSide}
+use Rattle.sb_port.specs.Ports.{PortSide, PortState, let_go, offered_words, port_accesses}
 use Rattle.sb_node.specs.declared.findings.Findings.{Findings}
 use Rattle.sb_node.specs.Sides.{has_rest, port_moves}
 use Rattle.sb_node.specs.Steps.{IsPortServed, IsPortTurned}
@@ -14,7 +14,7 @@ use Rattle.sb_node.specs.Rested.{IsRestedPort}
 use Rattle.sb_router.specs.Rested.{IsRestedLane, rested_lane_same, rested_lane_then}
 use Rattle.sb_router.specs.Moves.{IsToldMoved}
 use Rattle.sb_router.specs.Ports.{IsOutletSet, IsOutletTurned}
-use Rattle.sb_router.specs.Turning.{HasTurned, IsPortIdle}
+use Rattle.sb_router.specs.Turning.{HasTurned, IsPortIdle, OffersNothing}
 use Rattle.sb_router.proofs.Cases.{or_false}
 use Rattle.sb_router.proofs.RestedSteps.{rested_outlets, rested_state}
 use Rattle.sb_router.proofs.Places.{ahead_same, at_each, so_far}
@@ -77,6 +77,7 @@ pub record TurnsSoFar (more : Bool) (s now : LaneState) (place : ℕ) (found : F
   pub inlets : now.inlets ≡ s.inlets
   pub moved : IsToldMoved s now found.moved
   pub told : (o : ℕ) → (outlet_at now o).state.closing ≡ (outlet_at s o).state.closing
+  pub words : OffersNothing s now
   pub served : (o : ℕ) → o < place → IsPortServed (outlet_at s o) (outlet_at now o)
   pub ahead : (o : ℕ) → place ≤ o → outlet_at now o ≡ outlet_at s o
   pub idle : found.moved ≡ false → more ≡ false → (o : ℕ) → o < place → IsPortIdle (outlet_at s o) (outlet_at now o)
@@ -94,6 +95,7 @@ turns_none more s found = record {
     inlets = refl;
     moved = moved_none s;
     told = λ o. refl;
+    words = λ o. refl;
     served = λ o lt. absurd (omega arith);
     ahead = λ o le. refl;
     idle = λ e m o lt. absurd (omega arith);
@@ -112,6 +114,7 @@ module _ {more : Bool} {s now : LaneState} {place : ℕ} (y : PortSide) (lt : pl
     inlets = h.inlets;
     moved = moved_then all.moved one.moved h.moved turned.moved;
     told = at_each now.outlets place y no_port lt (λ o z. z.state.closing ≡ (outlet_at s o).state.closing) (at.turned.told ∙ h.told place) h.told;
+    words = at_each now.outlets place y no_port lt (λ o z. offered_words z ≡ offered_words (outlet_at s o)) (at.turned.words ∙ h.words place) h.words;
     served = so_far now.outlets place y no_port lt (λ o z. IsPortServed (outlet_at s o) z)
         (subst (λ (z : PortSide). IsPortServed z y) (h.ahead place (omega arith)) at.served) h.served;
     ahead = ahead_same now.outlets place y no_port lt (outlet_at s) h.ahead;
@@ -149,6 +152,7 @@ turns_all {more} {s} {now} {place} {before} {found} all over = record { one = al
       inlets = h.inlets;
       moved = h.moved;
       told = h.told;
+      words = h.words;
       served = λ o lt. h.served o (omega (arith, over, lt, (steps_shape (h.steps no_route)).outlets));
       idle = λ e m o lt. h.idle e m o (omega (arith, over, lt));
       full = λ e m. h.full e m ∙ ap (λ (l : List PortSide). lowest (map full_cause l)) (take_all place now.outlets over);

@@ -21,3 +21,5 @@ pub mod Samples
 pub mod CoreEnds
 pub mod Rested
 pub mod RestedRouters
+pub mod Awaiting
+pub mod Still

@@ -12,6 +12,7 @@ use Rattle.sb_router.specs.Steps.{IsSilent, Steps, none, steps_then}
 use Rattle.sb_router.specs.Whole.{IsWholeLane}
 use Rattle.sb_router.specs.Moves.{lane_moves}
 use Rattle.sb_router.specs.Causes.{lowest}
+use Rattle.sb_router.specs.Awaiting.{HeldAwaitsBusy}
 use Rattle.sb_router.specs.Turning.{IsIdleLane, OneItemEach, ServesEach, ServesPorts}
 use Rattle.sb_router.specs.Kept.{IsKeptLane, kept_lane_same, kept_lane_then}
 use Rattle.sb_router.specs.Forwarding.{Forwards, IsLaid, Words}
@@ -82,6 +83,9 @@ pub record IsRouterTurn (before : RouterSide) (answer : Turn) (after : RouterSid
   -- and just one where something waited, the ring was open, and nothing of it was held
   pub served_requests : ServesEach before.requests.lane after.requests.lane
   pub served_answers : ServesEach before.answers.lane after.answers.lane
+  -- whatever was held and could be handed on was: what is held still is for a port that was busy
+  pub held_requests : HeldAwaitsBusy (route_of after.requests.rows) before.requests.lane after.requests.lane
+  pub held_answers : HeldAwaitsBusy (route_of after.answers.rows) before.answers.lane after.answers.lane
   -- by each port at most one item was sent, and just one unless it owes nothing then or its ring is full
   pub sent_requests : ServesPorts before.requests.lane after.requests.lane
   pub sent_answers : ServesPorts before.answers.lane after.answers.lane

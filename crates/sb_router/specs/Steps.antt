@@ -5,7 +5,7 @@ use Rattle.sb_packet.specs.Messages.{message_of}
 use Rattle.sb_packet.specs.Traffic.{MayFollow, MayPass, is_close}
 use Rattle.sb_packet.specs.declared.packet.Packet.{Packet}
 use Rattle.sb_packet.specs.declared.item.Item.{Item}
-use Rattle.sb_port.specs.Ports.{IsFit, offered_words, PortSide}
+use Rattle.sb_port.specs.Ports.{IsFit, offered_words, PortSide, owes}
 use Rattle.sb_node.specs.Kept.{IsKeptPort, IsKeptRing}
 use Rattle.sb_router.specs.Lanes.{InletState, LaneState, Route, inlet_at, outlet_at, next_place}
 use Rattle.sb_packet.specs.declared.item.Item.TheVariants as items
@@ -36,8 +36,10 @@ pub record IsUnmoved (before after : InletState) : Type 0 where
 abbrev pub emptied : InletState → InletState
 emptied x = record x { held = None }
 
--- a port took a packet
+-- a port that owed nothing took a packet, and owes it now
 pub record IsGiven (before after : PortSide) (p : Packet) : Type 0 where
+  pub ready : owes before.state ≡ false
+  pub owing : owes after.state ≡ true
   pub passes : MayPass before.plan (length (offered_words before)) (message_of p)
   pub words : offered_words after ≡ offered_words before ++ accesses_of p
   pub sent : after.state.sent ≡ before.state.sent

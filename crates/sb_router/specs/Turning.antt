@@ -2,15 +2,16 @@
 use Rattle.std.specs.Prelude.{◌≡◌, ◌≢◌, ◌≤◌, ◌<◌, ◌+◌, ◌⊎◌, ◌||◌, ℕ, Bool, true, false, length, map, All, Option, None, Some, is_some, if◌then◌else◌}
 use Rattle.sb_link.specs.declared.answers.Cause.{Cause}
 use Rattle.sb_packet.specs.declared.packet.Packet.{Packet}
-use Rattle.sb_port.specs.Ports.{owes, PortSide}
+use Rattle.sb_port.specs.Ports.{PortSide}
 use Rattle.sb_node.specs.Idle.{OwingPortsAreFull}
 use Rattle.sb_node.specs.Sides.{RingSide, has_rest, is_drained, is_full}
 use Rattle.sb_node.specs.Steps.{IsPortServed, IsRingServed}
 use Rattle.sb_node.specs.Turns.{empty_cause, full_cause}
 use Rattle.sb_node.specs.declared.findings.Findings.{Findings}
-use Rattle.sb_router.specs.Lanes.{InletState, LaneState, Route, inlet_at, next_place, outlet_at}
+use Rattle.sb_router.specs.Lanes.{InletState, LaneState, Route, inlet_at, offered_at, outlet_at}
 use Rattle.sb_router.specs.Steps.{IsSilent, Steps}
 use Rattle.sb_router.specs.Rested.{IsRestedLane}
+use Rattle.sb_router.specs.Awaiting.{AwaitsFullPort, HeldAwaitsBusy}
 use Rattle.sb_router.specs.Handing.{IsWaiting}
 use Rattle.sb_router.specs.Moves.{IsToldMoved}
 use Rattle.sb_router.specs.Causes.{lowest}
@@ -40,6 +41,10 @@ ServesPorts s t = (o : ℕ) → o < length s.outlets → IsPortServed (outlet_at
 abbrev pub SendsNothing : LaneState → LaneState → Type 0
 SendsNothing s t = (o : ℕ) → (outlet_at t o).state.sent ≡ (outlet_at s o).state.sent
 
+-- no port was offered anything
+abbrev pub OffersNothing : LaneState → LaneState → Type 0
+OffersNothing s t = (o : ℕ) → offered_at t o ≡ offered_at s o
+
 -- what was found by a pop of a ring that is empty
 abbrev pub pop_cause : InletState → Option Cause
 pop_cause x = if x.ended || is_some x.held then None else Some (causes.Empty x.ring.plan.ring (length x.ring.received) x.ring.known)
@@ -65,6 +70,7 @@ pub record HasHanded (route : Route) (s t : LaneState) (moved : Bool) : Type 0 w
   pub unsent : SendsNothing s t
   pub still : moved ≡ false → t ≡ s
   pub waiting : moved ≡ false → (i : ℕ) → i < length t.inlets → IsWaiting route i t
+  pub held_awaits_busy : HeldAwaitsBusy route s t
 
 -- All ports were told to close, where nothing more comes.
 pub record HasClosed (route : Route) (s t : LaneState) : Type 0 where
@@ -73,6 +79,7 @@ pub record HasClosed (route : Route) (s t : LaneState) : Type 0 where
   pub inlets : t.inlets ≡ s.inlets
   pub moved : IsToldMoved s t false
   pub unsent : SendsNothing s t
+  pub words : OffersNothing s t
   pub told : All IsSilent s.inlets → (o : ℕ) → o < length t.outlets → (outlet_at t o).state.closing ≡ true
   pub untold : (All IsSilent s.inlets → ⊥) → t ≡ s
 
@@ -88,19 +95,12 @@ pub record HasTurned (more : Bool) (s t : LaneState) (found : Findings) : Type 0
   pub inlets : t.inlets ≡ s.inlets
   pub moved : IsToldMoved s t found.moved
   pub told : (o : ℕ) → (outlet_at t o).state.closing ≡ (outlet_at s o).state.closing
+  pub words : OffersNothing s t
   pub served : ServesPorts s t
   pub idle : found.moved ≡ false → more ≡ false → (o : ℕ) → o < length t.outlets → IsPortIdle (outlet_at s o) (outlet_at t o)
   pub full : found.moved ≡ false → more ≡ false → found.full ≡ lowest (map full_cause t.outlets)
   pub waits : found.waits ≡ None
   pub empty : found.empty ≡ None
-
--- a packet goes to a port that owes an item, and whose ring is full
-pub record AwaitsFullPort (route : Route) (s : LaneState) (i : ℕ) (p : Packet) : Type 0 where
-  pub place : ℕ
-  pub within : place < length s.outlets
-  pub next : next_place route (inlet_at s i).ring.plan p ≡ Some place
-  pub owing : owes (outlet_at s place).state ≡ true
-  pub full : is_full (outlet_at s place) ≡ true
 
 -- What holds of a direction after a turn in which it did nothing.
 pub record IsIdleLane (route : Route) (s : LaneState) : Type 0 where
@@ -119,6 +119,8 @@ pub record IsLaneTurn (route : Route) (s t : LaneState) (found : Findings) : Typ
   -- each ring is popped where nothing of it is held
   pub one_item : OneItemEach s t
   pub served : ServesEach s t
+  -- what is held still is for a port that was busy
+  pub held_awaits_busy : HeldAwaitsBusy route s t
   -- each port is turned once
   pub served_ports : ServesPorts s t
   -- all ports were told to close once nothing more comes

@@ -9,7 +9,10 @@ ghost use Rattle.sb_packet.specs.Traffic.{has_close};
 ghost use Rattle.sb_router.specs.Forwarding.{HasForwarded, Passes, Words};
 ghost use Rattle.sb_router.specs.Lanes.{inlet_at, outlet_at};
 ghost use Rattle.sb_router.specs.RouteOf.{route_of};
-ghost use Rattle.sb_router.specs.Routers.{DirectionSide, ForwardsAll, IsWholeDirection};
+ghost use Rattle.sb_router.specs.Moves.{lane_moves};
+ghost use Rattle.sb_router.specs.RestedRouters.{IsRestedDirection};
+ghost use Rattle.sb_router.specs.Routers.{DirectionSide, ForwardsAll, IsKeptDirection, IsWholeDirection};
+ghost use Rattle.sb_router.specs.Still.{IsStillLane};
 ghost use Rattle.sb_router.specs.Steps.{IsSilent};
 ghost use Rattle.sb_router.specs.Ends.{with_port, with_ring};
 
@@ -31,4 +34,15 @@ pub fn router_stays_whole()
         → IsWholeDirection d → IsWholeDirection (with_port d k port) }
     ensures port_forwards { (words : Words) (d : DirectionSide) (k : ℕ) (port : PortSide) → k < length d.lane.outlets → IsPortMet (outlet_at d.lane k) port
         → ForwardsAll words d → ForwardsAll words (with_port d k port) }
+{}
+
+/// A direction through which no more went, step by step, is still.
+pub fn unmoved_directions_are_still()
+    ensures still { (before after : DirectionSide) → IsKeptDirection before after → lane_moves after.lane ≡ lane_moves before.lane
+        → IsStillLane before.lane after.lane }
+{}
+
+/// A direction in which nothing moved is still.
+pub fn rested_directions_are_still()
+    ensures still { (before after : DirectionSide) → IsRestedDirection before after → IsStillLane before.lane after.lane }
 {}

@@ -15,7 +15,9 @@ mod table;
 
 pub use inlet::Inlet;
 pub use lane::Lane;
-pub use laws::{router_stays_whole, routers_hand_on};
+pub use laws::{
+    rested_directions_are_still, router_stays_whole, routers_hand_on, unmoved_directions_are_still,
+};
 pub use router::{Router, RouterEnds};
 pub use router_core::RouterCore;
 pub use routes::Routes;
