@@ -1,9 +1,8 @@
 -- A ring is handed over between two nodes of a list.
-use Rattle.std.proofs.Common.{◌≡◌, ◌≢◌, ℕ, zero, suc, ◌<◌, Bool, List, [], ◌∷◌, ◌++◌, length, set, refl, sym, ap, ◌∙◌, subst, arith}
-use Rattle.std.specs.Prelude.{slice_index_or, get_or}
-use Rattle.std.proofs.lemmas.List.{get_or_default}
+use Rattle.std.proofs.Common.{◌≡◌, ◌≢◌, ℕ, zero, suc, ◌+◌, ◌<◌, Bool, List, [], ◌∷◌, ◌++◌, length, set, take, refl, sym, ap, ◌∙◌, subst, arith}
+use Rattle.std.specs.Prelude.{slice_index_or}
 use Rattle.sb_member.specs.Ends.{HaveJoined, HaveMetAt, port_at, ring_at, with_port, with_ring}
-use Rattle.sb_member.specs.Joints.{HandsAlong, HasHanded, IsPlaced, no_node, node_at}
+use Rattle.sb_member.specs.Joints.{HandsAlong, HasHanded, IsPlaced, joint_at, no_node, node_at}
 use Rattle.sb_member.specs.declared.joint.Joint.{Joint}
 use Rattle.sb_member.specs.declared.member.Member.{Member}
 
@@ -14,6 +13,12 @@ set_swap (z ∷ xs) zero zero x y apart = absurd (apart refl)
 set_swap (z ∷ xs) zero (suc k) x y apart = refl
 set_swap (z ∷ xs) (suc i) zero x y apart = refl
 set_swap (z ∷ xs) (suc i) (suc k) x y apart = ap (λ list. z ∷ list) (set_swap xs i k x y (λ e. apart (ap suc e)))
+
+-- the first joints and one more
+pub taken_further : (joints : List Joint) (k : ℕ) → k < length joints → take (k + 1) joints ≡ take k joints ++ joint_at joints k ∷ []
+taken_further [] k lt = absurd (omega (arith, lt))
+taken_further (j ∷ joints) zero lt = refl
+taken_further (j ∷ joints) (suc k) lt = ap (λ (list : List Joint). j ∷ list) (taken_further joints k (omega (arith, lt)))
 
 -- within a list, whatever stands for a missing element
 within_list : {A : Type 0} (xs : List A) (k : ℕ) (d e : A) → k < length xs → slice_index_or xs k d ≡ slice_index_or xs k e

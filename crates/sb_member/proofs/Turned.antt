@@ -1,15 +1,13 @@
 -- A network whose nodes took their turns.
-use Rattle.std.proofs.Common.{◌≡◌, ℕ, ◌<◌, ◌+◌, ◌-◌, true, false, List, [], ◌∷◌, ◌++◌, length, map, refl, sym, ap, ◌∙◌, subst, arith}
-use Rattle.std.specs.Prelude.{All, nat_lt, slice_index_or}
+use Rattle.std.proofs.Common.{◌≡◌, ℕ, ◌<◌, List, [], ◌∷◌, length, refl, sym, ap, ◌∙◌, subst, arith}
+use Rattle.std.specs.Prelude.{All, slice_index_or}
 use Rattle.sb_drive.specs.Rounds.{EachReaches}
 use Rattle.sb_packet.specs.Plans.{RingPlan}
 use Rattle.sb_port.specs.Ports.{PortSide}
 use Rattle.sb_node.specs.Sides.{RingSide}
 use Rattle.sb_node.specs.Kept.{IsKeptPort, IsKeptRing}
-use Rattle.std.proofs.lemmas.List.{get_or-map, get_or-append_right, length-append, length-map}
-use Rattle.std.proofs.Math.ListN.{get_or-append}
-use Rattle.sb_router.specs.Kept.{IsKeptLane}
-use Rattle.sb_router.specs.Lanes.{InletState, LaneState, inlet_at, no_inlet, no_port, no_ring}
+use Rattle.sb_router.specs.Lanes.{no_port, no_ring}
+use Rattle.sb_router.proofs.EndPlaces as routers
 use Rattle.sb_router.specs.Routers.{IsKeptRouter, RouterSide, router_ports, router_rings}
 use Rattle.sb_member.specs.Members.{IsKeptMember, IsWholeMember, IsMemberTurn}
 use Rattle.sb_member.specs.Ends.{port_at, ports_of, ring_at, rings_of}
@@ -17,60 +15,21 @@ use Rattle.sb_member.specs.Joints.{IsJoined, joint_at, no_node, node_at}
 use Rattle.sb_member.specs.declared.joint.Joint.{Joint}
 use Rattle.sb_member.specs.declared.member.Member.{Member}
 use Rattle.sb_member.specs.declared.member.Member.TheVariants.{Host, Router, Device}
-use Rattle.sb_member.proofs.EndsChanged.{by_test, le_of, lt_of}
+use Rattle.sb_member.proofs.EndsChanged.{below_one}
 
 -- as many ends, each kept
 pub record AreKept {A : Type 0} (kept : A → A → Type 0) (xs ys : List A) (none : A) : Type 0 where
   pub count : length ys ≡ length xs
   pub each : (k : ℕ) → k < length xs → kept (slice_index_or xs k none) (slice_index_or ys k none)
 
--- below one there is nothing but zero
-below_one : (k : ℕ) → k < 1 → k ≡ 0
-below_one k lt = omega (arith, lt)
-
 one_kept : {A : Type 0} (kept : A → A → Type 0) (none x y : A) → kept x y → AreKept kept (x ∷ []) (y ∷ []) none
 one_kept kept none x y h = record { count = refl; each = λ k lt. subst (λ i. kept (slice_index_or (x ∷ []) i none) (slice_index_or (y ∷ []) i none)) (sym (below_one k lt)) h }
 
--- lists of kept ends, one behind the other
-both_kept : {A : Type 0} (kept : A → A → Type 0) (none : A) (xs ys us vs : List A) → AreKept kept xs ys none → AreKept kept us vs none → AreKept kept (xs ++ us) (ys ++ vs) none
-both_kept kept none xs ys us vs a b =
-    let n = length xs in
-    let first = a.count in
-    let second = b.count in
-    let long = length-append xs us in
-    let long_then = length-append ys vs in
-    record {
-      count = omega (arith, first, second, long, long_then);
-      each = λ k lt. by_test (nat_lt k n)
-          (λ e. let inside = lt_of k n e in
-              subst (λ x. kept x (slice_index_or (ys ++ vs) k none)) (sym (get_or-append xs us none k inside))
-              (subst (λ y. kept (slice_index_or xs k none) y) (sym (get_or-append ys vs none k (omega (arith, inside, first)))) (a.each k inside)))
-          (λ e. let le = le_of k n e in
-              subst (λ x. kept x (slice_index_or (ys ++ vs) k none)) (sym (get_or-append_right xs us n k none refl le))
-              (subst (λ y. kept (slice_index_or us (k - n) none) y) (sym (get_or-append_right ys vs n k none first le)) (b.each (k - n) (omega (arith, le, lt, long)))));
-    }
-
-ports_of_lane : (s t : LaneState) → IsKeptLane s t → AreKept IsKeptPort s.outlets t.outlets no_port
-ports_of_lane s t h = record { count = h.outlet_count; each = λ k lt. h.outlets k }
-
-rings_of_lane : (s t : LaneState) → IsKeptLane s t → AreKept IsKeptRing (map (λ x. x.ring) s.inlets) (map (λ x. x.ring) t.inlets) no_ring
-rings_of_lane s t h =
-    let ring : InletState → RingSide = (λ x. x.ring) in
-    let first = length-map s.inlets ring in
-    let second = length-map t.inlets ring in
-    let same = h.inlet_count in
-    record {
-      count = omega (arith, first, second, same);
-      each = λ k lt.
-          subst (λ x. IsKeptRing x (slice_index_or (map ring t.inlets) k no_ring)) (sym (get_or-map ring s.inlets k no_inlet no_ring (omega (arith, lt, first))))
-          (subst (λ y. IsKeptRing (inlet_at s k).ring y) (sym (get_or-map ring t.inlets k no_inlet no_ring (omega (arith, lt, first, same)))) (h.inlets k).ring);
-    }
-
 router_ports_kept : (x y : RouterSide) → IsKeptRouter x y → AreKept IsKeptPort (router_ports x) (router_ports y) no_port
-router_ports_kept x y h = both_kept IsKeptPort no_port _ _ _ _ (ports_of_lane x.requests.lane y.requests.lane h.requests.lane) (ports_of_lane x.answers.lane y.answers.lane h.answers.lane)
+router_ports_kept x y h = record { count = routers.port_count x y h; each = λ k lt. routers.ports_kept x y h k }
 
 router_rings_kept : (x y : RouterSide) → IsKeptRouter x y → AreKept IsKeptRing (router_rings x) (router_rings y) no_ring
-router_rings_kept x y h = both_kept IsKeptRing no_ring _ _ _ _ (rings_of_lane x.requests.lane y.requests.lane h.requests.lane) (rings_of_lane x.answers.lane y.answers.lane h.answers.lane)
+router_rings_kept x y h = record { count = routers.ring_count x y h; each = λ k lt. routers.rings_kept x y h k }
 
 module _ {F T U : Type 0} where
   pub ports_kept : (round : ℕ) (x y : Member F T U) → IsKeptMember round x y → AreKept IsKeptPort (ports_of x) (ports_of y) no_port

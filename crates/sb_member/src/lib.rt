@@ -2,13 +2,11 @@
 #![tactic(auto)]
 
 mod joint;
-mod laws;
 mod member;
 mod pair;
 mod rings;
 
 pub use joint::{Joint, hand_ring};
-pub use laws::rings_stay_joined;
 pub use member::Member;
 pub use pair::two;
 pub use rings::hand_rings;

@@ -30,3 +30,5 @@ pub mod Besides
 pub mod Lent
 pub mod BusyPorts
 pub mod Stillness
+pub mod EndPlaces
+pub mod SampleNetwork

@@ -35,4 +35,5 @@ pub record AwaitsBusyPort (s t : LaneState) (next : Option ℕ) : Type 0 where
 
 -- Each packet that is held after a turn is for a port that was busy in it: whatever could be handed on was.
 abbrev pub HeldAwaitsBusy : Route → LaneState → LaneState → Type 0
-HeldAwaitsBusy route s t = (i : ℕ) (p : Packet) → i < length t.inlets → (inlet_at t i).held ≡ Some p → AwaitsBusyPort s t (next_place route (inlet_at t i).ring.plan p)
+HeldAwaitsBusy route s t = (i : ℕ) (p : Packet) → i < length t.inlets → (inlet_at t i).held ≡ Some p
+    → AwaitsBusyPort s t (next_place route (inlet_at t i).ring.plan p)

@@ -29,7 +29,12 @@ nothing_found = record { moved = false; full = None; waits = None; empty = None 
 
 -- what was found in two turns
 abbrev pub found_in_both : Findings → Findings → Findings
-found_in_both a b = record { moved = a.moved || b.moved; full = lower a.full b.full; waits = lower a.waits b.waits; empty = lower a.empty b.empty }
+found_in_both a b = record {
+  moved = a.moved || b.moved;
+  full = lower a.full b.full;
+  waits = lower a.waits b.waits;
+  empty = lower a.empty b.empty;
+}
 
 -- Something was found that has this, besides all that was found before.
 pub record FindsBesides (Has : Findings → Type 0) (found found_then : Findings) : Type 0 where

@@ -44,7 +44,8 @@ pub record Passes (route : Route) (s : LaneState) (f : NetFlow) (i o : ℕ) : Ty
 -- Of a flow that passes, what was offered is always what came, less some; and it is what came but for what is held, where each packet that was popped is sound, and the words that were popped for that ring are within its budget.
 pub record HasForwarded (words : Words) (s : LaneState) (f : NetFlow) (i o : ℕ) : Type 0 where
   pub in_order : IsSubsequence (part words f (offered_at s o)) (part words f (came_at s i))
-  pub whole : AreSound s → popped_for words s o ≤ (outlet_at s o).plan.budget → part words f (came_at s i) ≡ part words f (offered_at s o) ++ part words f (held_at s i)
+  pub whole : AreSound s → popped_for words s o ≤ (outlet_at s o).plan.budget
+      → part words f (came_at s i) ≡ part words f (offered_at s o) ++ part words f (held_at s i)
 
 -- All words of a packet of one flow are of this flow, and go on to its place.
 pub record IsOneFlow (words : Words) (route : Route) (g : NetFlow) (list : List Access) : Type 0 where
@@ -54,15 +55,19 @@ pub record IsOneFlow (words : Words) (route : Route) (g : NetFlow) (list : List 
 -- How the rings of a direction belong together.
 pub record IsLaid (words : Words) (route : Route) (s : LaneState) : Type 0 where
   -- what comes by a ring is of one flow, packet by packet
-  pub one_flow : (i : ℕ) (p : Packet) (g : NetFlow) → i < length s.inlets → message_flow (inlet_at s i).ring.plan.flows (message_of p) ≡ Some g → IsOneFlow words route g (accesses_of p)
+  pub one_flow : (i : ℕ) (p : Packet) (g : NetFlow) → i < length s.inlets
+      → message_flow (inlet_at s i).ring.plan.flows (message_of p) ≡ Some g → IsOneFlow words route g (accesses_of p)
   -- a flow comes by one ring
-  pub apart : (f : NetFlow) (i j : ℕ) → i < length s.inlets → j < length s.inlets → goes_through (inlet_at s i).ring.plan.flows f ≡ true → goes_through (inlet_at s j).ring.plan.flows f ≡ true → i ≡ j
+  pub apart : (f : NetFlow) (i j : ℕ) → i < length s.inlets → j < length s.inlets
+      → goes_through (inlet_at s i).ring.plan.flows f ≡ true → goes_through (inlet_at s j).ring.plan.flows f ≡ true → i ≡ j
   -- the ring to which it goes is made for what comes
-  pub leads_on : (i o : ℕ) (p : Packet) → i < length s.inlets → IsPlanned (inlet_at s i).ring.plan (message_of p) → next_place route (inlet_at s i).ring.plan p ≡ Some o → IsPlanned (outlet_at s o).plan (message_of p)
+  pub leads_on : (i o : ℕ) (p : Packet) → i < length s.inlets → IsPlanned (inlet_at s i).ring.plan (message_of p)
+      → next_place route (inlet_at s i).ring.plan p ≡ Some o → IsPlanned (outlet_at s o).plan (message_of p)
 
 -- Of each port's words at least as many were popped as were offered or are held. Of each flow that passes, what was offered and then what is held is what came, less some; and nothing is missing where all is sound and within the budget.
 pub record Forwards (words : Words) (route : Route) (s : LaneState) : Type 0 where
   pub few : (o : ℕ) → length (offered_at s o) + sum_by (held_for words o) s.inlets ≤ popped_for words s o
-  pub picks : (f : NetFlow) (i o : ℕ) → Passes route s f i o → IsSubsequence (part words f (offered_at s o) ++ part words f (held_at s i)) (part words f (came_at s i))
+  pub picks : (f : NetFlow) (i o : ℕ) → Passes route s f i o
+      → IsSubsequence (part words f (offered_at s o) ++ part words f (held_at s i)) (part words f (came_at s i))
   pub whole : (f : NetFlow) (i o : ℕ) → Passes route s f i o → AreSound s → popped_for words s o ≤ (outlet_at s o).plan.budget
       → part words f (came_at s i) ≡ part words f (offered_at s o) ++ part words f (held_at s i)

@@ -24,7 +24,8 @@ pub record Drops (route : Route) (i : ℕ) (s t : LaneState) : Type 0 where
 
 -- nothing is held, or the port to which it goes owes an item
 pub record IsWaiting (route : Route) (i : ℕ) (s : LaneState) : Type 0 where
-  pub owing : (p : Packet) → (inlet_at s i).held ≡ Some p → (o : ℕ) × (next_place route (inlet_at s i).ring.plan p ≡ Some o) × (owes (outlet_at s o).state ≡ true)
+  pub owing : (p : Packet) → (inlet_at s i).held ≡ Some p
+      → (o : ℕ) × (next_place route (inlet_at s i).ring.plan p ≡ Some o) × (owes (outlet_at s o).state ≡ true)
 
 -- What is held of a ring had its turn to be handed on.
 abbrev pub IsHanded : Route → ℕ → LaneState → LaneState → Bool → Type 0

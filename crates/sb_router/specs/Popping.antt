@@ -26,7 +26,8 @@ pub record IsFoundEmpty (before after : InletState) (found : Findings) : Type 0 
   pub open_after : after.ended ≡ false
   pub free : after.held ≡ None
   pub drained : is_drained after.ring ≡ true
-  pub found_empty : found ≡ record nothing_found { empty = Some (causes.Empty after.ring.plan.ring (length after.ring.received) after.ring.known) }
+  pub found_empty : found
+      ≡ record nothing_found { empty = Some (causes.Empty after.ring.plan.ring (length after.ring.received) after.ring.known) }
 
 -- A ring had its turn to be popped.
 abbrev pub IsPopped : InletState → InletState → Findings → Type 0

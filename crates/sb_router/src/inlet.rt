@@ -95,7 +95,8 @@ impl<U: RxEnd> Inlet<U> {
     /// Lends the receiving end, so that it can meet the sending one.
     pub(crate) fn end(&mut self) -> &mut U
         ensures value { ring_side U.RxEnd result.now ≡ self.old.ring }
-        ensures* writes_back { sem 𝓛 (Lends (the_row U.row U.RxEnd) U.row self.entry result (λ end. record self.old { ring = ring_side U.RxEnd end })) }
+        ensures* writes_back { sem 𝓛 (Lends (the_row U.row U.RxEnd) U.row
+            self.entry result (λ end. record self.old { ring = ring_side U.RxEnd end })) }
     {
         &mut self.end
     }

@@ -170,7 +170,8 @@ impl<T: TxEnd, U: RxEnd> Lane<T, U> {
         requires within { place < vec_len self.old.outlets }
         ensures routes { self.new.routes ≡ self.old.routes }
         ensures set { IsOutletSet place (lane_of self.old) (lane_of self.new) }
-        ensures turned { FindsBesides (IsOutletTurned more (outlet_at (lane_of self.old) place) (outlet_at (lane_of self.new) place)) found.old found.new }
+        ensures turned { FindsBesides (IsOutletTurned more (outlet_at (lane_of self.old) place) (outlet_at (lane_of self.new) place))
+            found.old found.new }
     {
         turn_outlet(&mut self.outlets[place], more, found);
     }
@@ -205,7 +206,8 @@ impl<T: TxEnd, U: RxEnd> Lane<T, U> {
 
     /// Whether each ring gave its Close and each port sent one.
     pub fn is_done(&self) -> bool
-        ensures done { result ≡ (list_all (λ port. port.state.shut) (lane_of self.now).outlets && list_all (λ x. x.ended) (lane_of self.now).inlets) }
+        ensures done { result ≡ (list_all (λ port. port.state.shut) (lane_of self.now).outlets
+            && list_all (λ x. x.ended) (lane_of self.now).inlets) }
     {
         are_shut(&self.outlets) & have_ended(&self.inlets)
     }

@@ -18,7 +18,8 @@ impl<T: TxEnd, U: RxEnd> Lane<T, U> {
     pub(crate) fn port(&mut self, place: usize) -> &mut OutPort<T>
         requires within { place < vec_len self.old.outlets }
         ensures value { result.now ≡ outlet_at (lane_of self.old) place }
-        ensures* writes_back { sem 𝓛 (Lends (the_row T.row U.row T.TxEnd U.RxEnd) (port_row T.row T.TxEnd) self.entry result (λ port. lane_with_port self.old place port)) }
+        ensures* writes_back { sem 𝓛 (Lends (the_row T.row U.row T.TxEnd U.RxEnd) (port_row T.row T.TxEnd)
+            self.entry result (λ port. lane_with_port self.old place port)) }
     {
         let outlets = &mut self.outlets;
         &mut outlets[place]
@@ -28,7 +29,8 @@ impl<T: TxEnd, U: RxEnd> Lane<T, U> {
     pub(crate) fn end(&mut self, place: usize) -> &mut U
         requires within { place < vec_len self.old.inlets }
         ensures value { ring_side U.RxEnd result.now ≡ (inlet_at (lane_of self.old) place).ring }
-        ensures* writes_back { sem 𝓛 (Lends (the_row T.row U.row T.TxEnd U.RxEnd) U.row self.entry result (λ end. lane_with_ring self.old place (ring_side U.RxEnd end))) }
+        ensures* writes_back { sem 𝓛 (Lends (the_row T.row U.row T.TxEnd U.RxEnd) U.row
+            self.entry result (λ end. lane_with_ring self.old place (ring_side U.RxEnd end))) }
     {
         let inlets = &mut self.inlets;
         inlets[place].end()

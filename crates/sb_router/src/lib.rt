@@ -16,8 +16,14 @@ mod table;
 pub use inlet::Inlet;
 pub use lane::Lane;
 pub use laws::{
-    rested_directions_are_still, router_stays_whole, routers_hand_on, unmoved_directions_are_still,
+    direction_stays_whole, rested_directions_are_still, router_stays_whole, routers_hand_on,
+    routers_keep_their_places, unmoved_directions_are_still,
 };
 pub use router::{Router, RouterEnds};
 pub use router_core::RouterCore;
 pub use routes::Routes;
+
+#[cfg(test)]
+mod sample;
+#[cfg(test)]
+mod tests;

@@ -120,8 +120,10 @@ impl<F: Fabric> Router<F> {
         ensures requests_out { IfOk result (λ r. r.requests.lane.outlets ≡ map (λ leg. fresh_port F.Tx.TxEnd leg.requests) outs.items) }
         ensures answers_in { IfOk result (λ r. r.answers.lane.inlets ≡ map (λ leg. fresh_inlet F.Rx.RxEnd leg.answers) outs.items) }
         ensures answers_out { IfOk result (λ r. r.answers.lane.outlets ≡ map (λ leg. fresh_port F.Tx.TxEnd leg.answers) ins.items) }
-        ensures down { IfOk result (λ r. IsTableOf (network_of bundle.now) false number (map (λ leg. leg.link) outs.items) r.requests.rows) }
-        ensures up { IfOk result (λ r. IsTableOf (network_of bundle.now) true number (map (λ leg. leg.link) ins.items) r.answers.rows) }
+        ensures down { IfOk result (λ r. IsTableOf (network_of bundle.now) false number (map (λ leg. leg.link) outs.items)
+            r.requests.rows) }
+        ensures up { IfOk result (λ r. IsTableOf (network_of bundle.now) true number (map (λ leg. leg.link) ins.items)
+            r.answers.rows) }
         ensures forwards_requests { IfOk result (λ r. (words : Words) → Forwards words (route_of r.requests.rows) r.requests.lane) }
         ensures forwards_answers { IfOk result (λ r. (words : Words) → Forwards words (route_of r.answers.rows) r.answers.lane) }
     {
@@ -176,7 +178,8 @@ impl<F: Fabric> Router<F> {
     pub fn port(&mut self, place: usize) -> &mut OutPort<F::Tx>
         requires within { place < length (router_ports self.old) }
         ensures value { result.now ≡ router_port self.old place }
-        ensures* writes_back { sem 𝓛 (Lends (the_row F.row F.Tx.row F.Rx.row F.Fabric F.Tx.TxEnd F.Rx.RxEnd) (port_row F.Tx.row F.Tx.TxEnd) self.entry result (λ port. router_with_port self.old place port)) }
+        ensures* writes_back { sem 𝓛 (Lends (the_row F.row F.Tx.row F.Rx.row F.Fabric F.Tx.TxEnd F.Rx.RxEnd) (port_row F.Tx.row F.Tx.TxEnd)
+            self.entry result (λ port. router_with_port self.old place port)) }
     {
         let core = &mut self.core;
         core.port(place)
@@ -186,7 +189,8 @@ impl<F: Fabric> Router<F> {
     pub fn end(&mut self, place: usize) -> &mut F::Rx
         requires within { place < length (router_rings self.old) }
         ensures value { ring_side F.Rx.RxEnd result.now ≡ router_ring self.old place }
-        ensures* writes_back { sem 𝓛 (Lends (the_row F.row F.Tx.row F.Rx.row F.Fabric F.Tx.TxEnd F.Rx.RxEnd) F.Rx.row self.entry result (λ end. router_with_ring self.old place (ring_side F.Rx.RxEnd end))) }
+        ensures* writes_back { sem 𝓛 (Lends (the_row F.row F.Tx.row F.Rx.row F.Fabric F.Tx.TxEnd F.Rx.RxEnd) F.Rx.row
+            self.entry result (λ end. router_with_ring self.old place (ring_side F.Rx.RxEnd end))) }
     {
         let core = &mut self.core;
         core.end(place)

@@ -45,7 +45,8 @@ impl<T: TxEnd, U: RxEnd> RouterCore<T, U> {
     pub(crate) fn port(&mut self, place: usize) -> &mut OutPort<T>
         requires within { place < length (router_ports (core_side self.old)) }
         ensures value { result.now ≡ router_port (core_side self.old) place }
-        ensures* writes_back { sem 𝓛 (Lends (the_row T.row U.row T.TxEnd U.RxEnd) (port_row T.row T.TxEnd) self.entry result (λ port. core_with_port self.old place port)) }
+        ensures* writes_back { sem 𝓛 (Lends (the_row T.row U.row T.TxEnd U.RxEnd) (port_row T.row T.TxEnd)
+            self.entry result (λ port. core_with_port self.old place port)) }
     {
         let before = self.requests.outlets.len();
         if place < before {
@@ -59,7 +60,8 @@ impl<T: TxEnd, U: RxEnd> RouterCore<T, U> {
     pub(crate) fn end(&mut self, place: usize) -> &mut U
         requires within { place < length (router_rings (core_side self.old)) }
         ensures value { ring_side U.RxEnd result.now ≡ router_ring (core_side self.old) place }
-        ensures* writes_back { sem 𝓛 (Lends (the_row T.row U.row T.TxEnd U.RxEnd) U.row self.entry result (λ end. core_with_ring self.old place (ring_side U.RxEnd end))) }
+        ensures* writes_back { sem 𝓛 (Lends (the_row T.row U.row T.TxEnd U.RxEnd) U.row
+            self.entry result (λ end. core_with_ring self.old place (ring_side U.RxEnd end))) }
     {
         let before = self.requests.inlets.len();
         if place < before {

@@ -63,7 +63,8 @@ fn row(
     host: u8,
 ) -> [Option<usize>; 32]
     requires made { paths.now ≡ paths_of (network_of bundle.now) }
-    ensures places { (device : ℕ) → device < 32 → slice_index_or result device None ≡ place_on (network_of bundle.now) up router links.now (record { host = host; device = device }) }
+    ensures places { (device : ℕ) → device < 32 → slice_index_or result device None
+        ≡ place_on (network_of bundle.now) up router links.now (record { host = host; device = device }) }
     ensures within { (device o : ℕ) → slice_index_or result device None ≡ Some o → o < length links.now }
 {
     let mut row = [None; 32];

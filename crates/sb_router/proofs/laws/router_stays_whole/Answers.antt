@@ -1,15 +1,12 @@
--- router_stays_whole: what is put back is as it was, and all that is known of it.
-use Rattle.sb_router.proofs.Meetings.{port_forwards, port_whole, ring_forwards, ring_whole}
+use Rattle.sb_router.proofs.EndPlaces.{port_ports, port_rings, port_whole, ring_ports, ring_rings, ring_whole}
 use Rattle.sb_router.proofs.laws.router_stays_whole.Goals as goal
 
-pub returns-clause-ring : goal.returns-clause-ring
-returns-clause-ring c = λ d k ring lt is w. ring_whole d k ring lt is w
-
-pub returns-clause-ring_forwards : goal.returns-clause-ring_forwards
-returns-clause-ring_forwards c = λ words d k ring lt is h. ring_forwards d k ring lt is words h
-
-pub returns-clause-port : goal.returns-clause-port
-returns-clause-port c = λ d k port lt is w. port_whole d k port lt is w
-
-pub returns-clause-port_forwards : goal.returns-clause-port_forwards
-returns-clause-port_forwards c = λ words d k port lt is h. port_forwards d k port lt is words h
+pub returns : goal.returns
+returns c = record {
+  ring = λ r k ring lt met w. ring_whole r k ring lt met w;
+  port = λ r k port lt met w. port_whole r k port lt met w;
+  ring_rings = λ r k ring. ring_rings r k ring;
+  ring_ports = λ r k ring. ring_ports r k ring;
+  port_ports = λ r k port. port_ports r k port;
+  port_rings = λ r k port. port_rings r k port;
+}
