@@ -1,5 +1,5 @@
 -- What a node has once one of its ends is another, as after a meeting.
-use Rattle.std.proofs.Common.{◌≡◌, ℕ, ◌<◌, List, [], ◌∷◌, length, set, refl, sym, ap, subst, arith}
+use Rattle.std.proofs.Common.{◌≡◌, ℕ, ◌<◌, [], ◌∷◌, length, set, refl, sym, ap, subst, arith}
 use Rattle.std.specs.Prelude.{slice_index_or}
 use Rattle.sb_port.specs.Ports.{PortSide}
 use Rattle.sb_node.specs.Kept.{IsPortMet, IsRingMet}

@@ -15,10 +15,13 @@ set_swap (z ∷ xs) (suc i) zero x y apart = refl
 set_swap (z ∷ xs) (suc i) (suc k) x y apart = ap (λ list. z ∷ list) (set_swap xs i k x y (λ e. apart (ap suc e)))
 
 -- the first joints and one more
+taken_next : (joints : List Joint) (k : ℕ) → k < length joints → take (suc k) joints ≡ take k joints ++ joint_at joints k ∷ []
+taken_next [] k lt = absurd (omega (arith, lt))
+taken_next (j ∷ joints) zero lt = refl
+taken_next (j ∷ joints) (suc k) lt = ap (λ (list : List Joint). j ∷ list) (taken_next joints k (omega (arith, lt)))
+
 pub taken_further : (joints : List Joint) (k : ℕ) → k < length joints → take (k + 1) joints ≡ take k joints ++ joint_at joints k ∷ []
-taken_further [] k lt = absurd (omega (arith, lt))
-taken_further (j ∷ joints) zero lt = refl
-taken_further (j ∷ joints) (suc k) lt = ap (λ (list : List Joint). j ∷ list) (taken_further joints k (omega (arith, lt)))
+taken_further joints k lt = let next : k + 1 ≡ suc k = omega arith in ap (λ (n : ℕ). take n joints) next ∙ taken_next joints k lt
 
 -- within a list, whatever stands for a missing element
 within_list : {A : Type 0} (xs : List A) (k : ℕ) (d e : A) → k < length xs → slice_index_or xs k d ≡ slice_index_or xs k e

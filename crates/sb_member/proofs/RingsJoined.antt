@@ -1,5 +1,5 @@
 -- A network in which one ring was handed over.
-use Rattle.std.proofs.Common.{◌≡◌, ◌≢◌, ◌⊎◌, ⊎_elim, ℕ, zero, suc, ◌+◌, ◌<◌, ◌≤◌, Bool, true, false, List, length, set, refl, sym, ap, ◌∙◌, subst, arith}
+use Rattle.std.proofs.Common.{◌≡◌, ◌≢◌, ⊎_elim, ℕ, zero, suc, ◌+◌, ◌<◌, Bool, true, false, List, length, set, refl, sym, ap, ◌∙◌, subst, arith}
 use Rattle.std.specs.Prelude.{All, slice_index_or, eqb}
 use Rattle.std.proofs.lemmas.List.{length-set, get_or-set_same, get_or-set_other}
 use Rattle.std.proofs.lemmas.List.Elements.{All-get_or, All-set}
@@ -10,7 +10,7 @@ use Rattle.sb_port.specs.Ports.{PortSide}
 use Rattle.sb_node.specs.Sides.{RingSide}
 use Rattle.sb_router.specs.Lanes.{no_port, no_ring}
 use Rattle.sb_member.specs.Members.{IsWholeMember}
-use Rattle.sb_member.specs.Ends.{HaveJoined, port_at, ports_of, ring_at, rings_of, with_port, with_ring}
+use Rattle.sb_member.specs.Ends.{port_at, ports_of, ring_at, rings_of, with_port, with_ring}
 use Rattle.sb_member.specs.Joints.{HasHanded, HaveAllMet, IsJoined, IsPlaced, KnowEachOther, joint_at, no_node, node_at, receiver_of, sender_of}
 use Rattle.sb_member.specs.declared.joint.Joint.{Joint}
 use Rattle.sb_member.specs.declared.member.Member.{Member}
@@ -87,13 +87,13 @@ module _ {F T U : Type 0} (prompt : Bool) (j : Joint) (before after : List (Memb
   pub sender_there : (i : Joint) → (i.from ≡ j.from → i.out ≢ j.out) → sender_of after i ≡ sender_of before i
   sender_there i apart = same_or_not i.from j.from
       (λ e. ap (λ k. port_at (node_at after k) i.out) e ∙ ap (λ xs. slice_index_or xs i.out no_port) ports_from ∙ get_or-set_other (ports_of a) j.out i.out h.port_then no_port (apart e)
-          ∙ sym (ap (λ k. port_at (node_at before k) i.out) e))
+      ∙ sym (ap (λ k. port_at (node_at before k) i.out) e))
       (λ n. ap (λ xs. slice_index_or xs i.out no_port) (ports_elsewhere i.from n))
 
   pub receiver_there : (i : Joint) → (i.to ≡ j.to → i.into ≢ j.into) → receiver_of after i ≡ receiver_of before i
   receiver_there i apart = same_or_not i.to j.to
       (λ e. ap (λ k. ring_at (node_at after k) i.into) e ∙ ap (λ xs. slice_index_or xs i.into no_ring) rings_to ∙ get_or-set_other (rings_of b) j.into i.into h.ring_then no_ring (apart e)
-          ∙ sym (ap (λ k. ring_at (node_at before k) i.into) e))
+      ∙ sym (ap (λ k. ring_at (node_at before k) i.into) e))
       (λ n. ap (λ xs. slice_index_or xs i.into no_ring) (rings_elsewhere i.to n))
 
   -- it stands where it stood
@@ -137,7 +137,7 @@ module _ {F T U : Type 0} (prompt : Bool) (joints : List Joint) (r : ℕ) (befor
   marks_then : (q : ℕ) → q < length joints → (sender_of after (joint_at joints q)).mark ≡ (receiver_of after (joint_at joints q)).mark
   marks_then q below = same_or_not q r
       (λ e. ap (λ k. (sender_of after (joint_at joints k)).mark) e ∙ ap (λ (x : PortSide). x.mark) (sender_here prompt j before after p h) ∙ h.joined.marks
-          ∙ sym (ap (λ (x : RingSide). x.mark) (receiver_here prompt j before after p h)) ∙ sym (ap (λ k. (receiver_of after (joint_at joints k)).mark) e))
+      ∙ sym (ap (λ (x : RingSide). x.mark) (receiver_here prompt j before after p h)) ∙ sym (ap (λ k. (receiver_of after (joint_at joints k)).mark) e))
       (λ differs. ap (λ (x : PortSide). x.mark) (sender_stays q below differs) ∙ (n.placed q below).marks ∙ sym (ap (λ (x : RingSide). x.mark) (receiver_stays q below differs)))
 
   pub joined_on : IsJoined joints after
@@ -155,9 +155,9 @@ module _ {F T U : Type 0} (prompt : Bool) (joints : List Joint) (r : ℕ) (befor
   pub met_on : prompt ≡ true → HaveAllMet joints r before → HaveAllMet joints (r + 1) after
   met_on prompted met q below = same_or_not q r
       (λ e. subst (λ k. KnowEachOther after (joint_at joints k)) (sym e)
-          (subst (λ (x : PortSide). HaveMet x.state.sent x.taken (receiver_of after j).received (receiver_of after j).known) (sym (sender_here prompt j before after p h))
-          (subst (λ (x : RingSide). HaveMet h.port_then.state.sent h.port_then.taken x.received x.known) (sym (receiver_here prompt j before after p h)) (h.joined.met prompted))))
+      (subst (λ (x : PortSide). HaveMet x.state.sent x.taken (receiver_of after j).received (receiver_of after j).known) (sym (sender_here prompt j before after p h))
+      (subst (λ (x : RingSide). HaveMet h.port_then.state.sent h.port_then.taken x.received x.known) (sym (receiver_here prompt j before after p h)) (h.joined.met prompted))))
       (λ differs. let inside : q < r = below_not q r below differs in
-          let within : q < length joints = omega (arith, inside, lt) in
-          subst (λ (x : PortSide). HaveMet x.state.sent x.taken (receiver_of after (joint_at joints q)).received (receiver_of after (joint_at joints q)).known) (sym (sender_stays q within differs))
-          (subst (λ (x : RingSide). HaveMet (sender_of before (joint_at joints q)).state.sent (sender_of before (joint_at joints q)).taken x.received x.known) (sym (receiver_stays q within differs)) (met q inside)))
+      let within : q < length joints = omega (arith, inside, lt) in
+      subst (λ (x : PortSide). HaveMet x.state.sent x.taken (receiver_of after (joint_at joints q)).received (receiver_of after (joint_at joints q)).known) (sym (sender_stays q within differs))
+      (subst (λ (x : RingSide). HaveMet (sender_of before (joint_at joints q)).state.sent (sender_of before (joint_at joints q)).taken x.received x.known) (sym (receiver_stays q within differs)) (met q inside)))

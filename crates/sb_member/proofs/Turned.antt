@@ -3,14 +3,12 @@ use Rattle.std.proofs.Common.{◌≡◌, ℕ, ◌<◌, List, [], ◌∷◌, leng
 use Rattle.std.specs.Prelude.{All, slice_index_or}
 use Rattle.sb_drive.specs.Rounds.{EachReaches}
 use Rattle.sb_packet.specs.Plans.{RingPlan}
-use Rattle.sb_port.specs.Ports.{PortSide}
-use Rattle.sb_node.specs.Sides.{RingSide}
 use Rattle.sb_node.specs.Kept.{IsKeptPort, IsKeptRing}
 use Rattle.sb_router.specs.Lanes.{no_port, no_ring}
 use Rattle.sb_router.proofs.EndPlaces as routers
 use Rattle.sb_router.specs.Routers.{IsKeptRouter, RouterSide, router_ports, router_rings}
 use Rattle.sb_member.specs.Members.{IsKeptMember, IsWholeMember, IsMemberTurn}
-use Rattle.sb_member.specs.Ends.{port_at, ports_of, ring_at, rings_of}
+use Rattle.sb_member.specs.Ends.{ports_of, rings_of}
 use Rattle.sb_member.specs.Joints.{IsJoined, joint_at, no_node, node_at}
 use Rattle.sb_member.specs.declared.joint.Joint.{Joint}
 use Rattle.sb_member.specs.declared.member.Member.{Member}

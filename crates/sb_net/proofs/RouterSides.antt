@@ -17,7 +17,8 @@ use Rattle.sb_router.specs.Forwarding as router
 use Rattle.sb_port.specs.Ports.{PortSide}
 use Rattle.sb_router.specs.Lanes.{InletState, LaneState, Route, came_at, held_at, held_words, inlet_at, no_inlet, no_port, next_place, offered_at, outlet_at}
 use Rattle.sb_router.specs.Steps.{IsSilent}
-use Rattle.sb_router.specs.Turning.{AwaitsFullPort, IsIdleLane}
+use Rattle.sb_router.specs.Awaiting.{AwaitsFullPort}
+use Rattle.sb_router.specs.Turning.{IsIdleLane}
 use Rattle.sb_router.specs.Whole.{IsWholeLane}
 use Rattle.sb_net.specs.Courses.{Course, came_for, is_carried}
 use Rattle.sb_net.specs.Flows.{words_of}

@@ -15,6 +15,8 @@ returns-else-joint g c =
     let j = c.args.joint.now in
     let list = c.args.nodes.now in
     let h = c.hand_over-else-joint in
-    record { handed = subst (λ nodes. HasHanded g.F.Fabric.prompt j list nodes) (set_swap list j.from j.to h.new.from h.new.to c.requires.placed.apart)
-        (handed g.F.Fabric.prompt list j c.two-to.result.1.now h.new.from c.two-to.result.0.now h.new.to
-        c.requires.placed c.two-to.ensures.second c.two-to.ensures.first h.ensures.met) }
+    record {
+      handed = subst (λ nodes. HasHanded g.F.Fabric.prompt j list nodes) (set_swap list j.from j.to h.new.from h.new.to c.requires.placed.apart)
+          (handed g.F.Fabric.prompt list j c.two-to.result.1.now h.new.from c.two-to.result.0.now h.new.to
+          c.requires.placed c.two-to.ensures.second c.two-to.ensures.first h.ensures.met);
+    }

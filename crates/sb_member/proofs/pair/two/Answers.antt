@@ -1,7 +1,7 @@
 -- The two halves of the list are put together again.
-use Rattle.std.proofs.Common.{◌≡◌, ℕ, ◌<◌, ◌-◌, List, ◌++◌, length, set, refl, sym, ap, ◌∙◌, subst, arith}
+use Rattle.std.proofs.Common.{◌≡◌, ℕ, ◌<◌, ◌-◌, List, ◌++◌, length, set, refl, sym, ap, ◌∙◌, arith}
 use Rattle.std.specs.Prelude.{slice_index_or}
-use Rattle.std.proofs.lemmas.List.{set-append_left, set-append_right, length-set, get_or-append_right, get_or_default}
+use Rattle.std.proofs.lemmas.List.{set-append_left, set-append_right, length-set, get_or-append_right}
 use Rattle.std.proofs.Math.ListN.{get_or-append}
 use Rattle.sb_member.proofs.pair.two.Goals as goal
 
@@ -24,12 +24,14 @@ returns g c =
     let a = c.index-front-low.result in
     let b = c.index-back-0.result in
     let len : length front ≡ high = s.ensures.front_len in
-    let order = c.requires.order in
-    (((refl, refl), λ x y. both_set list front back low high x y (sym s.ensures.value) len order), record {
-      first = c.index-front-low.is ∙ sym (get_or-append front back a low (omega (arith, order, len))) ∙ ap (λ xs. slice_index_or xs low a) (sym s.ensures.value);
-      second = c.index-back-0.is ∙ ap (λ k. slice_index_or back k b) (zero_is high) ∙ sym (get_or-append_right front back high high b len (omega arith)) ∙ ap (λ xs. slice_index_or xs high b) (sym s.ensures.value);
-      writes_back = tt;
-    })
+    let order = c.requires.order in (
+      ((refl, refl), λ x y. both_set list front back low high x y (sym s.ensures.value) len order),
+      record {
+        first = c.index-front-low.is ∙ sym (get_or-append front back a low (omega (arith, order, len))) ∙ ap (λ xs. slice_index_or xs low a) (sym s.ensures.value);
+        second = c.index-back-0.is ∙ ap (λ k. slice_index_or back k b) (zero_is high) ∙ sym (get_or-append_right front back high high b len (omega arith)) ∙ ap (λ xs. slice_index_or xs high b) (sym s.ensures.value);
+        writes_back = tt;
+      },
+    )
   where
     zero_is : (n : ℕ) → 0 ≡ n - n
     zero_is n = omega arith

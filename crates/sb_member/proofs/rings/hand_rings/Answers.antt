@@ -1,5 +1,5 @@
 -- One ring more has met.
-use Rattle.std.proofs.Common.{◌≡◌, ◌∷◌, [], ◌++◌, length, take, List, subst, sym, arith}
+use Rattle.std.proofs.Common.{take, List, subst, sym, arith}
 use Rattle.sb_member.specs.Joints.{HandsAlong, joint_at}
 use Rattle.sb_member.specs.declared.joint.Joint.{Joint}
 use Rattle.sb_member.proofs.RingsHanded.{hands_more, taken_further}
