@@ -122,6 +122,13 @@ impl<F: Fabric> Host<F> {
         })
     }
 
+    /// How many transactions its script has.
+    pub fn count(&self) -> usize
+        ensures count { result ≡ length self.now.transactions.asked.lines }
+    {
+        self.core.transactions.count()
+    }
+
     /// How far the transaction at that place of the script has come.
     pub fn state(&self, index: u32) -> TxnState
         requires index { index < length self.now.transactions.asked.lines }

@@ -61,6 +61,13 @@ impl Transactions {
         })
     }
 
+    /// How many transactions there are.
+    pub fn count(&self) -> usize
+        ensures count { result ≡ length self.now.asked.lines }
+    {
+        self.orders.lines.len()
+    }
+
     /// How far the transaction at that place of the script has come.
     pub fn state(&self, index: u32) -> TxnState
         requires index { index < length self.now.asked.lines }

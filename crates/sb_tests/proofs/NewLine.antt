@@ -4,7 +4,8 @@ use Rattle.std.specs.Prelude.{slice_index_or}
 use Rattle.std.proofs.lemmas.List.Elements.{All-from_recursion}
 use Rattle.sb_port.specs.Ports.{PortSide}
 use Rattle.sb_node.specs.Sides.{RingSide}
-use Rattle.sb_device.specs.Devices.{DeviceSide, IsWholeDevice}
+use Rattle.sb_device.specs.Sides.{DeviceSide}
+use Rattle.sb_device.specs.Devices.{IsWholeDevice}
 use Rattle.sb_host.specs.Hosts.{HostSide, IsWholeHost}
 use Rattle.sb_router.specs.Lanes.{no_port, no_ring}
 use Rattle.sb_router.specs.Routers.{IsWholeRouter, RouterSide, router_ports, router_rings}

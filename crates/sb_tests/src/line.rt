@@ -89,7 +89,7 @@ fn nodes_of<F: Fabric>(
 
 /// How far each transaction has come.
 fn states<F: Fabric>(host: &Host<F>) -> [TxnState; 7]
-    requires lines { length (host_side F.Tx.TxEnd F.Rx.RxEnd host.now).asked.lines ≡ 7 }
+    requires lines { length host.now.transactions.asked.lines ≡ 7 }
 {
     [
         host.state(0),
@@ -104,7 +104,7 @@ fn states<F: Fabric>(host: &Host<F>) -> [TxnState; 7]
 
 /// What was answered to each transaction.
 fn bodies<'a, F: Fabric>(host: &'a Host<F>) -> [&'a [u8]; 7]
-    requires lines { length (host_side F.Tx.TxEnd F.Rx.RxEnd host.now).asked.lines ≡ 7 }
+    requires lines { length host.now.transactions.asked.lines ≡ 7 }
 {
     [
         host.body(0),
@@ -117,18 +117,26 @@ fn bodies<'a, F: Fabric>(host: &'a Host<F>) -> [&'a [u8]; 7]
     ]
 }
 
-/// A network is run to its end: each transaction ends as it must, the device has served all packets, and its page has
-/// what was written.
+/// A network is run to its end: each node is done, each transaction ends as it must, the device has served all packets,
+/// and its page has what was written.
 #[test]
 fn whole_run(rt: HostRuntime) -> Result<(), Fail> {
     let bundle = bundle(rt.alloc())?;
     let mut fabric = SerialFabric::new(rt.alloc());
-    let mut nodes = nodes_of(rt.alloc(), &mut fabric, &bundle)?;
-    assert!(rt; run(&mut nodes));
+    let mut group = nodes_of(rt.alloc(), &mut fabric, &bundle)?;
+    assert!(rt; run(&mut group));
+    assert_eq!(rt; group.last.as_slice(), [Turn::Done; 3].as_slice());
+    let [Member::Host(host), Member::Router(_), Member::Device(device)] = group.nodes.as_slice()
+    else {
+        return Err("a host, a router and a device")?;
+    };
+    if host.count() != 7 {
+        return Err("seven transactions")?;
+    }
     let ok = TxnState::Answered { code: Code::Ok };
     let unreached = TxnState::Answered { code: Code::NetErr };
     assert_eq!(rt;
-        states(&nodes.host),
+        states(host),
         [ok, ok, TxnState::Posted, ok, unreached, ok, ok]
     );
     let forty = forty();
@@ -141,13 +149,13 @@ fn whole_run(rt: HostRuntime) -> Result<(), Fail> {
         &[0, 3, 3, 4],
         &[9],
     ];
-    assert_eq!(rt; bodies(&nodes.host), answers);
+    assert_eq!(rt; bodies(host), answers);
     // Two packets each of the first two, and one of each but the fifth.
-    assert_eq!(rt; nodes.device.journal().len(), 8);
+    assert_eq!(rt; device.journal().len(), 8);
     let mut image = Vec::from_array(rt.alloc(), [0u8; 4096])?;
     image[64..104].copy_from_slice(&forty);
     image[64..66].copy_from_slice(&[0, 3]);
     image[4095] = 9;
-    assert_eq!(rt; nodes.device.image(), image.as_slice());
+    assert_eq!(rt; device.image(), image.as_slice());
     Ok(())
 }

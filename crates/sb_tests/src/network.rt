@@ -76,7 +76,7 @@ pub fn host_at<F: Fabric>(
     requires first { leg.link ≡ 0 }
     requires planned { F.Tx.planned leg.requests ≡ ring_plan sample 0 }
     ensures whole { IfOk result (λ h. IsWholeHost h) }
-    ensures asked { IfOk result (λ h. h.asked ≡ asked_by sample sample_host) }
+    ensures asked { IfOk result (λ h. h.transactions.asked ≡ asked_by sample sample_host) }
     ensures requests { IfOk result (λ h. h.requests ≡ fresh_port F.Tx.TxEnd leg.requests) }
     ensures answers { IfOk result (λ h. h.answers ≡ ring_side F.Rx.RxEnd leg.answers) }
 {

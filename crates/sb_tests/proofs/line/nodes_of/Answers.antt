@@ -4,9 +4,6 @@ use Rattle.sb_link.specs.PlanOf.{plan_of}
 use Rattle.sb_packet.specs.Networks.{Network}
 use Rattle.sb_packet.specs.Plans.{RingPlan}
 use Rattle.sb_packet.specs.Rings.{ring_plan}
-use Rattle.sb_device.specs.SideOf.{device_side}
-use Rattle.sb_host.specs.SideOf.{host_side}
-use Rattle.sb_router.specs.SideOf.{router_side}
 use Rattle.sb_tests.proofs.NewLine.{new_line}
 use Rattle.sb_tests.proofs.NewRings.{one_more, ring_0, ring_1, ring_2, ring_3, sample_plan, wide_1, wide_2}
 use Rattle.sb_tests.specs.Samples.{sample}
@@ -69,24 +66,3 @@ router_at-requires-clause-far g c κs within = record {
   wide = wide_2 _ (c.in_ok-leg_out.ensures.requests_out ∙ planned _ 2 _ c.requires.network c.plan-far_down.ensures);
   unreceived = c.in_ok-leg_out.ensures.answers_unreceived;
 }
-
-pub returns : goal.returns
-returns g c =
-    let near = c.in_ok-host_leg.ensures in
-    let far = c.in_ok-leg_out.ensures in
-    let near_down = planned _ 0 _ c.requires.network c.plan-near_down.ensures in
-    let near_up = planned _ 1 _ c.requires.network c.plan-near_up.ensures in
-    let far_down = planned _ 2 _ c.requires.network c.plan-far_down.ensures in
-    let far_up = planned _ 3 _ c.requires.network c.plan-far_up.ensures in
-    let host = c.in_ok-host.ensures in
-    let router = c.in_ok-router.ensures in
-    let device = c.in_ok-device.ensures in
-    record {
-      line = new_line g.F.Tx.TxEnd g.F.Rx.RxEnd c.in_ok-host_leg.host_leg.requests c.in_ok-host_leg.leg_in.requests c.in_ok-host_leg.leg_in.answers c.in_ok-host_leg.host_leg.answers
-          c.in_ok-leg_out.leg_out.requests c.in_ok-leg_out.device_leg.requests c.in_ok-leg_out.device_leg.answers c.in_ok-leg_out.leg_out.answers
-          (near.requests_out ∙ near_down) (near.requests_in ∙ near_down) (near.answers_out ∙ near_up) (near.answers_in ∙ near_up)
-          (far.requests_out ∙ far_down) (far.requests_in ∙ far_down) (far.answers_out ∙ far_up) (far.answers_in ∙ far_up)
-          near.requests_mark near.answers_mark far.requests_mark far.answers_mark
-          (host_side g.F.Tx.TxEnd g.F.Rx.RxEnd c.in_ok-host.host) (router_side g.F.Tx.TxEnd g.F.Rx.RxEnd c.in_ok-router.router) (device_side g.F.Tx.TxEnd g.F.Rx.RxEnd c.in_ok-device.device)
-          host.whole host.asked host.requests host.answers router.whole router.requests_in router.requests_out router.answers_in router.answers_out device.whole device.requests device.answers;
-    }

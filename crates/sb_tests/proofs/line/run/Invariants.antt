@@ -1,9 +1,8 @@
--- The nodes stay at their links.
-use Rattle.sb_device.specs.SideOf.{device_side}
-use Rattle.sb_host.specs.SideOf.{host_side}
-use Rattle.sb_router.specs.SideOf.{router_side}
-use Rattle.sb_tests.specs.Lines.{IsLine}
+-- The rings stay where they stand.
+use Rattle.std.proofs.Common.{◌<◌, vec_len}
+use Rattle.sb_member.specs.Joints.{IsJoined}
+use Rattle.sb_tests.specs.Lines.{sample_joints}
 use Rattle.sb_tests.proofs.line.run.Given as goal
 
 abbrev pub invariant-loop-number : goal.invariant-loop-number
-invariant-loop-number g l = IsLine (host_side g.F.Tx.TxEnd g.F.Rx.RxEnd l.nodes.host) (router_side g.F.Tx.TxEnd g.F.Rx.RxEnd l.nodes.router) (device_side g.F.Tx.TxEnd g.F.Rx.RxEnd l.nodes.device)
+invariant-loop-number g l = (0 < vec_len l.group.nodes) × IsJoined sample_joints l.group.nodes.items
