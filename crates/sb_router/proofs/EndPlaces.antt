@@ -1,5 +1,5 @@
 -- The ends of a router by their places, once one of them met the other end of its ring, and after turns.
-use Rattle.std.proofs.Common.{◌≡◌, ◌⊎◌, inl, inr, ℕ, ◌<◌, ◌≤◌, ◌+◌, ◌-◌, ◌++◌, Bool, true, false, List, length, map, set, get_or, refl, sym, ap, ◌∙◌, subst, arith}
+use Rattle.std.proofs.Common.{◌≡◌, ◌⊎◌, inl, inr, ℕ, ◌<◌, ◌≤◌, ◌-◌, ◌++◌, Bool, true, false, List, length, map, set, get_or, refl, sym, ap, ◌∙◌, subst, arith}
 use Rattle.std.specs.Prelude.{nat_lt, if◌then◌else◌}
 use Rattle.std.proofs.lemmas.Bool.Decides.{nat_tests}
 use Rattle.std.proofs.lemmas.List.{get_or-append_right, get_or_append_left, length-append, length-map, map-set, set-append_left, set-append_right}
@@ -8,8 +8,8 @@ use Rattle.sb_port.specs.Ports.{PortSide}
 use Rattle.sb_node.specs.Kept.{IsKeptPort, IsKeptRing, IsPortMet, IsRingMet}
 use Rattle.sb_node.specs.Sides.{RingSide}
 use Rattle.sb_router.specs.Ends.{router_port, router_ring, router_with_port, router_with_ring, with_port, with_ring}
-use Rattle.sb_router.specs.Lanes.{InletState, inlet_at, no_inlet, no_port, no_ring, outlet_at}
-use Rattle.sb_router.specs.Routers.{DirectionSide, IsKeptRouter, IsWholeRouter, RouterSide, router_ports, router_rings}
+use Rattle.sb_router.specs.Lanes.{InletState, inlet_at, no_inlet, no_port, no_ring}
+use Rattle.sb_router.specs.Routers.{IsKeptRouter, IsWholeRouter, RouterSide, router_ports, router_rings}
 use Rattle.sb_router.proofs.Meetings as meetings
 
 -- a place is before the others, or behind them

@@ -123,7 +123,7 @@ module _ {route : Route} {s a b d t : LaneState} {popped turned : Findings} {han
     rests = λ e. let none = none_moved e in rested_lane_then (rested_lane_then (subst (λ (x : LaneState). IsRestedLane s x) (sym (hands.still none.1)) (pops.rests none.0)) closes.rests) (turns.rests none.2);
     moved = moved_then (popped.moved || handed) turned.moved
         (subst (λ (x : Bool). IsToldMoved s d x) (or_none (popped.moved || handed)) (moved_then (popped.moved || handed) false (moved_then popped.moved handed pops.moved hands.moved_is) closes.moved)) turns.moved;
-    one_item = λ i. let one = pops.one_item i in let first = ap (λ (x : InletState). length x.ring.received) (inlet_same i) in let second = ap (λ ring. length ring.received) (hands.rings i) in omega (arith, one, first, second);
+    few_items = λ i. let one = pops.few_items i in let first = ap (λ (x : InletState). length x.ring.received) (inlet_same i) in let second = ap (λ ring. length ring.received) (hands.rings i) in omega (arith, one, first, second);
     held_awaits_busy = busy_still;
     served = λ i lt. subst (λ ring. IsServed (inlet_at s i) ring) (sym (ap (λ (x : InletState). x.ring) (inlet_same i) ∙ hands.rings i)) (pops.served i lt);
     served_ports = λ o lt. served_since (outlet_at s o) (outlet_at d o) (outlet_at t o) (unsent o) (turns.served o (omega (arith, lt, count_same, (steps_shape (turns.steps route)).outlets)));

@@ -11,7 +11,7 @@ use Rattle.sb_router.specs.Rested.{IsRestedInlet, IsRestedLane, rested_lane_same
 use Rattle.sb_router.specs.Moves.{IsToldMoved}
 use Rattle.sb_router.specs.Popping.{IsPopped, IsPoppedAt}
 use Rattle.sb_node.specs.Sides.{RingSide}
-use Rattle.sb_router.specs.Turning.{HasPopped, IsSeen, OneItemEach, pop_cause, IsServed}
+use Rattle.sb_router.specs.Turning.{HasPopped, IsSeen, FewItemsEach, pop_cause, IsServed}
 use Rattle.sb_router.proofs.Cases.{or_false}
 use Rattle.sb_router.proofs.RestedSteps.{rested_inlets, rested_unmoved}
 use Rattle.sb_router.proofs.Shapes.{steps_shape}
@@ -26,7 +26,7 @@ pub record IsOnePop (route : Route) (s t : LaneState) (i : ℕ) (x : InletState)
   pub moved : IsToldMoved s t one.moved
   pub seen : one.moved ≡ false → IsSeen x
   pub cause : one.moved ≡ false → one.empty ≡ pop_cause x
-  pub one_item : length x.ring.received ≤ length (inlet_at s i).ring.received + 1
+  pub few_items : length x.ring.received ≤ length (inlet_at s i).ring.received + 1
   pub served : IsServed (inlet_at s i) x.ring
   pub rests : one.moved ≡ false → IsRestedInlet (inlet_at s i) x
   pub full : one.full ≡ None
@@ -61,7 +61,7 @@ one_pop {route} s i x one lt (inl left) =
       seen = λ _. seen_left x cause;
       cause = λ _. ap (λ (f : Findings). f.empty) left.found_nothing
           ∙ sym (ap (λ (b : Bool). cond b None (Some (causes.Empty x.ring.plan.ring (length x.ring.received) x.ring.known))) (left_none x.ended x.held cause));
-      one_item = let same = ap length is.received in omega (arith, same);
+      few_items = let same = ap length is.received in omega (arith, same);
       served = left_not (inlet_at s i) x.ring left.cause;
       rests = λ _. rested_unmoved is;
       full = ap (λ (f : Findings). f.full) left.found_nothing;
@@ -74,7 +74,7 @@ one_pop {route} s i x one lt (inr (inl taken)) =
       moved = subst (λ (b : Bool). IsToldMoved s (record s { inlets = set s.inlets i x }) b) (sym moved) (inlet_more s i x lt (inlet_received (inlet_at s i) x taken.item taken.received));
       seen = λ e. let no_way : ⊥ = cc in absurd no_way;
       cause = λ e. let no_way : ⊥ = cc in absurd no_way;
-      one_item = let long = ap length taken.received.received ∙ length-append (inlet_at s i).ring.received (taken.item ∷ []) in omega (arith, long);
+      few_items = let long = ap length taken.received.received ∙ length-append (inlet_at s i).ring.received (taken.item ∷ []) in omega (arith, long);
       served = λ unended free. inl (ap length taken.received.received ∙ length-append (inlet_at s i).ring.received (taken.item ∷ []));
       rests = λ e. let no_way : ⊥ = cc in absurd no_way;
       full = ap (λ (f : Findings). f.full) taken.found_move;
@@ -88,7 +88,7 @@ one_pop {route} s i x one lt (inr (inr empty)) =
       cause = λ _. ap (λ (f : Findings). f.empty) empty.found_empty
           ∙ sym (ap (λ (b : Bool). cond (b || is_some x.held) None (Some (causes.Empty x.ring.plan.ring (length x.ring.received) x.ring.known))) empty.open_after
           ∙ ap (λ (h : Option Packet). cond (is_some h) None (Some (causes.Empty x.ring.plan.ring (length x.ring.received) x.ring.known))) empty.free);
-      one_item = let same = ap length empty.same.received in omega (arith, same);
+      few_items = let same = ap length empty.same.received in omega (arith, same);
       served = λ unended free. inr empty.drained;
       rests = λ _. rested_unmoved empty.same;
       full = ap (λ (f : Findings). f.full) empty.found_empty;
@@ -101,7 +101,7 @@ pub record PopsSoFar (route : Route) (s now : LaneState) (found : Findings) (pla
   pub rests : found.moved ≡ false → IsRestedLane s now
   pub outlets : now.outlets ≡ s.outlets
   pub moved : IsToldMoved s now found.moved
-  pub one_item : OneItemEach s now
+  pub few_items : FewItemsEach s now
   pub served : (j : ℕ) → j < place → IsServed (inlet_at s j) (inlet_at now j).ring
   pub ahead : (j : ℕ) → place ≤ j → inlet_at now j ≡ inlet_at s j
   pub seen : found.moved ≡ false → (j : ℕ) → j < place → IsSeen (inlet_at now j)
@@ -115,7 +115,7 @@ pops_none route s nothing = subst (λ (f : Findings). PopsSoFar route s s f 0) (
   rests = λ _. rested_lane_same s;
   outlets = refl;
   moved = moved_none s;
-  one_item = λ i. omega arith;
+  few_items = λ i. omega arith;
   served = λ j lt. absurd (omega arith);
   ahead = λ j le. refl;
   seen = λ e j lt. absurd (omega arith);
@@ -150,8 +150,8 @@ pops_more {route} {s} {now} {then} {found} {found_then} {place} h lt more =
       rests = λ e. let two = or_false found.moved one.moved e in rested_lane_then (h.rests two.0) (rested_inlets now place x lt (popped.rests two.1));
       outlets = h.outlets;
       moved = moved_then found.moved one.moved h.moved popped.moved;
-      one_item = at_each now.inlets place x no_inlet lt (λ j y. length y.ring.received ≤ length (inlet_at s j).ring.received + 1)
-          (subst (λ (y : InletState). length x.ring.received ≤ length y.ring.received + 1) (h.ahead place (omega arith)) popped.one_item) h.one_item;
+      few_items = at_each now.inlets place x no_inlet lt (λ j y. length y.ring.received ≤ length (inlet_at s j).ring.received + 1)
+          (subst (λ (y : InletState). length x.ring.received ≤ length y.ring.received + 1) (h.ahead place (omega arith)) popped.few_items) h.few_items;
       served = so_far now.inlets place x no_inlet lt (λ j y. IsServed (inlet_at s j) y.ring)
           (subst (λ (y : InletState). IsServed y x.ring) (h.ahead place (omega arith)) popped.served) h.served;
       ahead = ahead_same now.inlets place x no_inlet lt (inlet_at s) h.ahead;
@@ -167,7 +167,7 @@ pops_all {route} {s} {now} {found} {place} h over = record {
   rests = h.rests;
   outlets = h.outlets;
   moved = h.moved;
-  one_item = h.one_item;
+  few_items = h.few_items;
   served = λ j lt. h.served j (omega (arith, lt, over, (steps_shape h.steps).inlets));
   seen = λ e k d lt. subst IsSeen (get_or_default now.inlets k no_inlet d lt) (h.seen e k (omega (arith, over, lt)));
   empty = λ e. h.empty e ∙ ap (λ (l : List InletState). lowest (map pop_cause l)) (take_all place now.inlets over);

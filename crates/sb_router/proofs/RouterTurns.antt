@@ -264,8 +264,8 @@ module _ (down up : List (List (Option ℕ))) {p q p' q' : LaneState} {a b : Fin
     idle_answers = λ other. turn_q.idle (or_false a.moved b.moved (unmoved answer is other)).1;
     closed_requests = turn_p.closed;
     closed_answers = turn_q.closed;
-    one_request = turn_p.one_item;
-    one_answer = turn_q.one_item;
+    few_requests = turn_p.few_items;
+    few_answers = turn_q.few_items;
     served_requests = turn_p.served;
     served_answers = turn_q.served;
     held_requests = turn_p.held_awaits_busy;

@@ -13,7 +13,7 @@ use Rattle.sb_router.specs.Whole.{IsWholeLane}
 use Rattle.sb_router.specs.Moves.{lane_moves}
 use Rattle.sb_router.specs.Causes.{lowest}
 use Rattle.sb_router.specs.Awaiting.{HeldAwaitsBusy}
-use Rattle.sb_router.specs.Turning.{IsIdleLane, OneItemEach, ServesEach, ServesPorts}
+use Rattle.sb_router.specs.Turning.{IsIdleLane, FewItemsEach, ServesEach, ServesPorts}
 use Rattle.sb_router.specs.Kept.{IsKeptLane, kept_lane_same, kept_lane_then}
 use Rattle.sb_router.specs.Forwarding.{Forwards, IsLaid, Words}
 
@@ -77,16 +77,16 @@ pub record IsRouterTurn (before : RouterSide) (answer : Turn) (after : RouterSid
   pub idle_answers : answer ≢ Moved → IsIdleLane (route_of after.answers.rows) after.answers.lane
   pub closed_requests : ClosesWhenDue after.requests
   pub closed_answers : ClosesWhenDue after.answers
-  -- at most one item was popped of each ring
-  pub one_request : OneItemEach before.requests.lane after.requests.lane
-  pub one_answer : OneItemEach before.answers.lane after.answers.lane
-  -- and just one where something waited, the ring was open, and nothing of it was held
+  -- of each ring at most so many items were popped as a turn takes
+  pub few_requests : FewItemsEach before.requests.lane after.requests.lane
+  pub few_answers : FewItemsEach before.answers.lane after.answers.lane
+  -- and just so many where as many waited, the ring was open, and nothing of it was held
   pub served_requests : ServesEach before.requests.lane after.requests.lane
   pub served_answers : ServesEach before.answers.lane after.answers.lane
   -- whatever was held and could be handed on was: what is held still is for a port that was busy
   pub held_requests : HeldAwaitsBusy (route_of after.requests.rows) before.requests.lane after.requests.lane
   pub held_answers : HeldAwaitsBusy (route_of after.answers.rows) before.answers.lane after.answers.lane
-  -- by each port at most one item was sent, and just one unless it owes nothing then or its ring is full
+  -- by each port at most so many items were sent as a turn sends, and just so many unless it owes nothing then or its ring is full
   pub sent_requests : ServesPorts before.requests.lane after.requests.lane
   pub sent_answers : ServesPorts before.answers.lane after.answers.lane
 

@@ -1,11 +1,11 @@
 -- What one turn of a direction does, part by part: it pops, hands on, closes, and turns its ports.
-use Rattle.std.specs.Prelude.{◌≡◌, ◌≢◌, ◌≤◌, ◌<◌, ◌+◌, ◌⊎◌, ◌||◌, ℕ, Bool, true, false, length, map, All, Option, None, Some, is_some, if◌then◌else◌}
+use Rattle.std.specs.Prelude.{◌≡◌, ◌≢◌, ◌<◌, ◌⊎◌, ◌||◌, ℕ, Bool, true, false, length, map, All, Option, None, Some, is_some, if◌then◌else◌}
 use Rattle.sb_link.specs.declared.answers.Cause.{Cause}
 use Rattle.sb_packet.specs.declared.packet.Packet.{Packet}
 use Rattle.sb_port.specs.Ports.{PortSide}
 use Rattle.sb_node.specs.Idle.{OwingPortsAreFull}
 use Rattle.sb_node.specs.Sides.{RingSide, has_rest, is_drained, is_full}
-use Rattle.sb_node.specs.Steps.{IsPortServed, IsRingServed}
+use Rattle.sb_node.specs.Steps.{HasFewMore, IsPortServed, IsRingServed}
 use Rattle.sb_node.specs.Turns.{empty_cause, full_cause}
 use Rattle.sb_node.specs.declared.findings.Findings.{Findings}
 use Rattle.sb_router.specs.Lanes.{InletState, LaneState, Route, inlet_at, offered_at, outlet_at}
@@ -21,11 +21,11 @@ use Rattle.sb_link.specs.declared.answers.Cause.TheVariants as causes
 abbrev pub IsSeen : InletState → Type 0
 IsSeen x = (x.ended ≡ true) ⊎ ((x.held ≢ None) ⊎ (is_drained x.ring ≡ true))
 
--- an item came by each ring at most
-abbrev pub OneItemEach : LaneState → LaneState → Type 0
-OneItemEach s t = (i : ℕ) → length (inlet_at t i).ring.received ≤ length (inlet_at s i).ring.received + 1
+-- by each ring came at most so many items as a turn takes
+abbrev pub FewItemsEach : LaneState → LaneState → Type 0
+FewItemsEach s t = (i : ℕ) → HasFewMore (inlet_at s i).ring (inlet_at t i).ring
 
--- by a ring that was open, and of which nothing was held, an item came, or it was found empty
+-- a ring that was open, and of which nothing was held, was served
 abbrev pub IsServed : InletState → RingSide → Type 0
 IsServed before ring = before.ended ≡ false → before.held ≡ None → IsRingServed before.ring ring
 
@@ -33,7 +33,7 @@ IsServed before ring = before.ended ≡ false → before.held ≡ None → IsRin
 abbrev pub ServesEach : LaneState → LaneState → Type 0
 ServesEach s t = (i : ℕ) → i < length s.inlets → IsServed (inlet_at s i) (inlet_at t i).ring
 
--- by each port at most one item was sent, and just one unless it owes nothing then or its ring is full
+-- each port was served
 abbrev pub ServesPorts : LaneState → LaneState → Type 0
 ServesPorts s t = (o : ℕ) → o < length s.outlets → IsPortServed (outlet_at s o) (outlet_at t o)
 
@@ -55,7 +55,7 @@ pub record HasPopped (route : Route) (s t : LaneState) (found : Findings) : Type
   pub rests : found.moved ≡ false → IsRestedLane s t
   pub outlets : t.outlets ≡ s.outlets
   pub moved : IsToldMoved s t found.moved
-  pub one_item : OneItemEach s t
+  pub few_items : FewItemsEach s t
   pub served : ServesEach s t
   pub seen : found.moved ≡ false → All IsSeen t.inlets
   pub empty : found.moved ≡ false → found.empty ≡ lowest (map pop_cause t.inlets)
@@ -117,7 +117,7 @@ pub record IsLaneTurn (route : Route) (s t : LaneState) (found : Findings) : Typ
   pub rests : found.moved ≡ false → IsRestedLane s t
   pub moved : IsToldMoved s t found.moved
   -- each ring is popped where nothing of it is held
-  pub one_item : OneItemEach s t
+  pub few_items : FewItemsEach s t
   pub served : ServesEach s t
   -- what is held still is for a port that was busy
   pub held_awaits_busy : HeldAwaitsBusy route s t

@@ -45,9 +45,11 @@ pub fn router_stays_whole()
         → IsWholeRouter r → IsWholeRouter (router_with_ring r k ring) }
     ensures port { (r : RouterSide) (k : ℕ) (port : PortSide) → k < length (router_ports r) → IsPortMet (router_port r k) port
         → IsWholeRouter r → IsWholeRouter (router_with_port r k port) }
-    ensures ring_rings { (r : RouterSide) (k : ℕ) (ring : RingSide) → router_rings (router_with_ring r k ring) ≡ set (router_rings r) k ring }
+    ensures ring_rings { (r : RouterSide) (k : ℕ) (ring : RingSide)
+        → router_rings (router_with_ring r k ring) ≡ set (router_rings r) k ring }
     ensures ring_ports { (r : RouterSide) (k : ℕ) (ring : RingSide) → router_ports (router_with_ring r k ring) ≡ router_ports r }
-    ensures port_ports { (r : RouterSide) (k : ℕ) (port : PortSide) → router_ports (router_with_port r k port) ≡ set (router_ports r) k port }
+    ensures port_ports { (r : RouterSide) (k : ℕ) (port : PortSide)
+        → router_ports (router_with_port r k port) ≡ set (router_ports r) k port }
     ensures port_rings { (r : RouterSide) (k : ℕ) (port : PortSide) → router_rings (router_with_port r k port) ≡ router_rings r }
 {}
 
