@@ -55,7 +55,8 @@ impl<F: Fabric> Member<F> {
     pub fn port(&mut self, place: usize) -> &mut OutPort<F::Tx>
         requires within { place < length (ports_of self.old) }
         ensures value { result.now ≡ port_at self.old place }
-        ensures* writes_back { sem 𝓛 (Lends (the_row F.row F.Tx.row F.Rx.row F.Fabric F.Tx.TxEnd F.Rx.RxEnd) (port_row F.Tx.row F.Tx.TxEnd) self.entry result (λ port. with_port self.old place port)) }
+        ensures* writes_back { sem 𝓛 (Lends (the_row F.row F.Tx.row F.Rx.row F.Fabric F.Tx.TxEnd F.Rx.RxEnd)
+            (port_row F.Tx.row F.Tx.TxEnd) self.entry result (λ port. with_port self.old place port)) }
     {
         match self {
             Member::Host(host) => host.requests(),
@@ -68,7 +69,8 @@ impl<F: Fabric> Member<F> {
     pub fn end(&mut self, place: usize) -> &mut F::Rx
         requires within { place < length (rings_of self.old) }
         ensures value { ring_side F.Rx.RxEnd result.now ≡ ring_at self.old place }
-        ensures* writes_back { sem 𝓛 (Lends (the_row F.row F.Tx.row F.Rx.row F.Fabric F.Tx.TxEnd F.Rx.RxEnd) F.Rx.row self.entry result (λ end. with_ring self.old place (ring_side F.Rx.RxEnd end))) }
+        ensures* writes_back { sem 𝓛 (Lends (the_row F.row F.Tx.row F.Rx.row F.Fabric F.Tx.TxEnd F.Rx.RxEnd)
+            F.Rx.row self.entry result (λ end. with_ring self.old place (ring_side F.Rx.RxEnd end))) }
     {
         match self {
             Member::Host(host) => host.answers(),

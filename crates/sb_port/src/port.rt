@@ -128,7 +128,8 @@ impl<T: TxEnd> OutPort<T> {
         requires passes { MayPass self.old.plan (length (offered_words self.old)) (message_of packet.now) }
         ensures offered { self.new.state.waiting ≡ offered self.old.state.waiting (message_of packet.now) }
         ensures claimed { self.new.state.claimed ≡ self.old.state.claimed + word_count_of packet.now.cmd }
-        ensures rest { self.new ≡ record self.old { state = record self.old.state { waiting = self.new.state.waiting; claimed = self.new.state.claimed } } }
+        ensures rest { self.new
+            ≡ record self.old { state = record self.old.state { waiting = self.new.state.waiting; claimed = self.new.state.claimed } } }
         ensures words { offered_words self.new ≡ offered_words self.old ++ accesses_of packet.now }
         ensures fit { IsFit self.new.plan self.new.state }
     {
