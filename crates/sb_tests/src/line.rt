@@ -1,19 +1,22 @@
 //! A network run to its end: one host, one router and one device.
 
-ghost use Rattle.std.specs.Prelude.{◌≡◌, ◌<◌, [], IfOk, length, vec_len};
+ghost use Rattle.std.specs.Prelude.{◌≡◌, ◌<◌, [], ◌∷◌, IfOk, length, vec_len};
 ghost use Rattle.sb_flow.specs.NetworkOf.{network_of};
 ghost use Rattle.sb_member.specs.Joints.{IsJoined};
+ghost use Rattle.sb_member.specs.declared.member.Member.TheVariants as members;
 ghost use Rattle.sb_tests.specs.Lines.{sample_joints};
 ghost use Rattle.sb_tests.specs.Samples.{sample};
 
 use crate::network::{device_at, host_at, link, router_at};
 use crate::sample::{bundle, forty};
+use sb_device::Device;
 use sb_drive::{Group, round_serial};
 use sb_flow::{Bundle, Paths};
 use sb_host::Host;
 use sb_link::{Fabric, SerialFabric, Turn};
 use sb_member::{Joint, Member, hand_rings};
 use sb_packet::{Code, TxnState};
+use sb_router::Router;
 use std::alloc::{AllocError, Global};
 use std::test::Fail;
 
@@ -54,6 +57,23 @@ fn run<F: Fabric>(group: &mut Group<Member<F>>) -> bool
     false
 }
 
+/// The three nodes, in the order of their numbers.
+fn in_line<F: Fabric>(
+    alloc: Global,
+    host: Host<F>,
+    router: Router<F>,
+    device: Device<F>,
+) -> Result<Vec<Member<F>>, AllocError>
+    ensures nodes { IfOk result (λ nodes. nodes.items ≡ members.Host host ∷ members.Router router ∷ members.Device device ∷ []) }
+    ensures count { IfOk result (λ nodes. vec_len nodes ≡ 3) }
+{
+    let mut nodes = Vec::new(alloc);
+    nodes.push(Member::Host(host))?;
+    nodes.push(Member::Router(router))?;
+    nodes.push(Member::Device(device))?;
+    Ok(nodes)
+}
+
 /// The nodes at their links.
 fn nodes_of<F: Fabric>(
     alloc: Global,
@@ -75,10 +95,7 @@ fn nodes_of<F: Fabric>(
     let host = host_at(alloc, bundle, host_leg)?;
     let device = device_at(alloc, device_leg)?;
     let router = router_at(alloc, bundle, &paths, leg_in, leg_out)?;
-    let mut nodes = Vec::new(alloc);
-    nodes.push(Member::Host(host))?;
-    nodes.push(Member::Router(router))?;
-    nodes.push(Member::Device(device))?;
+    let nodes = in_line(alloc, host, router, device)?;
     let last = Vec::from_array(alloc, [Turn::Moved; 3])?;
     Ok(Group {
         nodes,
@@ -126,7 +143,11 @@ fn whole_run(rt: HostRuntime) -> Result<(), Fail> {
     let mut group = nodes_of(rt.alloc(), &mut fabric, &bundle)?;
     assert!(rt; run(&mut group));
     assert_eq!(rt; group.last.as_slice(), [Turn::Done; 3].as_slice());
-    let [Member::Host(host), Member::Router(_), Member::Device(device)] = group.nodes.as_slice()
+    let [
+        Member::Host(host),
+        Member::Router(_),
+        Member::Device(device),
+    ] = group.nodes.as_slice()
     else {
         return Err("a host, a router and a device")?;
     };

@@ -70,7 +70,14 @@ fn script(alloc: Global) -> Result<Script, AllocError>
     let write = txn(alloc, Kind::Write, 2, PAGE + 64, 10, &forty)?;
     let read_back = txn(alloc, Kind::Read, 2, PAGE + 64, 10, &[])?;
     let post = txn(alloc, Kind::Posted, 0, PAGE + 4095, 1, &[9])?;
-    let add = txn(alloc, Kind::Atomic(AtomicOp::Add), 2, PAGE + 64, 1, &[255, 0, 0, 0])?;
+    let add = txn(
+        alloc,
+        Kind::Atomic(AtomicOp::Add),
+        2,
+        PAGE + 64,
+        1,
+        &[255, 0, 0, 0],
+    )?;
     let stray = txn(alloc, Kind::Read, 3, 3 * PAGE, 2, &[])?;
     let changed = txn(alloc, Kind::Read, 2, PAGE + 64, 1, &[])?;
     let posted = txn(alloc, Kind::Read, 0, PAGE + 4095, 1, &[])?;
