@@ -1,0 +1,5 @@
+pub mod Names
+pub mod Places
+pub mod Tests
+pub mod Lines
+pub mod Bundles

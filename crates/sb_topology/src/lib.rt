@@ -1,0 +1,2 @@
+//! Loads a bundle.
+#![tactic(auto)]
