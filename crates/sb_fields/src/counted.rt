@@ -1,5 +1,7 @@
 //! A bundle whose numbers are in their ranges, and as narrow as these allow.
 
+ghost use Rattle.std.specs.Prelude.{◌≤◌, vec_len};
+
 use crate::texts::RouteText;
 
 /// A host's fields.
@@ -12,8 +14,9 @@ pub struct CountedHost<'v> {
     pub qos: u8,
     /// 0 to 3.
     pub prot: u8,
-    /// The lines of its script, 65,536 at most.
+    /// The lines of its script.
     pub script: Vec<&'v str>,
+    pub ghost few: { vec_len script ≤ 65536 },
 }
 
 /// A router's fields.

@@ -24,7 +24,7 @@ abbrev pub placed_router : GivenNames → WrittenRouter → NetRouter
 placed_router names router = record { name = router.name; side = router.side; routes = map (route_to names router.routes) names.devices }
 
 -- The network, where all names are as they should be; else the first that isn't. Hosts, routers and devices have one space of names, links have one of their own.
-abbrev pub named_network : WrittenBundle → Result Network LoadFault
+unfoldable pub named_network : WrittenBundle → Result Network LoadFault
 named_network bundle = do
   hosts ← names_by (codes "hosts") 0 [] (names_of bundle).hosts
   routers ← routers_by (names_of bundle) 0 hosts bundle.routers

@@ -2,7 +2,7 @@
 use Rattle.std.specs.Prelude.{ℕ, nat_le, length, Option, Some, None, option_map, slice_get, Result, Ok, Err}
 use Rattle.std.specs.Option.{option_map_or}
 use Rattle.sb_packet.specs.Networks.{NetPlace, Network, at_device, at_host, at_router}
-use Rattle.sb_flow.specs.Ends.{backward_link, odd_width, unfit_link, unlinked_place}
+use Rattle.sb_flow.specs.Ends.{backward_link, unfit_link, unlinked_place}
 use Rattle.sb_flow.specs.Firsts.{Clash}
 use Rattle.sb_flow.specs.Limits.{word_count}
 use Rattle.sb_flow.specs.Names.{repeated_id}
@@ -30,23 +30,22 @@ abbrev pub image_length : Network → ℕ → ℕ
 image_length network d = option_map_or (λ device. length device.image) (slice_get network.devices d) 0
 
 -- ids of hosts, and where devices lie
-abbrev pub devices_tested : Network → Result (Unit {0}) LoadFault
+unfoldable pub devices_tested : Network → Result (Unit {0}) LoadFault
 devices_tested network = do
   done ← unless_found (λ clash. faults.HostId clash.at) (repeated_id network)
   done ← unless_found faults.Range (misplaced_device network)
   done ← unless_found (λ clash. faults.Overlap clash.at clash.earlier) (overlapping_device network)
   unless_found (λ d. faults.Image d (image_length network d)) (overfull_device network)
 
--- widths of links, and what they join
-abbrev pub links_tested : Network → Result (Unit {0}) LoadFault
+-- what links join
+unfoldable pub links_tested : Network → Result (Unit {0}) LoadFault
 links_tested network = do
-  done ← unless_found faults.Width (odd_width network)
   done ← unless_found faults.End (unfit_link network)
   done ← unless_found faults.Backward (backward_link network)
   unless_found (λ place. faults.Unlinked (place_at place)) (unlinked_place network)
 
 -- routes, and the words of all scripts; both ask what the scripts say
-abbrev pub scripts_tested : Network → Result (Unit {0}) LoadFault
+unfoldable pub scripts_tested : Network → Result (Unit {0}) LoadFault
 scripts_tested network = do
   done ← unless_found (λ route. faults.Route route.router route.device) (route_fault network)
   unless (nat_le (word_count network) 262144) (faults.Budget (word_count network))
