@@ -1,0 +1,9 @@
+pub mod Paths
+pub mod Fields
+pub mod FieldLists
+pub mod Written
+pub mod Objects
+pub mod Counts
+pub mod Json
+pub mod Held
+pub mod Counted

@@ -1,0 +1,62 @@
+//! The numbers that are written as texts.
+
+ghost use Rattle.std.specs.Prelude.{◌≡◌, ◌≤◌, ◌^◌, ◌&&◌, nat_lt, unwrap_or, Some, None, if◌then◌else◌};
+ghost use Rattle.std.specs.List.{list_all};
+ghost use Rattle.hex.specs.Hex.{hex_digit_value};
+ghost use Rattle.sb_text.specs.Numerals.{digits_value, is_digit_of, is_hexadecimal as hexadecimal_test, number_of, numeral_of};
+
+/// What a hexadecimal digit is worth, in either case; 255 where the byte is none.
+fn digit(byte: u8) -> u8
+    ensures { result ≡ unwrap_or (hex_digit_value byte) 255 }
+{
+    match byte {
+        b'0'..=b'9' => byte - b'0',
+        b'A'..=b'F' => byte - b'A' + 10,
+        b'a'..=b'f' => byte - b'a' + 10,
+        _ => 255,
+    }
+}
+
+/// What digits are worth; None where one isn't of the base, or where they are worth 2^64 or more.
+fn value(digits: &[u8], base: u8) -> Option<u64>
+    requires { (2 ≤ base) × (base ≤ 16) }
+    ensures { result ≡ (if list_all (is_digit_of base) digits.now && nat_lt (digits_value base digits.now) (2 ^ 64) then Some (digits_value base digits.now) else None) }
+{
+    let mut value: u64 = 0;
+    for byte in digits {
+        let digit = digit(*byte);
+        if digit >= base {
+            return None;
+        }
+        value = value.checked_mul(base as u64)?.checked_add(digit as u64)?;
+    }
+    Some(value)
+}
+
+/// The value of 1 to `most` digits, if it is below 2^64.
+fn number(digits: &[u8], base: u8, most: usize) -> Option<u64>
+    requires { (2 ≤ base) × (base ≤ 16) }
+    ensures { result ≡ number_of base most digits.now }
+{
+    if digits.is_empty() || digits.len() > most {
+        return None;
+    }
+    value(digits, base)
+}
+
+fn is_hexadecimal(word: &[u8]) -> bool
+    ensures { result ≡ hexadecimal_test word.now }
+{
+    word.len() >= 2 && word[0] == b'0' && word[1] == b'x'
+}
+
+/// The value of a text, decimal or with `0x` hexadecimal; None where it is no number, or 2^64 or more.
+pub fn numeral(word: &[u8]) -> Option<u64>
+    ensures { result ≡ numeral_of word.now }
+{
+    if is_hexadecimal(word) {
+        number(&word[2..], 16, 16)
+    } else {
+        number(word, 10, 20)
+    }
+}

@@ -1,0 +1,13 @@
+pub mod Numbers
+pub mod LostWays
+pub mod ClashSteps
+pub mod AimedSteps
+pub mod NamedParts
+pub mod Chains
+pub mod CountedLimits
+pub mod NewNames
+pub mod NewLinks
+pub mod ToldHosts
+pub mod KeptNetworks
+pub mod AcceptedRows
+mod BundleExamples

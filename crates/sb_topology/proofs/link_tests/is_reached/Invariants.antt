@@ -1,0 +1,9 @@
+-- No link so far leads to the device.
+use Rattle.std.proofs.Common.{◌≡◌, drop, map}
+use Rattle.std.specs.List.{list_any}
+use Rattle.sb_packet.specs.Networks.{leads_to}
+use Rattle.sb_flow.specs.Rows.{link_of}
+use Rattle.sb_topology.proofs.link_tests.is_reached.Given as goal
+
+abbrev pub invariant-loop-link : goal.invariant-loop-link
+invariant-loop-link l = list_any (leads_to l.device) (map link_of l.links) ≡ list_any (leads_to l.device) (map link_of (drop l.link-index l.links))

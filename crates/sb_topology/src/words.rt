@@ -1,0 +1,44 @@
+//! The words of all scripts.
+
+ghost use Rattle.std.specs.Prelude.{◌≡◌, ◌≤◌, ◌*◌, All, length, map, sum_by};
+ghost use Rattle.sb_packet.specs.Scripts.{IsTransaction};
+ghost use Rattle.sb_flow.specs.Rows.{host_of};
+
+use sb_flow::HostPlan;
+use sb_packet::Txn;
+
+/// The words of a script.
+fn script_words(script: &[Txn]) -> u32
+    requires many { length script.now ≤ 65536 }
+    requires transactions { All IsTransaction script.now }
+    ensures words { result ≡ sum_by (λ t. t.count) script.now }
+    ensures bound { result ≤ 16777216 }
+{
+    let mut words = 0;
+    for txn in script {
+        words += u32::from(txn.count);
+    }
+    words
+}
+
+/// The words of one host's script.
+fn host_words(host: &HostPlan) -> u32
+    requires { length host.now.script ≤ 65536 }
+    ensures words { result ≡ sum_by (λ t. t.count) (host_of host.now).script }
+    ensures bound { result ≤ 16777216 }
+{
+    script_words(host.script.as_slice())
+}
+
+/// The words of the scripts of some hosts.
+pub fn all_words(hosts: &[HostPlan]) -> u32
+    requires many { length hosts.now ≤ 32 }
+    requires scripts { All (λ h. length h.script ≤ 65536) hosts.now }
+    ensures { result ≡ sum_by (λ h. sum_by (λ t. t.count) h.script) (map host_of hosts.now) }
+{
+    let mut words = 0;
+    for host in hosts {
+        words += host_words(host);
+    }
+    words
+}
