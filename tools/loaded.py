@@ -10,14 +10,17 @@ NAME = "bundle_lines"
 ATOMICS = "add and or xor max min maxu minu swap".split()
 VERBS = {"Read": "rd", "Write": "wr", "Posted": "wp"}
 SOURCE = r'''//! Loads each bundle of standard input, and prints its fault or every field of its network. Before each bundle, and before
-//! each answer, stands a line with the number of its bytes.
+//! each answer, stands a line with the number of its bytes. With an argument it prints no network: with `json` it only reads
+//! the bytes as JSON, and with another it loads.
 #![tactic(auto)]
 
 use sb_flow::{Bundle, DevicePlan, HostPlan, LinkRow, Place, RouterPlan};
 use sb_packet::{Name, Txn};
 use sb_text::LineFault;
 use sb_topology::{LoadFault, load};
+use serde_json::Value;
 use std::alloc::{AllocError, Global};
+use std::env;
 use std::io::{self, BufRead, BufReader, BufWriter, ErrorKind, Read, Write};
 
 const DIGITS: [char; 16] = ['0', '1', '2', '3', '4', '5', '6', '7', '8', '9', 'a', 'b', 'c', 'd', 'e', 'f'];
@@ -156,13 +159,39 @@ fn add_fault(out: &mut String, fault: &LoadFault) -> Result<(), AllocError> {
     out.push('\n')
 }
 
-fn answer(alloc: Global, bytes: &[u8]) -> Result<String, AllocError> {
+/// What is made of a bundle.
+#[derive(Clone, Copy)]
+enum Task {
+    Print,
+    Load,
+    Json,
+}
+
+fn answer(alloc: Global, bytes: &[u8], task: Task) -> Result<String, AllocError> {
     let mut out = String::new(alloc);
-    match load(alloc, bytes) {
-        Ok(bundle) => add_network(&mut out, &bundle)?,
-        Err(fault) => add_fault(&mut out, &fault)?,
+    match task {
+        Task::Print => match load(alloc, bytes) {
+            Ok(bundle) => add_network(&mut out, &bundle)?,
+            Err(fault) => add_fault(&mut out, &fault)?,
+        },
+        Task::Load => match load(alloc, bytes) {
+            Ok(bundle) => writeln!(&mut out, "hosts {}", bundle.hosts.len())?,
+            Err(fault) => add_fault(&mut out, &fault)?,
+        },
+        Task::Json => match Value::from_slice(alloc, bytes) {
+            Ok(value) => writeln!(&mut out, "object {}", value.is_object())?,
+            Err(_) => out.push_str("refused json\n")?,
+        },
     }
     Ok(out)
+}
+
+fn asked_task(rt: &HostRuntime) -> io::Result<Task> {
+    Ok(match env::args(rt)?.nth(1) {
+        None => Task::Print,
+        Some(word) if word.as_str() == "json" => Task::Json,
+        Some(_) => Task::Load,
+    })
 }
 
 /// The number of bytes of the next bundle, or None at the end.
@@ -179,6 +208,7 @@ fn next_length<R: BufRead + Drop>(alloc: Global, input: &mut R) -> io::Result<Op
 
 fn main(rt: HostRuntime) -> io::Result<()> {
     let alloc = rt.alloc();
+    let task = asked_task(&rt)?;
     let mut input = BufReader::new(alloc, rt.reader())?;
     let mut output = BufWriter::new(alloc, io::writer(&rt))?;
     for _ in 0..u64::MAX {
@@ -187,7 +217,7 @@ fn main(rt: HostRuntime) -> io::Result<()> {
         };
         let mut bytes = vec![in alloc; 0; length]?;
         input.read_exact(&mut bytes)?;
-        let text = answer(alloc, bytes.as_slice())?;
+        let text = answer(alloc, bytes.as_slice(), task)?;
         writeln!(output, "{}", text.len())?;
         output.write_all(text.as_str().as_bytes())?;
     }
@@ -207,7 +237,7 @@ def make(copy):
     source.mkdir(parents=True)
     (source / "main.rt").write_text(SOURCE)
     with open(copy / "crates.txt", "a") as crates:
-        crates.write(f"{NAME}: sb_topology sb_flow sb_packet sb_text\n")
+        crates.write(f"{NAME}: sb_topology sb_flow sb_packet sb_text serde_json\n")
 
 
 def proved(copy):
