@@ -96,7 +96,7 @@ JSON = (
     *((with_id(text + ', "id": 0'), ACCEPTED) for text in ("99", "null", '"\\ud83d\\ude00"', "[" * 124 + "]" * 124)),
     (with_id("18446744073709551615"), "count hosts[0].id"), (with_id("256"), "count hosts[0].id"), (with_id("0, \"id\": 32"), "count hosts[0].id"), (with_id('0, "\\u0069d": 31'), ACCEPTED),
     (SMALL_TEXT.replace('"ram": "down"', '"ram": "zz", "ram": "down"'), ACCEPTED), (SMALL_TEXT.replace('"ram": "down"', '"ram": "down", "ram": "zz"'), "name routers[0].routes.ram"),
-    (SMALL_TEXT.replace('"ram": "down"', '"": "down", "ram": "down"'), "name routers[0].routes."), (SMALL_TEXT.replace('"ram": "down"', '"ram": 1, "Ram": 1'), "field routers[0].routes.Ram"),
+    (SMALL_TEXT.replace('"ram": "down"', '"": "down", "ram": "down"'), "name routers[0].routes."), (SMALL_TEXT.replace('"ram": "down"', '"ram": 1, "Ram": 1'), "field routers[0].routes.Ram"), (SMALL_TEXT.replace('"ram": "down"', '"\U0001f600": 1, "\uff5e": 1'), "field routers[0].routes.\uff5e"),
 )
 MANY = changed(
     SMALL,
@@ -127,7 +127,7 @@ SHAPES = (
     # missing and unknown fields
     *((changed(SMALL, (place, GONE)), f"field {place}") for place in ("version", "hosts", "routers", "devices", "links")),
     *((changed(SMALL, (place, GONE)), f"field {path}") for place, path in (("hosts 0 script", "hosts[0].script"), ("routers 0 routes", "routers[0].routes"), ("devices 0 base", "devices[0].base"), ("links 1 width", "links[1].width"))),
-    (changed(SMALL, ("zz", 0), ("Zz", 0)), "field Zz"), (changed(SMALL, ("", 0)), "field "), (changed(SMALL, ("hosts 0 ", 0)), "field hosts[0]."), (changed(SMALL, ("links 0 zz", 0), ("links 0 to", GONE)), "field links[0].to"),
+    (changed(SMALL, ("zz", 0), ("Zz", 0)), "field Zz"), (changed(SMALL, ("\U0001f600", 0), ("\uff5e", 0)), "field \uff5e"), (changed(SMALL, ("", 0)), "field "), (changed(SMALL, ("hosts 0 ", 0)), "field hosts[0]."), (changed(SMALL, ("links 0 zz", 0), ("links 0 to", GONE)), "field links[0].to"),
     (changed(SMALL, ("zz", 0), ("wire", None)), "field wire"), (changed(SMALL, ("hosts 0", [])), "field hosts[0]"), (changed(SMALL, ("hosts 0 script 1", 7)), "field hosts[0].script[1]"), (changed(SMALL, ("routers 0 routes", [])), "field routers[0].routes"),
     (changed(SMALL, ("devices 0 readonly", 0)), "field devices[0].readonly"), (changed(SMALL, ("devices 0 readonly", True)), ACCEPTED), (changed(SMALL, ("hosts 0 name", ["cpu"])), "field hosts[0].name"),
     *((changed(SMALL, ("devices 0 base", text)), "field devices[0].base") for text in ("", "0x", "0X10000", "-1", " 1", "1_0", "0" * 21, "0x" + "0" * 17, "18446744073709551616", 65536)),
@@ -148,9 +148,10 @@ SHAPES = (
     (changed(SMALL, ("routers 0 routes hub", "down")), "name routers[0].routes.hub"), (changed(SMALL, ("routers 0 routes a\nb", "down")), "name routers[0].routes.a\nb"), (changed(SMALL, ("wire", "cpu")), "name wire"),
     # devices
     (changed(WIDE, ("devices 1 base", "0x11000")), ACCEPTED), (changed(WIDE, ("devices 2 base", "0x10000"), ("devices 1 base", "0x10000")), "overlap 1 0"), (changed(WIDE, ("devices 3 base", "0x2f000"), ("devices 3 pages", 3)), "overlap 3 2"), (changed(WIDE, ("devices 0 pages", 256)), "overlap 1 0"),
+    (changed(WIDE, ("devices 3 base", "0x10000"), ("devices 3 pages", 64)), "overlap 3 0"), (changed(WIDE, ("devices 3 base", "0x20000"), ("devices 3 pages", 64)), "overlap 3 1"),
     # links
     *((changed(SMALL, ("links 2", link("l2", source, target))), "end 2") for source, target in (("ram", "hub"), ("hub", "cpu"), ("cpu", "cpu"), ("cpu", "ram"), ("cpu", "hub"), ("hub", "ram"), ("ram", "ram"), ("ram", "cpu"))),
-    (changed(SMALL, ("links 2", link("l2", "hub", "hub"))), "backward 2"), (changed(SMALL, ("wire", "up")), "end 0"), (changed(SMALL, ("wire", "down")), "end 1"), (changed(WIDE, ("wire", GONE)), "end 3"), (changed(WIDE, ("wire", "l2")), "end 2"),
+    (changed(SMALL, ("links 0 to", "ram")), "end 0"), (changed(SMALL, ("links 0 to", "cpu")), "end 0"), (changed(SMALL, ("links 2", link("l2", "hub", "hub"))), "backward 2"), (changed(SMALL, ("wire", "up")), "end 0"), (changed(SMALL, ("wire", "down")), "end 1"), (changed(WIDE, ("wire", GONE)), "end 3"), (changed(WIDE, ("wire", "l2")), "end 2"),
     (changed(WIDE, ("routers 2 side", 0)), "end 3"), (changed(WIDE, ("routers 0 side", 1)), "end 2"), (changed(WIDE, ("routers 0 side", 1), ("routers 1 side", 1), ("routers 2 side", 0)), "end 3"), (changed(WIDE, ("links 8", link("l8", "r0", "r2"))), "end 8"), (changed(WIDE, ("links 8", link("l8", "r0", "r1"))), ACCEPTED),
     (changed(SMALL, ("hosts 1", host("dma", 1, [])), ("devices 1", device("rom", 0, 1))), "unlinked host 1"), (changed(SMALL, ("devices 1", device("rom", 0, 1))), "unlinked device 1"),
     # scripts
