@@ -23,6 +23,8 @@ use std::alloc::{AllocError, Global};
 use std::env;
 use std::io::{self, BufRead, BufReader, BufWriter, ErrorKind, Read, Write};
 
+/// The most bytes that a bundle has.
+const MOST_BYTES: usize = 67_108_864;
 const DIGITS: [char; 16] = ['0', '1', '2', '3', '4', '5', '6', '7', '8', '9', 'a', 'b', 'c', 'd', 'e', 'f'];
 
 fn add_name(out: &mut String, name: &Name) -> Result<(), AllocError> {
@@ -169,6 +171,10 @@ enum Task {
 
 fn answer(alloc: Global, bytes: &[u8], task: Task) -> Result<String, AllocError> {
     let mut out = String::new(alloc);
+    if bytes.len() > MOST_BYTES {
+        out.push_str("too long\n")?;
+        return Ok(out);
+    }
     match task {
         Task::Print => match load(alloc, bytes) {
             Ok(bundle) => add_network(&mut out, &bundle)?,
