@@ -36,6 +36,9 @@ pub mod AskedWays
 pub mod WaysOfRouted
 pub mod RisingStages
 pub mod ExampleRouted
+pub mod ExampleNodes
+pub mod ExamplePorts
+pub mod ExampleSides
 pub mod PlannedWords
 pub mod CarriedPlans
 pub mod NoFaults
