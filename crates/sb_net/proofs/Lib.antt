@@ -39,6 +39,7 @@ pub mod ExampleRouted
 pub mod ExampleNodes
 pub mod ExamplePorts
 pub mod ExampleSides
+pub mod ExampleDevice
 pub mod PlannedWords
 pub mod CarriedPlans
 pub mod NoFaults
