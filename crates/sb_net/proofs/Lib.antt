@@ -40,6 +40,8 @@ pub mod ExampleNodes
 pub mod ExamplePorts
 pub mod ExampleSides
 pub mod ExampleDevice
+pub mod ExampleHost
+pub mod ExampleHostLaws
 pub mod PlannedWords
 pub mod CarriedPlans
 pub mod NoFaults
