@@ -42,7 +42,7 @@ pub record CarriesAnswers (plan : RingPlan) : Type 0 where
 plainly : (plan : RingPlan) (p : Packet) → is_request p.cmd.op ≡ not plan.up → is_allowed plan.flows (message_of p) ≡ true → message_span (message_of p) ≤ plan.width → p.cmd.ex ≡ false → IsCarriable plan (message_of p)
 plainly plan p direction allowed narrow plain = record { planned = record { direction = direction; allowed = allowed }; narrow = narrow; single = λ e. absurd (let never : true ≡ false = sym e ∙ plain in cc) }
 
-from_host : CarriesRequests (ring_plan small 0)
+pub from_host : CarriesRequests (ring_plan small 0)
 from_host = record {
   write = plainly (ring_plan small 0) write refl refl (lit≤ tt) refl;
   posted = plainly (ring_plan small 0) posted refl refl (lit≤ tt) refl;

@@ -42,6 +42,7 @@ pub mod ExampleSides
 pub mod ExampleDevice
 pub mod ExampleHost
 pub mod ExampleHostLaws
+pub mod ExampleRouter
 pub mod PlannedWords
 pub mod CarriedPlans
 pub mod NoFaults
