@@ -43,6 +43,7 @@ pub mod ExampleDevice
 pub mod ExampleHost
 pub mod ExampleHostLaws
 pub mod ExampleRouter
+pub mod ExampleRouterLaws
 pub mod PlannedWords
 pub mod CarriedPlans
 pub mod NoFaults
