@@ -48,7 +48,7 @@ abbrev pub direction_in : Moment → ℕ → ℕ → Option Packet → Direction
 direction_in m r q held = record { rows = small_rows; lane = record { inlets = inlet_in m r held ∷ []; outlets = port_in m q ∷ [] } }
 
 -- only the one flow is led, to place 0
-within : (f : NetFlow) (o : ℕ) → route_of small_rows f ≡ Some o → o < 1
+pub within : (f : NetFlow) (o : ℕ) → route_of small_rows f ≡ Some o → o < 1
 within f o e = by_place f.host f.device e
   where
     by_place : (h d : ℕ) → slice_index_or (slice_index_or small_rows h []) d None ≡ Some o → o < 1
@@ -153,7 +153,7 @@ module _ (m : Moment) (settled : IsSettled m) (r q : ℕ) (held : Option Packet)
   }
 
   -- of each flow all is there, whichever words are the flow's
-  all_parts : (words : Words) (f : NetFlow) (i o : ℕ) → Passes (route_of small_rows) (direction_in m r q held).lane f i o
+  pub all_parts : (words : Words) (f : NetFlow) (i o : ℕ) → Passes (route_of small_rows) (direction_in m r q held).lane f i o
       → part words f (came_at (direction_in m r q held).lane i) ≡ part words f (offered_at (direction_in m r q held).lane o) ++ part words f (held_at (direction_in m r q held).lane i)
   all_parts words f zero zero passes = ap (part words f) passed.all ∙ filter-append (words.is_of f) (offered_words (port_in m q)) (held_words held)
   all_parts words f zero (suc o) passes = absurd (let inside = passes.outlet in omega arith)

@@ -41,7 +41,7 @@ use Rattle.sb_net.proofs.ExampleSides.{at_rest, shows_port, shows_ring}
 use Rattle.sb_net.proofs.ExampleRouter.{HasPassed, answers_are_built, direction_forwards, direction_in, direction_is_whole, end_answers, end_requests, fresh_answers, fresh_requests, halfway_answers, halfway_requests, has_lane, inlet_in, requests_are_built, small_rows}
 
 -- which words go on by the router's two rings
-abbrev request_words : Words
+abbrev pub request_words : Words
 request_words = course_words small (network_requests small) (request_outs small 0)
 
 abbrev answer_words : Words

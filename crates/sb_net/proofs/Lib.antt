@@ -44,6 +44,7 @@ pub mod ExampleHost
 pub mod ExampleHostLaws
 pub mod ExampleRouter
 pub mod ExampleRouterLaws
+pub mod ExampleRouterTurns
 pub mod PlannedWords
 pub mod CarriedPlans
 pub mod NoFaults
