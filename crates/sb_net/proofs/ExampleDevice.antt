@@ -1,13 +1,12 @@
 -- The laws of devices at the example's: it has served what came, fresh, halfway and at the end, and is idle in the last round.
-use Rattle.std.proofs.Common.{◌≡◌, lit<, true, false, List, [], ◌∷◌, refl}
+use Rattle.std.proofs.Common.{◌≡◌, lit<, true, false, [], ◌∷◌, refl}
 use Rattle.std.specs.Prelude.{◌⊎◌}
 use Rattle.sb_packet.specs.Journals.{journal_accesses}
 use Rattle.sb_packet.specs.Networks.{opening_memory}
 use Rattle.sb_packet.specs.Prefixes.{none, kept}
 use Rattle.sb_packet.specs.Traffic.{item_accesses}
-use Rattle.sb_port.specs.Ports.{PortSide}
 use Rattle.sb_node.specs.Idle.{IsIdleAt}
-use Rattle.sb_node.specs.Sides.{RingSide, has_ended, has_rest, is_drained, is_full}
+use Rattle.sb_node.specs.Sides.{has_ended, has_rest, is_drained, is_full}
 use Rattle.sb_node.specs.Steps.{IsBlockedPort}
 use Rattle.sb_node.proofs.Subsequences.{same_subsequence}
 use Rattle.sb_device.specs.Served.{HasServed}

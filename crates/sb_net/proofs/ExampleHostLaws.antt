@@ -1,20 +1,16 @@
 -- The laws of hosts at the example's: it keeps its promise fresh, halfway and at the end, where it is idle and has found what the journal says.
-use Rattle.std.proofs.Common.{◌≡◌, ◌≤◌, ◌<◌, ◌%◌, lit≤, lit<, ℕ, zero, suc, true, false, Global, List, [], ◌∷◌, length, refl, sym, ap, ◌∙◌, subst, arith, inl, inr}
+use Rattle.std.proofs.Common.{◌≡◌, ◌≤◌, ◌<◌, lit≤, lit<, ℕ, zero, suc, true, false, Global, List, [], length, refl, sym, subst, arith, inl, inr}
 use Rattle.std.specs.Prelude.{◌⊎◌, All, Some}
-use Rattle.sb_link.specs.declared.answers.Turn.TheVariants.{Done, Moved}
+use Rattle.sb_link.specs.declared.answers.Turn.TheVariants.{Done}
 use Rattle.sb_packet.specs.Cuts.{transaction_packets}
-use Rattle.sb_packet.specs.Networks.{NetDevice}
 use Rattle.sb_packet.specs.Outcomes.{host_outcomes}
 use Rattle.sb_packet.specs.Rings.{ring_budget, ring_plan}
-use Rattle.sb_packet.specs.Scripts.{IsTransaction}
 use Rattle.sb_packet.specs.Traffic.{IsPlanned, item_accesses}
 use Rattle.sb_packet.specs.declared.transaction.Kind.TheVariants.{Write}
 use Rattle.sb_packet.specs.declared.transaction.Txn.{Txn}
-use Rattle.sb_node.specs.Idle.{IsIdleAt}
-use Rattle.sb_node.specs.Sides.{RingSide, has_ended, has_rest, is_drained, is_full}
-use Rattle.sb_port.specs.Ports.{PortSide}
+use Rattle.sb_node.specs.Sides.{has_ended, has_rest, is_drained, is_full}
 use Rattle.sb_host.specs.Asked.{asked_accesses, asked_by}
-use Rattle.sb_host.specs.Hosts.{HostSide, IsHostTurn, IsKeptHost, IsWholeHost}
+use Rattle.sb_host.specs.Hosts.{IsHostTurn, IsKeptHost, IsWholeHost}
 use Rattle.sb_host.specs.Outcomes.{outcomes_so_far}
 use Rattle.sb_host.specs.Rows.{IsTable}
 use Rattle.sb_host.specs.Steps.{IsIdleHost}

@@ -1,5 +1,5 @@
 -- The example's router, fresh, halfway and at the end: each direction is built for the network, whole, and has forwarded what came.
-use Rattle.std.proofs.Common.{◌≡◌, ◌≢◌, ◌≤◌, ◌<◌, ◌+◌, lit≤, lit<, ℕ, zero, suc, Bool, true, false, true≢false, List, [], ◌∷◌, ◌++◌, length, refl, sym, ap, ◌∙◌, subst, arith, Some, None}
+use Rattle.std.proofs.Common.{◌≡◌, ◌≤◌, ◌<◌, ◌+◌, lit<, ℕ, zero, suc, Bool, true, false, true≢false, List, [], ◌∷◌, ◌++◌, length, refl, sym, ap, ◌∙◌, subst, arith, Some, None}
 use Rattle.std.specs.Prelude.{All, Option, drop, not, slice_index_or, sum_by}
 use Rattle.std.specs.List.{list_all}
 use Rattle.std.proofs.lemmas.Bool.{and_parts}
@@ -12,28 +12,25 @@ use Rattle.sb_packet.specs.Rings.{flow_table, ring_plan, ring_ways}
 use Rattle.sb_packet.specs.Traffic.{IsCarriable, has_close}
 use Rattle.sb_packet.specs.declared.item.Item.TheVariants as items
 use Rattle.sb_packet.specs.declared.packet.Packet.{Packet}
-use Rattle.sb_port.specs.Ports.{PortSide, offered_words}
+use Rattle.sb_port.specs.Ports.{offered_words}
 use Rattle.sb_node.specs.Sides.{received_words}
 use Rattle.sb_node.proofs.Subsequences.{same_subsequence}
 use Rattle.sb_router.specs.Forwarding.{Forwards, Passes, Words, held_for, part, popped_for}
 use Rattle.sb_router.specs.Lanes.{InletState, came_at, held_at, held_words, offered_at, outlet_at}
 use Rattle.sb_router.specs.RouteOf.{route_of}
-use Rattle.sb_router.specs.Routers.{DirectionSide, ForwardsAll, IsWholeDirection}
+use Rattle.sb_router.specs.Routers.{DirectionSide, IsWholeDirection}
 use Rattle.sb_router.specs.Steps.{IsSilent}
 use Rattle.sb_router.specs.Whole.{IsLast, IsWholeInlet, IsWholeOutlet}
 use Rattle.sb_net.specs.Moments.{Moment}
-use Rattle.sb_net.specs.NetworkLayouts.{network_answers, network_requests}
-use Rattle.sb_net.specs.RouterLayouts.{IsBuiltFor, IsRouterAt, LeadsByPlans, answer_ins, answer_outs, request_ins, request_outs}
-use Rattle.sb_net.specs.RouterSides.{HasInlet, HasLane, course_words}
+use Rattle.sb_net.specs.RouterLayouts.{IsBuiltFor, LeadsByPlans, answer_ins, answer_outs, request_ins, request_outs}
+use Rattle.sb_net.specs.RouterSides.{HasInlet, HasLane}
 use Rattle.sb_net.specs.RoundSides.{HasPort}
-use Rattle.sb_net.proofs.NetworkRouters.{answers_laid, requests_laid}
 use Rattle.sb_net.proofs.ExampleNetwork.{small, posted, write}
 use Rattle.sb_net.proofs.ExampleLayout.{of_one}
-use Rattle.sb_net.proofs.ExampleRouted.{small_is_routed}
 use Rattle.sb_net.proofs.ExampleRun.{the_end}
 use Rattle.sb_net.proofs.ExampleHalfway.{halfway}
 use Rattle.sb_net.proofs.ExampleNodes.{fresh, port_in, ring_in}
-use Rattle.sb_net.proofs.ExamplePorts.{IsSettled, end_is_settled, fresh_is_settled, halfway_is_settled, from_host, has_port, has_ring, is_fit}
+use Rattle.sb_net.proofs.ExamplePorts.{IsSettled, from_host, has_port, has_ring, is_fit}
 
 -- both tables send the one flow to the one place
 abbrev pub small_rows : List (List (Option ℕ))

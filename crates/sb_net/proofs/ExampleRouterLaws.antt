@@ -1,44 +1,30 @@
 -- The laws of routers at the example's: it keeps its promises fresh, halfway and at the end, where it is idle.
-use Rattle.std.proofs.Common.{◌≡◌, ◌≢◌, ◌≤◌, ◌<◌, ◌+◌, lit≤, lit<, ℕ, zero, suc, true, false, List, [], ◌∷◌, length, refl, arith, inl, inr, Some, None}
-use Rattle.std.specs.Prelude.{All, Option, slice_index_or, sum_by}
-use Rattle.sb_link.specs.declared.answers.Turn.TheVariants.{Done, Moved}
-use Rattle.sb_packet.specs.Plans.{NetFlow}
-use Rattle.sb_packet.specs.Rings.{ring_plan}
+use Rattle.std.proofs.Common.{◌≤◌, ◌<◌, ◌+◌, lit≤, lit<, ℕ, zero, suc, length, refl, arith, Some, None}
+use Rattle.std.specs.Prelude.{All, Option, sum_by}
 use Rattle.sb_packet.specs.declared.packet.Packet.{Packet}
-use Rattle.sb_packet.specs.Traffic.{has_close}
-use Rattle.sb_packet.proofs.FoundAnswers.{eq_below}
-use Rattle.sb_flow.specs.Accepted.{IsAccepted}
 use Rattle.sb_flow.proofs.AcceptedExample.{wide, wide_is_accepted}
-use Rattle.sb_port.specs.Ports.{PortSide}
-use Rattle.sb_node.specs.Sides.{has_rest, is_full}
-use Rattle.sb_router.specs.Awaiting.{AwaitsFullPort, HeldAwaitsBusy}
-use Rattle.sb_router.specs.Forwarding.{HasForwarded, IsLaid, Passes, Words, held_for, popped_for}
-use Rattle.sb_router.specs.Lanes.{InletState, inlet_at, offered_at, outlet_at}
+use Rattle.sb_router.specs.Forwarding.{IsLaid, Passes, Words, held_for, popped_for}
+use Rattle.sb_router.specs.Lanes.{offered_at}
 use Rattle.sb_router.specs.RouteOf.{route_of}
-use Rattle.sb_router.specs.Routers.{ClosesWhenDue, DirectionSide, ForwardsAll, IsRouterTurn, IsWholeDirection, IsWholeRouter, RouterSide}
-use Rattle.sb_router.specs.Turning.{IsIdleLane, IsSeen, ServesEach, ServesPorts}
+use Rattle.sb_router.specs.Routers.{DirectionSide}
 use Rattle.sb_router.proofs.Forwards.{has_forwarded}
 use Rattle.sb_net.specs.Moments.{Moment}
-use Rattle.sb_net.specs.NetworkLayouts.{links_into, links_out_of, network_answers, network_requests}
+use Rattle.sb_net.specs.NetworkLayouts.{network_answers, network_requests}
 use Rattle.sb_net.specs.Promises.{Forwards}
-use Rattle.sb_net.specs.RouterLayouts.{HasTable, IsBuiltFor, IsRouterAt, KeepsAlongWays, LeadsByPlans, answer_ins, answer_outs, request_ins, request_outs}
-use Rattle.sb_net.specs.RouterSides.{ComesInto, IsAtStage, IsIdleAtRings, IsRouterOf, Leaves, ShowsInlet, ShowsLane, course_words}
-use Rattle.sb_net.specs.RoundSides.{ShowsPort}
+use Rattle.sb_net.specs.RouterLayouts.{IsRouterAt, KeepsAlongWays, answer_ins, answer_outs, request_ins, request_outs}
+use Rattle.sb_net.specs.RouterSides.{IsRouterOf, course_words}
 use Rattle.sb_net.proofs.AcceptedNetworks.{low_ids}
 use Rattle.sb_net.proofs.NetworkRouters.{answers_laid, answers_router, requests_laid, requests_router}
-use Rattle.sb_net.proofs.RouterSides.{idle_receivers, idle_senders, router_promise}
-use Rattle.sb_net.proofs.RouterTables.{answer_tables, request_tables}
+use Rattle.sb_net.proofs.RouterSides.{router_promise}
 use Rattle.sb_net.proofs.RoutersAlongWays.{answers_along, requests_along}
 use Rattle.sb_net.proofs.ExampleNetwork.{small, cpu, posted}
 use Rattle.sb_net.proofs.ExampleLayout.{of_one, the_flow}
 use Rattle.sb_net.proofs.ExampleRouted.{small_is_routed}
 use Rattle.sb_net.proofs.ExampleRun.{the_end}
 use Rattle.sb_net.proofs.ExampleHalfway.{halfway}
-use Rattle.sb_net.proofs.ExampleStandstill.{last_round, small_stages}
-use Rattle.sb_net.proofs.ExampleNodes.{fresh, port_in}
+use Rattle.sb_net.proofs.ExampleNodes.{fresh}
 use Rattle.sb_net.proofs.ExamplePorts.{IsSettled, end_is_settled, fresh_is_settled, halfway_is_settled}
-use Rattle.sb_net.proofs.ExampleSides.{at_rest, shows_port, shows_ring}
-use Rattle.sb_net.proofs.ExampleRouter.{HasPassed, answers_are_built, direction_forwards, direction_in, direction_is_whole, end_answers, end_requests, fresh_answers, fresh_requests, halfway_answers, halfway_requests, has_lane, inlet_in, requests_are_built, small_rows}
+use Rattle.sb_net.proofs.ExampleRouter.{HasPassed, answers_are_built, direction_forwards, direction_in, direction_is_whole, end_answers, end_requests, fresh_answers, fresh_requests, halfway_answers, halfway_requests, has_lane, requests_are_built, small_rows}
 
 -- which words go on by the router's two rings
 abbrev pub request_words : Words

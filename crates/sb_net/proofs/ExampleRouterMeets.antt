@@ -7,7 +7,7 @@ use Rattle.sb_packet.specs.Prefixes.{IsSubsequence}
 use Rattle.sb_packet.specs.Rings.{ring_plan}
 use Rattle.sb_port.specs.Ports.{PortSide}
 use Rattle.sb_node.proofs.Subsequences.{same_subsequence}
-use Rattle.sb_router.specs.Forwarding.{Forwards, Passes, held_for, part, popped_for}
+use Rattle.sb_router.specs.Forwarding.{Passes, held_for, part, popped_for}
 use Rattle.sb_router.specs.Lanes.{InletState, came_at, held_at, inlet_at, offered_at, outlet_at}
 use Rattle.sb_router.specs.RouteOf.{route_of}
 use Rattle.sb_router.specs.Routers.{DirectionSide, ForwardsAll, IsWholeDirection}

@@ -1,22 +1,20 @@
 -- The laws of routers' turns, meetings and tables at the example's router.
-use Rattle.std.proofs.Common.{◌≡◌, ◌≢◌, ◌≤◌, ◌<◌, ◌+◌, lit≤, lit<, ℕ, zero, suc, true, false, List, [], ◌∷◌, length, refl, arith, inl, inr, Some, None}
-use Rattle.std.specs.Prelude.{All, Option, slice_index_or}
-use Rattle.sb_link.specs.declared.answers.Turn.TheVariants.{Done, Moved}
-use Rattle.sb_packet.specs.Plans.{NetFlow}
+use Rattle.std.proofs.Common.{◌≡◌, ◌<◌, lit≤, lit<, ℕ, zero, suc, true, false, [], refl, arith, inl, inr, Some, None}
+use Rattle.std.specs.Prelude.{All, slice_index_or}
+use Rattle.sb_link.specs.declared.answers.Turn.TheVariants.{Done}
 use Rattle.sb_packet.specs.Rings.{ring_plan}
 use Rattle.sb_packet.specs.declared.packet.Packet.{Packet}
 use Rattle.sb_packet.specs.Traffic.{has_close}
 use Rattle.sb_packet.proofs.FoundAnswers.{eq_below}
 use Rattle.sb_node.specs.Sides.{has_rest, is_full}
-use Rattle.sb_router.specs.Awaiting.{AwaitsFullPort, HeldAwaitsBusy}
-use Rattle.sb_router.specs.Lanes.{InletState, inlet_at, outlet_at}
+use Rattle.sb_router.specs.Lanes.{inlet_at}
 use Rattle.sb_router.specs.RouteOf.{route_of}
-use Rattle.sb_router.specs.Routers.{ClosesWhenDue, DirectionSide, ForwardsAll, IsRouterTurn, IsWholeDirection, IsWholeRouter, RouterSide}
+use Rattle.sb_router.specs.Routers.{ClosesWhenDue, DirectionSide, IsRouterTurn, IsWholeRouter, RouterSide}
 use Rattle.sb_router.specs.Turning.{IsIdleLane, IsSeen, ServesEach, ServesPorts}
 use Rattle.sb_router.specs.Ways.{place_on}
 use Rattle.sb_net.specs.NetworkLayouts.{links_into, links_out_of}
 use Rattle.sb_net.specs.RouterLayouts.{HasTable, LeadsByPlans}
-use Rattle.sb_net.specs.RouterSides.{ComesInto, HasInlet, IsAtStage, IsIdleAtRings, Leaves, ShowsInlet, ShowsLane}
+use Rattle.sb_net.specs.RouterSides.{ComesInto, IsAtStage, IsIdleAtRings, Leaves, ShowsInlet, ShowsLane}
 use Rattle.sb_net.specs.RoundSides.{ShowsPort}
 use Rattle.sb_net.specs.Standstills.{IsIdleReceiver, IsIdleSender}
 use Rattle.sb_net.proofs.RouterSides.{idle_receivers, idle_senders, unmoved_answers, unmoved_requests}

@@ -45,6 +45,7 @@ pub mod ExampleHostLaws
 pub mod ExampleRouter
 pub mod ExampleRouterLaws
 pub mod ExampleRouterTurns
+pub mod ExampleRouterMeets
 pub mod PlannedWords
 pub mod CarriedPlans
 pub mod NoFaults
