@@ -54,19 +54,19 @@ within f o e = by_place f.host f.device e
     by_place (suc h) d p = absurd (cc)
 
 -- where no bit is set, none is found
-none_set : (bits : List Bool) (d : ℕ) → list_all not bits ≡ true → slice_index_or bits d false ≡ false
+pub none_set : (bits : List Bool) (d : ℕ) → list_all not bits ≡ true → slice_index_or bits d false ≡ false
 none_set [] d e = refl
 none_set (true ∷ bits) d e = absurd (true≢false (sym e))
 none_set (false ∷ bits) zero e = refl
 none_set (false ∷ bits) (suc d) e = none_set bits d e
 
-none_in_row : (rows : List (List Bool)) (h : ℕ) → list_all (list_all not) rows ≡ true → list_all not (slice_index_or rows h []) ≡ true
+pub none_in_row : (rows : List (List Bool)) (h : ℕ) → list_all (list_all not) rows ≡ true → list_all not (slice_index_or rows h []) ≡ true
 none_in_row [] h e = refl
 none_in_row (row ∷ rows) zero e = (and_parts (list_all not row) (list_all (list_all not) rows) e).0
 none_in_row (row ∷ rows) (suc h) e = none_in_row rows h (and_parts (list_all not row) (list_all (list_all not) rows) e).1
 
 -- which flows go over the rings: over each the one flow
-abbrev small_table : List (List Bool)
+abbrev pub small_table : List (List Bool)
 small_table = flow_table (ring_ways small 2)
 
 led_on : (h d : ℕ) → slice_index_or (slice_index_or small_table h []) d false ≡ true → slice_index_or (slice_index_or small_rows h []) d None ≡ Some 0

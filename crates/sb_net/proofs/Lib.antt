@@ -46,6 +46,7 @@ pub mod ExampleRouter
 pub mod ExampleRouterLaws
 pub mod ExampleRouterTurns
 pub mod ExampleRouterMeets
+pub mod ExampleWholeDevice
 pub mod PlannedWords
 pub mod CarriedPlans
 pub mod NoFaults
