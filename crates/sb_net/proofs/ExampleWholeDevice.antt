@@ -1,11 +1,10 @@
 -- The example's device is whole, fresh, halfway and at the end.
-use Rattle.std.proofs.Common.{◌≡◌, lit≤, lit<, ℕ, zero, suc, true≢false, List, [], refl, sym, ◌∙◌}
+use Rattle.std.proofs.Common.{◌≡◌, lit≤, lit<, ℕ, zero, suc, true≢false, [], refl, sym, ◌∙◌}
 use Rattle.std.specs.Prelude.{drop, false, true, slice_index_or}
 use Rattle.std.proofs.lemmas.List.Elements.{All-nil, All-from_recursion}
-use Rattle.sb_packet.specs.Memories.{MemoryState, memory_after}
+use Rattle.sb_packet.specs.Memories.{memory_after}
 use Rattle.sb_packet.specs.Networks.{opening_memory}
 use Rattle.sb_packet.specs.Rings.{ring_plan}
-use Rattle.sb_packet.specs.declared.entry.Entry.{Entry}
 use Rattle.sb_device.specs.Devices.{IsWholeDevice}
 use Rattle.sb_device.specs.Plans.{IsPlannedFor}
 use Rattle.sb_device.specs.Served.{entry_accesses}

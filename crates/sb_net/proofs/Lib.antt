@@ -47,6 +47,7 @@ pub mod ExampleRouterLaws
 pub mod ExampleRouterTurns
 pub mod ExampleRouterMeets
 pub mod ExampleWholeDevice
+pub mod ExampleHalfwayRound
 pub mod PlannedWords
 pub mod CarriedPlans
 pub mod NoFaults
