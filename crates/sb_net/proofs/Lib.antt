@@ -48,6 +48,7 @@ pub mod ExampleRouterTurns
 pub mod ExampleRouterMeets
 pub mod ExampleWholeDevice
 pub mod ExampleHalfwayRound
+pub mod ExampleBlocked
 pub mod PlannedWords
 pub mod CarriedPlans
 pub mod NoFaults
