@@ -28,11 +28,11 @@ use Rattle.sb_net.proofs.ExampleStandstill.{small_stages}
 use Rattle.sb_net.proofs.ExampleNodes.{fresh, ring_in, small_mark}
 
 -- a ring of one place
-abbrev narrow : ℕ → RingPlan
+abbrev pub narrow : ℕ → RingPlan
 narrow r = record (ring_plan small r) { capacity = 1 }
 
 -- a port that has sent one packet, which wasn't taken, and owes another
-abbrev blocked_port : ℕ → Packet → Packet → PortSide
+abbrev pub blocked_port : ℕ → Packet → Packet → PortSide
 blocked_port r first second = record {
   plan = narrow r;
   mark = record (small_mark r) { plan = narrow r };

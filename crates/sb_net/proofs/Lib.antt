@@ -49,6 +49,7 @@ pub mod ExampleRouterMeets
 pub mod ExampleWholeDevice
 pub mod ExampleHalfwayRound
 pub mod ExampleBlocked
+pub mod ExampleBlockedRouter
 pub mod PlannedWords
 pub mod CarriedPlans
 pub mod NoFaults
