@@ -4,6 +4,7 @@ use Rattle.std.specs.Prelude.{◌&&◌, ◌==◌, nat_lt, filter, filter_map, ma
 use Rattle.std.specs.List.{enumerate_from, find, list_all}
 use Rattle.std.specs.Option.{option_map_or}
 use Rattle.std.proofs.lemmas.Bool.Decides.{nat_tests}
+use Rattle.std.proofs.lemmas.List.{length-map}
 use Rattle.std.proofs.lemmas.List.Elements.{All-filter, All-head, All-nil, All-tail}
 use Rattle.sb_word.specs.declared.command.Op.{Op}
 use Rattle.sb_word.specs.declared.command.Op.TheVariants.{ReqRd, ReqWr, ReqWrPosted, ReqAtomic, RespRd, RespWr}
@@ -16,24 +17,29 @@ use Rattle.sb_packet.specs.Outcomes.{Outcome, host_outcomes, outcome_of}
 use Rattle.sb_packet.specs.Plans.{NetFlow}
 use Rattle.sb_packet.specs.Rings.{is_answered}
 use Rattle.sb_packet.specs.Scripts.{IsTransaction, request_of, script_accesses, transaction_accesses, transaction_message}
+use Rattle.sb_packet.specs.Traffic.{item_accesses}
 use Rattle.sb_packet.specs.declared.entry.Entry.{Entry}
 use Rattle.sb_packet.specs.declared.transaction.Kind.{Kind}
 use Rattle.sb_packet.specs.declared.transaction.Kind.TheVariants.{Read, Write, Posted, Atomic}
 use Rattle.sb_packet.specs.declared.transaction.Txn.{Txn}
 use Rattle.sb_packet.proofs.Lists.{All-kept, All-made, All-pieces}
 use Rattle.sb_host.specs.declared.line.Line.{Line}
-use Rattle.sb_host.specs.Asked.{asked_by, line_in}
+use Rattle.sb_host.specs.Asked.{Asked, asked_by, line_in}
+use Rattle.sb_host.specs.Hosts.{HostSide, IsWholeHost}
 use Rattle.sb_host.specs.Outcomes.{answer_so_far, first_answer, is_answer_to, line_outcome, outcome_so_far, outcomes_so_far}
+use Rattle.sb_node.specs.Sides.{received_words}
 use Rattle.sb_net.specs.Flows.{asked_of, is_among, is_of}
+use Rattle.sb_net.specs.HostSides.{IsHostOf}
 use Rattle.sb_net.specs.Layouts.{IsLayout, Layout, ring_home}
 use Rattle.sb_net.specs.Moments.{Moment, arrived}
+use Rattle.sb_net.specs.RoundSides.{HasRing}
 use Rattle.sb_net.specs.Runs.{IsMomentOf}
 use Rattle.sb_net.specs.Wholes.{AreAnswered, HasAllEnded}
 use Rattle.sb_net.proofs.AskedWays.{word_device}
 use Rattle.sb_net.proofs.FlowMembers.{at_flow}
 use Rattle.sb_net.proofs.FoundReplies.{own_answers}
 use Rattle.sb_net.proofs.HostAnswers.{host_answers_law}
-use Rattle.sb_net.proofs.HostSides.{at_listed}
+use Rattle.sb_net.proofs.HostSides.{at_listed, told_at_end}
 use Rattle.sb_net.proofs.Journals.{journal_differs}
 use Rattle.sb_net.proofs.ListPlaces.{All-enumerated}
 use Rattle.sb_net.proofs.ScriptFacts.{asked_asks, asks, found_by_id}
@@ -179,3 +185,15 @@ module _ (network : Network) (layout : Layout) (journal : List Entry) (m : Momen
       each k p below =
           let q = get_or (enumerate_from 0 host.script) k p in
           ap (λ (b : Bool). line_outcome (asked_by network host) (arrived m home) b q.0 (line_in network q.1)) (passed k p below) ∙ line_is_told q.0 q.1 (transactions k p below) (lines_found k p below)
+
+-- So does a host that told its port to close, by the words that came to it.
+pub outcomes_found : (network : Network) (layout : Layout) (journal : List Entry) (m : Moment) (host : NetHost) (h : HostSide) →
+    IsLayout network layout → All (λ d. d.base % 4096 ≡ 0) network.devices → IsMomentOf network layout journal m → HasAllEnded layout m → IsHostOf network layout host h → IsWholeHost h →
+    h.requests.state.closing ≡ true → HasRing m h.answers.plan.ring h.answers → outcomes_so_far h.transactions.asked (received_words h.answers) h.transactions.next ≡ host_outcomes network journal host
+outcomes_found network layout journal m host h laid pages now ended of whole told got =
+    let t = h.transactions in
+    let ring = h.answers.plan.ring in
+    let all : t.next ≡ length host.script = told_at_end h whole told ∙ ap (λ (a : Asked). length a.lines) of.asked ∙ length-map host.script (line_in network) in
+    ap (λ (l : List Access). outcomes_so_far t.asked l t.next) (ap item_accesses (sym got.received))
+    ∙ ap (λ (a : Asked). outcomes_so_far a (arrived m ring) t.next) of.asked
+    ∙ outcomes_are_told network layout journal m laid now ended pages host of.listed ring of.answered t.next all

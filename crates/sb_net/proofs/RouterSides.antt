@@ -1,10 +1,12 @@
 -- Routers as they stand in a network keep the promises of whole runs.
-use Rattle.std.proofs.Common.{◌≡◌, ◌<◌, ℕ, true, false, List, [], ◌∷◌, ◌++◌, length, All, refl, sym, ap, ◌∙◌, arith, subst, inl, inr}
+use Rattle.std.proofs.Common.{◌≡◌, ◌≢◌, ◌<◌, ℕ, true, false, List, [], ◌∷◌, ◌++◌, length, All, refl, sym, ap, ◌∙◌, arith, subst, inl, inr}
 use Rattle.std.specs.Prelude.{◌⊎◌, filter, map, sum_by, Option, Some, None, get_or, slice_index_or}
 use Rattle.std.specs.Option.{option_and_then, option_map}
 use Rattle.std.proofs.lemmas.List.{get_or-map, length-map}
 use Rattle.std.proofs.lemmas.List.Elements.{All-from_get_or}
 use Rattle.std.proofs.lemmas.List.Sums.{sum_by-cons}
+use Rattle.sb_link.specs.declared.answers.Turn.{Turn}
+use Rattle.sb_link.specs.declared.answers.Turn.TheVariants.{Moved}
 use Rattle.sb_packet.specs.Accesses.{Access}
 use Rattle.sb_packet.specs.Networks.{Network}
 use Rattle.sb_packet.specs.Plans.{NetFlow}
@@ -16,6 +18,8 @@ use Rattle.sb_router.specs.Forwarding.{HasForwarded, Passes, popped_for}
 use Rattle.sb_router.specs.Forwarding as router
 use Rattle.sb_port.specs.Ports.{PortSide}
 use Rattle.sb_router.specs.Lanes.{InletState, LaneState, Route, came_at, held_at, held_words, inlet_at, no_inlet, no_port, next_place, offered_at, outlet_at}
+use Rattle.sb_router.specs.RouteOf.{route_of}
+use Rattle.sb_router.specs.Routers.{IsRouterTurn, IsWholeRouter, RouterSide}
 use Rattle.sb_router.specs.Steps.{IsSilent}
 use Rattle.sb_router.specs.Awaiting.{AwaitsFullPort}
 use Rattle.sb_router.specs.Turning.{IsIdleLane}
@@ -25,7 +29,7 @@ use Rattle.sb_net.specs.Flows.{words_of}
 use Rattle.sb_device.specs.Served.{AreSound}
 use Rattle.sb_net.specs.Moments.{Moment, arrived}
 use Rattle.sb_net.specs.Promises.{Forwards}
-use Rattle.sb_net.specs.RouterSides.{ComesInto, HasInlet, HasLane, IsAtStage, IsRouterOf, Leaves, ShowsInlet, ShowsLane, course_words, ring_ins, ring_next}
+use Rattle.sb_net.specs.RouterSides.{ComesInto, HasInlet, HasLane, IsAtStage, IsIdleAtRings, IsRouterOf, Leaves, ShowsInlet, ShowsLane, course_words, ring_ins, ring_next}
 use Rattle.sb_net.specs.RoundSides.{HasPort, ShowsPort}
 use Rattle.sb_net.specs.Stages.{Stages}
 use Rattle.sb_net.specs.Standstills.{IsBlocked, IsIdleReceiver, IsIdleSender, RoundEnd}
@@ -178,3 +182,18 @@ module _ (stages : Stages) (e : RoundEnd) (stage : ℕ) (route : Route) (s : Lan
 
     pub idle_senders : All (λ y. IsIdleSender stages e y.plan.ring) s.outlets
     idle_senders = All-from_get_or (λ (y : PortSide). IsIdleSender stages e y.plan.ring) s.outlets no_port idle_sender
+
+-- a router that didn't move is idle, in both directions
+pub unmoved_requests : (stages : Stages) (e : RoundEnd) (stage : ℕ) (before after : RouterSide) (answer : Turn) → IsWholeRouter after → IsRouterTurn before answer after → answer ≢ Moved →
+    ShowsLane e (route_of after.requests.rows) after.requests.lane → IsAtStage stages stage after.requests.lane → IsIdleAtRings stages e after.requests.lane
+unmoved_requests stages e stage before after answer whole turn still shows at = record {
+  receivers = idle_receivers stages e stage (route_of after.requests.rows) after.requests.lane shows at whole.requests (turn.idle_requests still);
+  senders = idle_senders stages e stage (route_of after.requests.rows) after.requests.lane shows at whole.requests (turn.idle_requests still) turn.closed_requests;
+}
+
+pub unmoved_answers : (stages : Stages) (e : RoundEnd) (stage : ℕ) (before after : RouterSide) (answer : Turn) → IsWholeRouter after → IsRouterTurn before answer after → answer ≢ Moved →
+    ShowsLane e (route_of after.answers.rows) after.answers.lane → IsAtStage stages stage after.answers.lane → IsIdleAtRings stages e after.answers.lane
+unmoved_answers stages e stage before after answer whole turn still shows at = record {
+  receivers = idle_receivers stages e stage (route_of after.answers.rows) after.answers.lane shows at whole.answers (turn.idle_answers still);
+  senders = idle_senders stages e stage (route_of after.answers.rows) after.answers.lane shows at whole.answers (turn.idle_answers still) turn.closed_answers;
+}
