@@ -1,8 +1,8 @@
 -- A ring is handed over between two nodes of a list.
 use Rattle.std.proofs.Common.{◌≡◌, ◌≢◌, ℕ, zero, suc, ◌+◌, ◌<◌, Bool, List, [], ◌∷◌, ◌++◌, length, set, take, refl, sym, ap, ◌∙◌, subst, arith}
 use Rattle.std.specs.Prelude.{slice_index_or}
-use Rattle.sb_member.specs.Ends.{HaveJoined, HaveMetAt, port_at, ring_at, with_port, with_ring}
-use Rattle.sb_member.specs.Joints.{HandsAlong, HasHanded, IsPlaced, joint_at, no_node, node_at}
+use Rattle.sb_member.specs.Ends.{HaveJoined, HaveMetAt, port_at, ring_at, member_with_port, member_with_ring}
+use Rattle.sb_member.specs.Joints.{HandsAlong, HasRingMet, IsRingPlaced, joint_at, no_node, node_at}
 use Rattle.sb_member.specs.declared.joint.Joint.{Joint}
 use Rattle.sb_member.specs.declared.member.Member.{Member}
 
@@ -30,22 +30,22 @@ within_list (x ∷ xs) zero d e lt = refl
 within_list (x ∷ xs) (suc k) d e lt = within_list xs k d e (omega (arith, lt))
 
 module _ {F T U : Type 0} where
-  pub handed : (prompt : Bool) (list : List (Member F T U)) (j : Joint) (a a_then b b_then : Member F T U) → IsPlaced list j
+  pub handed : (prompt : Bool) (list : List (Member F T U)) (j : Joint) (a a_then b b_then : Member F T U) → IsRingPlaced list j
       → a ≡ slice_index_or list j.from a → b ≡ slice_index_or list j.to b → HaveMetAt prompt j.out j.into a a_then b b_then
-      → HasHanded prompt j list (set (set list j.from a_then) j.to b_then)
+      → HasRingMet prompt j list (set (set list j.from a_then) j.to b_then)
   handed prompt list j a a_then b b_then p is_a is_b met =
       let at_a : node_at list j.from ≡ a = within_list list j.from no_node a p.from ∙ sym is_a in
       let at_b : node_at list j.to ≡ b = within_list list j.to no_node b p.to ∙ sym is_b in
       record {
         port_then = met.port_then;
         ring_then = met.ring_then;
-        nodes = ap (λ (y : Member F T U). set (set list j.from y) j.to b_then) (met.sender ∙ ap (λ (y : Member F T U). with_port y j.out met.port_then) (sym at_a))
-            ∙ ap (λ (y : Member F T U). set (set list j.from (with_port (node_at list j.from) j.out met.port_then)) j.to y) (met.receiver ∙ ap (λ (y : Member F T U). with_ring y j.into met.ring_then) (sym at_b));
+        nodes = ap (λ (y : Member F T U). set (set list j.from y) j.to b_then) (met.sender ∙ ap (λ (y : Member F T U). member_with_port y j.out met.port_then) (sym at_a))
+            ∙ ap (λ (y : Member F T U). set (set list j.from (member_with_port (node_at list j.from) j.out met.port_then)) j.to y) (met.receiver ∙ ap (λ (y : Member F T U). member_with_ring y j.into met.ring_then) (sym at_b));
         joined = subst (λ (y : Member F T U). HaveJoined prompt (port_at y j.out) met.port_then (ring_at (node_at list j.to) j.into) met.ring_then) (sym at_a)
             (subst (λ (y : Member F T U). HaveJoined prompt (port_at a j.out) met.port_then (ring_at y j.into) met.ring_then) (sym at_b) met.joined);
       }
 
   -- one ring more is handed over
-  pub hands_more : (prompt : Bool) (joints : List Joint) (j : Joint) (before middle after : List (Member F T U)) → HandsAlong prompt joints before middle → HasHanded prompt j middle after → HandsAlong prompt (joints ++ j ∷ []) before after
-  hands_more prompt [] j before middle after h one = (after, subst (λ (nodes : List (Member F T U)). HasHanded prompt j nodes after) h one, refl)
+  pub hands_more : (prompt : Bool) (joints : List Joint) (j : Joint) (before middle after : List (Member F T U)) → HandsAlong prompt joints before middle → HasRingMet prompt j middle after → HandsAlong prompt (joints ++ j ∷ []) before after
+  hands_more prompt [] j before middle after h one = (after, subst (λ (nodes : List (Member F T U)). HasRingMet prompt j nodes after) h one, refl)
   hands_more prompt (i ∷ joints) j before middle after h one = (h.0, h.1, hands_more prompt joints j h.0 middle after h.2 one)

@@ -10,8 +10,8 @@ use Rattle.sb_port.specs.Ports.{PortSide}
 use Rattle.sb_node.specs.Sides.{RingSide}
 use Rattle.sb_router.specs.Lanes.{no_port, no_ring}
 use Rattle.sb_member.specs.Members.{IsWholeMember}
-use Rattle.sb_member.specs.Ends.{port_at, ports_of, ring_at, rings_of, with_port, with_ring}
-use Rattle.sb_member.specs.Joints.{HasHanded, HaveAllMet, IsJoined, IsPlaced, KnowEachOther, joint_at, no_node, node_at, receiver_of, sender_of}
+use Rattle.sb_member.specs.Ends.{port_at, ports_of, ring_at, rings_of, member_with_port, member_with_ring}
+use Rattle.sb_member.specs.Joints.{HasRingMet, HaveAllMet, IsJoined, IsRingPlaced, KnowEachOther, joint_at, no_node, node_at, receiver_of, sender_of}
 use Rattle.sb_member.specs.declared.joint.Joint.{Joint}
 use Rattle.sb_member.specs.declared.member.Member.{Member}
 use Rattle.sb_member.proofs.EndsChanged.{ports_with_port, ports_with_ring, rings_with_port, rings_with_ring, whole_with_port, whole_with_ring}
@@ -27,7 +27,7 @@ below_not zero (suc b) lt n = omega arith
 below_not (suc a) zero lt n = absurd (omega (arith, lt))
 below_not (suc a) (suc b) lt n = let less = below_not a b (omega (arith, lt)) (λ e. n (ap suc e)) in omega (arith, less)
 
-module _ {F T U : Type 0} (prompt : Bool) (j : Joint) (before after : List (Member F T U)) (p : IsPlaced before j) (h : HasHanded prompt j before after) where
+module _ {F T U : Type 0} (prompt : Bool) (j : Joint) (before after : List (Member F T U)) (p : IsRingPlaced before j) (h : HasRingMet prompt j before after) where
   abbrev a : Member F T U
   a = node_at before j.from
 
@@ -35,10 +35,10 @@ module _ {F T U : Type 0} (prompt : Bool) (j : Joint) (before after : List (Memb
   b = node_at before j.to
 
   abbrev a_then : Member F T U
-  a_then = with_port a j.out h.port_then
+  a_then = member_with_port a j.out h.port_then
 
   abbrev b_then : Member F T U
-  b_then = with_ring b j.into h.ring_then
+  b_then = member_with_ring b j.into h.ring_then
 
   pub count : length after ≡ length before
   count = ap (λ (xs : List (Member F T U)). length xs) h.nodes ∙ length-set (set before j.from a_then) j.to b_then ∙ length-set before j.from a_then
@@ -97,7 +97,7 @@ module _ {F T U : Type 0} (prompt : Bool) (j : Joint) (before after : List (Memb
       (λ n. ap (λ xs. slice_index_or xs i.into no_ring) (rings_elsewhere i.to n))
 
   -- it stands where it stood
-  pub placed_on : (i : Joint) → IsPlaced before i → (sender_of after i).mark ≡ (receiver_of after i).mark → IsPlaced after i
+  pub placed_on : (i : Joint) → IsRingPlaced before i → (sender_of after i).mark ≡ (receiver_of after i).mark → IsRingPlaced after i
   placed_on i q marks = record {
     from = let lt = q.from in omega (arith, lt, count);
     to = let lt = q.to in omega (arith, lt, count);
@@ -112,11 +112,11 @@ module _ {F T U : Type 0} (prompt : Bool) (j : Joint) (before after : List (Memb
       (whole_with_ring b j.into h.ring_then p.into (All-get_or IsWholeMember before j.to no_node p.to w) h.joined.received)
       (All-set IsWholeMember before j.from a_then (whole_with_port a j.out h.port_then p.out (All-get_or IsWholeMember before j.from no_node p.from w) h.joined.sent) w))
 
-module _ {F T U : Type 0} (prompt : Bool) (joints : List Joint) (r : ℕ) (before after : List (Member F T U)) (lt : r < length joints) (n : IsJoined joints before) (h : HasHanded prompt (joint_at joints r) before after) where
+module _ {F T U : Type 0} (prompt : Bool) (joints : List Joint) (r : ℕ) (before after : List (Member F T U)) (lt : r < length joints) (n : IsJoined joints before) (h : HasRingMet prompt (joint_at joints r) before after) where
   abbrev j : Joint
   j = joint_at joints r
 
-  abbrev p : IsPlaced before j
+  abbrev p : IsRingPlaced before j
   p = n.placed r lt
 
   -- another ring has other places

@@ -29,15 +29,15 @@ module _ {F T U : Type 0} where
   ring_at m k = slice_index_or (rings_of m) k no_ring
 
   -- another port stands at a place, or another ring's end
-  abbrev pub with_port : Member F T U → ℕ → PortSide → Member F T U
-  with_port (Host h) k port = Host (record h { requests = port })
-  with_port (Router r) k port = Router (router_with_port r k port)
-  with_port (Device d) k port = Device (record d { answers = port })
+  abbrev pub member_with_port : Member F T U → ℕ → PortSide → Member F T U
+  member_with_port (Host h) k port = Host (record h { requests = port })
+  member_with_port (Router r) k port = Router (router_with_port r k port)
+  member_with_port (Device d) k port = Device (record d { answers = port })
 
-  abbrev pub with_ring : Member F T U → ℕ → RingSide → Member F T U
-  with_ring (Host h) k ring = Host (record h { answers = ring })
-  with_ring (Router r) k ring = Router (router_with_ring r k ring)
-  with_ring (Device d) k ring = Device (record d { requests = ring })
+  abbrev pub member_with_ring : Member F T U → ℕ → RingSide → Member F T U
+  member_with_ring (Host h) k ring = Host (record h { answers = ring })
+  member_with_ring (Router r) k ring = Router (router_with_ring r k ring)
+  member_with_ring (Device d) k ring = Device (record d { requests = ring })
 
 -- Two ends of a ring have met: both are as before, but for what they learnt, and are of one ring still.
 pub record HaveJoined (prompt : Bool) (port port_then : PortSide) (ring ring_then : RingSide) : Type 0 where
@@ -51,6 +51,6 @@ module _ {F T U : Type 0} where
   pub record HaveMetAt (prompt : Bool) (out into : ℕ) (from from_then to to_then : Member F T U) : Type 0 where
     pub port_then : PortSide
     pub ring_then : RingSide
-    pub sender : from_then ≡ with_port from out port_then
-    pub receiver : to_then ≡ with_ring to into ring_then
+    pub sender : from_then ≡ member_with_port from out port_then
+    pub receiver : to_then ≡ member_with_ring to into ring_then
     pub joined : HaveJoined prompt (port_at from out) port_then (ring_at to into) ring_then

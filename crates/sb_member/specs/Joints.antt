@@ -4,7 +4,7 @@ use Rattle.sb_link.specs.Ends.{HaveMet}
 use Rattle.sb_port.specs.Ports.{PortSide}
 use Rattle.sb_node.specs.Sides.{RingSide}
 use Rattle.sb_member.specs.Members.{IsWholeMember}
-use Rattle.sb_member.specs.Ends.{HaveJoined, port_at, ports_of, ring_at, rings_of, with_port, with_ring}
+use Rattle.sb_member.specs.Ends.{HaveJoined, port_at, ports_of, ring_at, rings_of, member_with_port, member_with_ring}
 use Rattle.sb_member.specs.declared.joint.Joint.{Joint}
 use Rattle.sb_member.specs.declared.member.Member.{Member}
 use Rattle.sb_member.specs.declared.member.Member.TheVariants.{Router}
@@ -32,7 +32,7 @@ module _ {F T U : Type 0} where
   receiver_of nodes j = ring_at (node_at nodes j.to) j.into
 
   -- A ring stands between two nodes: both have an end of it.
-  pub record IsPlaced (nodes : List (Member F T U)) (j : Joint) : Type 0 where
+  pub record IsRingPlaced (nodes : List (Member F T U)) (j : Joint) : Type 0 where
     pub from : j.from < length nodes
     pub to : j.to < length nodes
     pub apart : j.from ≢ j.to
@@ -41,21 +41,21 @@ module _ {F T U : Type 0} where
     pub marks : (sender_of nodes j).mark ≡ (receiver_of nodes j).mark
 
   -- The ends of one ring have met; nothing else happened.
-  pub record HasHanded (prompt : Bool) (j : Joint) (before after : List (Member F T U)) : Type 0 where
+  pub record HasRingMet (prompt : Bool) (j : Joint) (before after : List (Member F T U)) : Type 0 where
     pub port_then : PortSide
     pub ring_then : RingSide
-    pub nodes : after ≡ set (set before j.from (with_port (node_at before j.from) j.out port_then)) j.to (with_ring (node_at before j.to) j.into ring_then)
+    pub nodes : after ≡ set (set before j.from (member_with_port (node_at before j.from) j.out port_then)) j.to (member_with_ring (node_at before j.to) j.into ring_then)
     pub joined : HaveJoined prompt (sender_of before j) port_then (receiver_of before j) ring_then
 
   -- The ends of these rings have met, one ring after another; nothing else happened.
   abbrev pub HandsAlong : Bool → List Joint → List (Member F T U) → List (Member F T U) → Type 0
   HandsAlong prompt [] before after = after ≡ before
-  HandsAlong prompt (j ∷ joints) before after = (between : List (Member F T U)) × HasHanded prompt j before between × HandsAlong prompt joints between after
+  HandsAlong prompt (j ∷ joints) before after = (between : List (Member F T U)) × HasRingMet prompt j before between × HandsAlong prompt joints between after
 
   -- A network between two steps: each node is whole, and ring r stands at joint r.
   pub record IsJoined (joints : List Joint) (nodes : List (Member F T U)) : Type 0 where
     pub whole : All IsWholeMember nodes
-    pub placed : (r : ℕ) → r < length joints → IsPlaced nodes (joint_at joints r)
+    pub placed : (r : ℕ) → r < length joints → IsRingPlaced nodes (joint_at joints r)
     pub sent_by : (r : ℕ) → r < length joints → (sender_of nodes (joint_at joints r)).plan.ring ≡ r
     pub received_by : (r : ℕ) → r < length joints → (receiver_of nodes (joint_at joints r)).plan.ring ≡ r
 

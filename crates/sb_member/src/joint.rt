@@ -2,7 +2,7 @@
 
 ghost use Rattle.std.specs.Prelude.{◌≡◌, ◌<◌, length};
 ghost use Rattle.sb_member.specs.Ends.{HaveMetAt, port_at, ports_of, ring_at, rings_of};
-ghost use Rattle.sb_member.specs.Joints.{HasHanded, IsPlaced};
+ghost use Rattle.sb_member.specs.Joints.{HasRingMet, IsRingPlaced};
 
 use crate::member::Member;
 use crate::pair::two;
@@ -30,8 +30,8 @@ fn hand_over<F: Fabric>(from: &mut Member<F>, out: usize, to: &mut Member<F>, in
 
 /// The two ends of a ring meet in their nodes, by `Fabric::hand`. Takes no memory.
 pub fn hand_ring<F: Fabric>(nodes: &mut [Member<F>], joint: &Joint)
-    requires placed { IsPlaced nodes.old joint.now }
-    ensures handed { HasHanded F.prompt joint.now nodes.old nodes.new }
+    requires placed { IsRingPlaced nodes.old joint.now }
+    ensures handed { HasRingMet F.prompt joint.now nodes.old nodes.new }
 {
     if joint.from < joint.to {
         let (from, to) = two(nodes, joint.from, joint.to);

@@ -4,7 +4,7 @@ ghost use Rattle.std.specs.Prelude.{◌≡◌, ◌<◌, length};
 ghost use Rattle.std.specs.Borrow.{sem, Lends};
 ghost use Rattle.sb_node.specs.Sides.{ring_side};
 ghost use Rattle.sb_port.specs.contracts.port.OutPort.{the_row as port_row};
-ghost use Rattle.sb_member.specs.Ends.{port_at, ports_of, ring_at, rings_of, with_port, with_ring};
+ghost use Rattle.sb_member.specs.Ends.{port_at, ports_of, ring_at, rings_of, member_with_port, member_with_ring};
 ghost use Rattle.sb_member.specs.contracts.member.Member.{the_row};
 
 use sb_device::Device;
@@ -56,7 +56,7 @@ impl<F: Fabric> Member<F> {
         requires within { place < length (ports_of self.old) }
         ensures value { result.now ≡ port_at self.old place }
         ensures* writes_back { sem 𝓛 (Lends (the_row F.row F.Tx.row F.Rx.row F.Fabric F.Tx.TxEnd F.Rx.RxEnd)
-            (port_row F.Tx.row F.Tx.TxEnd) self.entry result (λ port. with_port self.old place port)) }
+            (port_row F.Tx.row F.Tx.TxEnd) self.entry result (λ port. member_with_port self.old place port)) }
     {
         match self {
             Member::Host(host) => host.requests(),
@@ -70,7 +70,7 @@ impl<F: Fabric> Member<F> {
         requires within { place < length (rings_of self.old) }
         ensures value { ring_side F.Rx.RxEnd result.now ≡ ring_at self.old place }
         ensures* writes_back { sem 𝓛 (Lends (the_row F.row F.Tx.row F.Rx.row F.Fabric F.Tx.TxEnd F.Rx.RxEnd)
-            F.Rx.row self.entry result (λ end. with_ring self.old place (ring_side F.Rx.RxEnd end))) }
+            F.Rx.row self.entry result (λ end. member_with_ring self.old place (ring_side F.Rx.RxEnd end))) }
     {
         match self {
             Member::Host(host) => host.answers(),

@@ -15,7 +15,7 @@ use Rattle.sb_router.specs.Fresh.{fresh_inlet}
 use Rattle.sb_router.specs.Lanes.{InletState, no_port, no_ring}
 use Rattle.sb_router.specs.Routers.{IsWholeRouter, RouterSide, router_ports, router_rings}
 use Rattle.sb_member.specs.Members.{IsWholeMember}
-use Rattle.sb_member.specs.Joints.{IsJoined, IsPlaced, joint_at, receiver_of, sender_of}
+use Rattle.sb_member.specs.Joints.{IsJoined, IsRingPlaced, joint_at, receiver_of, sender_of}
 use Rattle.sb_member.specs.declared.member.Member.{Member}
 use Rattle.sb_member.specs.declared.member.Member.TheVariants.{Host, Router, Device}
 use Rattle.sb_tests.specs.Lines.{sample_joints}
@@ -73,7 +73,7 @@ module _ (r : RouterSide) (near_hear far_learn : RingSide) (far_ask near_answer 
     abbrev line : List (Member F T U)
     line = Host h ∷ Router r ∷ Device d ∷ []
 
-    placed : (n : ℕ) → n < 4 → IsPlaced line (joint_at sample_joints n)
+    placed : (n : ℕ) → n < 4 → IsRingPlaced line (joint_at sample_joints n)
     placed zero lt = record { from = lit< tt; to = lit< tt; apart = λ e. cc; out = lit< tt; into = ring_within 0 (lit< tt); marks = asks.marks ∙ sym (ap (λ (x : RingSide). x.mark) (ring_there 0)) }
     placed (suc zero) lt = record { from = lit< tt; to = lit< tt; apart = λ e. cc; out = port_within 1 (lit< tt); into = lit< tt; marks = ap (λ (x : PortSide). x.mark) (port_there 1) ∙ learns.marks }
     placed (suc (suc zero)) lt = record { from = lit< tt; to = lit< tt; apart = λ e. cc; out = port_within 0 (lit< tt); into = lit< tt; marks = ap (λ (x : PortSide). x.mark) (port_there 0) ∙ hears.marks }

@@ -1,6 +1,6 @@
 -- The two nodes in either order.
 use Rattle.std.proofs.Common.{subst}
-use Rattle.sb_member.specs.Joints.{HasHanded}
+use Rattle.sb_member.specs.Joints.{HasRingMet}
 use Rattle.sb_member.proofs.RingsHanded.{handed, set_swap}
 use Rattle.sb_member.proofs.joint.hand_ring.Goals as goal
 
@@ -16,7 +16,7 @@ returns-else-joint g c =
     let list = c.args.nodes.now in
     let h = c.hand_over-else-joint in
     record {
-      handed = subst (λ nodes. HasHanded g.F.Fabric.prompt j list nodes) (set_swap list j.from j.to h.new.from h.new.to c.requires.placed.apart)
+      handed = subst (λ nodes. HasRingMet g.F.Fabric.prompt j list nodes) (set_swap list j.from j.to h.new.from h.new.to c.requires.placed.apart)
           (handed g.F.Fabric.prompt list j c.two-to.result.1.now h.new.from c.two-to.result.0.now h.new.to
           c.requires.placed c.two-to.ensures.second c.two-to.ensures.first h.ensures.met);
     }
