@@ -16,7 +16,7 @@ use Rattle.sb_packet.specs.Ways.{is_aimed_at, is_some_number, aims_at, host_ways
 use Rattle.sb_packet.specs.declared.transaction.Txn.{Txn}
 use Rattle.sb_packet.proofs.Lists.{All-made, All-joined, filter_none}
 use Rattle.sb_packet.proofs.ReplyAddresses.{word_within}
-use Rattle.sb_net.specs.Flows.{is_of, is_same_flow, is_among, asked_of}
+use Rattle.sb_net.specs.Flows.{is_of, is_same_flow, is_among_flows, asked_of}
 use Rattle.sb_net.specs.NetworkLayouts.{flow_of, network_flows}
 use Rattle.sb_net.specs.Routed.{IsRouted}
 use Rattle.sb_net.proofs.FlowMembers.{and_parts, not_true, of_device, same_flow_from}
@@ -96,7 +96,7 @@ module _ (network : Network) where
 
   -- a host's way to a device that it aims at is one of the network's
   way_is_there : (h : ℕ) (x : NetHost) → h < length network.hosts → (d : ℕ) → aims_at network (get_or network.hosts h x) d ≡ true →
-      (let f : NetFlow = record { host = (get_or network.hosts h x).id; device = d } in is_among f (network_flows network) ≡ true)
+      (let f : NetFlow = record { host = (get_or network.hosts h x).id; device = d } in is_among_flows f (network_flows network) ≡ true)
   way_is_there h x inside d aims =
       let host = get_or network.hosts h x in
       let f : NetFlow = record { host = host.id; device = d } in
@@ -129,7 +129,7 @@ module _ (network : Network) where
     is : get_or network.hosts place host ≡ host
     transactions : All IsTransaction host.script
 
-  pub all_ways_law : IsRouted network → (f : NetFlow) → is_among f (network_flows network) ≡ false → asked_of network f ≡ []
+  pub all_ways_law : IsRouted network → (f : NetFlow) → is_among_flows f (network_flows network) ≡ false → asked_of network f ≡ []
   all_ways_law routed f none = by_found (find (λ h. h.id == f.host) network.hosts) refl
     where
       placed : All Placed network.hosts
@@ -145,4 +145,4 @@ module _ (network : Network) where
           (not_true (aims_at network host f.device) (λ aims.
           let there = way_is_there found.1.place host found.1.inside f.device (ap (λ (h : NetHost). aims_at network h f.device) found.1.is ∙ aims) in
           let id : (get_or network.hosts found.1.place host).id ≡ f.host = ap (λ (h : NetHost). h.id) found.1.is ∙ same in
-          let yes = subst (λ (n : ℕ). (let g : NetFlow = record { host = n; device = f.device } in is_among g (network_flows network) ≡ true)) id there in cc))))
+          let yes = subst (λ (n : ℕ). (let g : NetFlow = record { host = n; device = f.device } in is_among_flows g (network_flows network) ≡ true)) id there in cc))))

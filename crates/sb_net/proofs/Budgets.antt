@@ -5,7 +5,7 @@ use Rattle.std.proofs.lemmas.List.Elements.{All-filter, All-weaker}
 use Rattle.sb_packet.specs.Networks.{Network}
 use Rattle.sb_packet.specs.Plans.{NetFlow}
 use Rattle.sb_packet.proofs.Lists.{filter_none}
-use Rattle.sb_net.specs.Flows.{is_of, words_of, is_among}
+use Rattle.sb_net.specs.Flows.{is_of, words_of, is_among_flows}
 use Rattle.sb_net.specs.Moments.{Moment, arrived}
 use Rattle.sb_net.specs.Courses.{Course, goes_over, flows_over, budget_over, is_carried, came_for, CarriesItsFlows, IsOneWay}
 use Rattle.sb_net.proofs.Sums.{sum_by_le, sum_by_swap, sum_of_one}
@@ -14,14 +14,14 @@ use Rattle.sb_net.proofs.Counts.{flows_cover}
 
 module _ (network : Network) (c : Course) (m : Moment) where
   -- a ring has no words of a flow that is not one of its flows
-  pub none_of_others : (r : ℕ) (f : NetFlow) → CarriesItsFlows network c m r → is_among f (flows_over c r) ≡ false → words_of network f (arrived m r) ≡ []
+  pub none_of_others : (r : ℕ) (f : NetFlow) → CarriesItsFlows network c m r → is_among_flows f (flows_over c r) ≡ false → words_of network f (arrived m r) ≡ []
   none_of_others r f carried other = filter_none (is_of network f) (arrived m r)
       (All-weaker (λ a. is_carried network c r a ≡ true) (λ a. is_of network f a ≡ false)
       (λ a e. not_true (is_of network f a) (λ t. let yes = among_from network f a (flows_over c r) t e in cc)) (arrived m r) carried)
 
   -- nor of one that does not go over it
   pub none_besides : (r : ℕ) (f : NetFlow) → CarriesItsFlows network c m r → goes_over c r f ≡ false → words_of network f (arrived m r) ≡ []
-  none_besides r f carried besides = none_of_others r f carried (not_true (is_among f (flows_over c r)) (λ t. let over = among_passing (goes_over c r) f c.flows t in cc))
+  none_besides r f carried besides = none_of_others r f carried (not_true (is_among_flows f (flows_over c r)) (λ t. let over = among_passing (goes_over c r) f c.flows t in cc))
 
   -- a fact of a flow and a number of words of it by each ring that it goes over
   abbrev pub IsModest : NetFlow → Type 0

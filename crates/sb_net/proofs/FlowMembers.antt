@@ -9,7 +9,7 @@ use Rattle.sb_packet.specs.Accesses.{Access}
 use Rattle.sb_packet.specs.Networks.{Network, device_at}
 use Rattle.sb_packet.specs.Journals.{device_address}
 use Rattle.sb_packet.specs.Plans.{NetFlow}
-use Rattle.sb_net.specs.Flows.{is_of, is_same_flow, is_among}
+use Rattle.sb_net.specs.Flows.{is_of, is_same_flow, is_among_flows}
 
 pub not_true : (b : Bool) → (b ≡ true → ⊥) → b ≡ false
 not_true true never = absurd (never refl)
@@ -52,42 +52,42 @@ module _ (network : Network) where
       same_flow_from f g (sym (of_host f a p) ∙ of_host g a q) (one_number (device_at network (device_address a)) f.device g.device (of_device f a p) (of_device g a q))
 
   -- a word of f that is of one of some flows: f is among them
-  pub among_from : (f : NetFlow) (a : Access) (fs : List NetFlow) → is_of network f a ≡ true → list_any (λ g. is_of network g a) fs ≡ true → is_among f fs ≡ true
+  pub among_from : (f : NetFlow) (a : Access) (fs : List NetFlow) → is_of network f a ≡ true → list_any (λ g. is_of network g a) fs ≡ true → is_among_flows f fs ≡ true
   among_from f a [] p e = e
   among_from f a (g ∷ fs) p e = by_test (is_of network g a) refl (among_from f a fs p) e
     where
-      by_test : (b : Bool) → is_of network g a ≡ b → (list_any (λ h. is_of network h a) fs ≡ true → is_among f fs ≡ true) → (b || list_any (λ h. is_of network h a) fs) ≡ true →
-          (is_same_flow f g || is_among f fs) ≡ true
+      by_test : (b : Bool) → is_of network g a ≡ b → (list_any (λ h. is_of network h a) fs ≡ true → is_among_flows f fs ≡ true) → (b || list_any (λ h. is_of network h a) fs) ≡ true →
+          (is_same_flow f g || is_among_flows f fs) ≡ true
       by_test true t later k = rw (one_flow f g a p t) refl
-      by_test false t later k = elim (is_same_flow f g) as (λ b. (b || is_among f fs) ≡ true) [ true ↦ refl | false ↦ later k ]
+      by_test false t later k = elim (is_same_flow f g) as (λ b. (b || is_among_flows f fs) ≡ true) [ true ↦ refl | false ↦ later k ]
 
   -- one of some flows that a word is of
-  pub some_flow : (a : Access) (fs : List NetFlow) → list_any (λ g. is_of network g a) fs ≡ true → (f : NetFlow) × (is_among f fs ≡ true) × (is_of network f a ≡ true)
+  pub some_flow : (a : Access) (fs : List NetFlow) → list_any (λ g. is_of network g a) fs ≡ true → (f : NetFlow) × (is_among_flows f fs ≡ true) × (is_of network f a ≡ true)
   some_flow a [] e = absurd (let never : false ≡ true = e in cc)
   some_flow a (g ∷ fs) e = by_test (is_of network g a) refl (some_flow a fs) e
     where
-      by_test : (b : Bool) → is_of network g a ≡ b → (list_any (λ h. is_of network h a) fs ≡ true → (f : NetFlow) × (is_among f fs ≡ true) × (is_of network f a ≡ true)) →
-          (b || list_any (λ h. is_of network h a) fs) ≡ true → (f : NetFlow) × (is_among f (g ∷ fs) ≡ true) × (is_of network f a ≡ true)
+      by_test : (b : Bool) → is_of network g a ≡ b → (list_any (λ h. is_of network h a) fs ≡ true → (f : NetFlow) × (is_among_flows f fs ≡ true) × (is_of network f a ≡ true)) →
+          (b || list_any (λ h. is_of network h a) fs) ≡ true → (f : NetFlow) × (is_among_flows f (g ∷ fs) ≡ true) × (is_of network f a ≡ true)
       by_test true t later k = (g, rw (same_flow_from g g refl (grind (arith, nat_tests))) refl, t)
       by_test false t later k =
           let rest = later k in
-          (rest.0, elim (is_same_flow rest.0 g) as (λ b. (b || is_among rest.0 fs) ≡ true) [ true ↦ refl | false ↦ rest.1 ], rest.2)
+          (rest.0, elim (is_same_flow rest.0 g) as (λ b. (b || is_among_flows rest.0 fs) ≡ true) [ true ↦ refl | false ↦ rest.1 ], rest.2)
 
 -- a fact of each of some flows holds of one that is among them
-pub at_flow : (P : NetFlow → Type 0) (f : NetFlow) (fs : List NetFlow) → All P fs → is_among f fs ≡ true → P f
+pub at_flow : (P : NetFlow → Type 0) (f : NetFlow) (fs : List NetFlow) → All P fs → is_among_flows f fs ≡ true → P f
 at_flow P f [] h e = absurd (let never : false ≡ true = e in cc)
 at_flow P f (g ∷ fs) h e = by_test (is_same_flow f g) refl (at_flow P f fs (All-tail P g fs h)) e
   where
-    by_test : (b : Bool) → is_same_flow f g ≡ b → (is_among f fs ≡ true → P f) → (b || is_among f fs) ≡ true → P f
+    by_test : (b : Bool) → is_same_flow f g ≡ b → (is_among_flows f fs ≡ true → P f) → (b || is_among_flows f fs) ≡ true → P f
     by_test true t later k = subst P (same_flow f g t) (All-head P g fs h)
     by_test false t later k = later k
 
 -- a flow among those that pass a test passes it, and is among all
-pub among_passing : (test : NetFlow → Bool) (f : NetFlow) (fs : List NetFlow) → is_among f (filter test fs) ≡ true → test f ≡ true
+pub among_passing : (test : NetFlow → Bool) (f : NetFlow) (fs : List NetFlow) → is_among_flows f (filter test fs) ≡ true → test f ≡ true
 among_passing test f fs e = at_flow (λ g. test g ≡ true) f (filter test fs) (filter_passes test fs) e
 
-pub among_all : (test : NetFlow → Bool) (f : NetFlow) (fs : List NetFlow) → is_among f (filter test fs) ≡ true → is_among f fs ≡ true
-among_all test f fs e = at_flow (λ g. is_among g fs ≡ true) f (filter test fs) (All-filter test (λ g. is_among g fs ≡ true) fs (all_among fs)) e
+pub among_all : (test : NetFlow → Bool) (f : NetFlow) (fs : List NetFlow) → is_among_flows f (filter test fs) ≡ true → is_among_flows f fs ≡ true
+among_all test f fs e = at_flow (λ g. is_among_flows g fs ≡ true) f (filter test fs) (All-filter test (λ g. is_among_flows g fs ≡ true) fs (all_among fs)) e
   where
     itself : (g : NetFlow) → is_same_flow g g ≡ true
     itself g = same_flow_from g g refl (grind (arith, nat_tests))
@@ -96,7 +96,7 @@ among_all test f fs e = at_flow (λ g. is_among g fs ≡ true) f (filter test fs
     or_right true b h = refl
     or_right false b h = h
 
-    all_among : (gs : List NetFlow) → All (λ g. is_among g gs ≡ true) gs
+    all_among : (gs : List NetFlow) → All (λ g. is_among_flows g gs ≡ true) gs
     all_among [] k d below = absurd (omega arith)
     all_among (h ∷ gs) zero d below = rw (itself h) refl
-    all_among (h ∷ gs) (suc k) d below = or_right (is_same_flow _ h) (is_among _ gs) (all_among gs k d (omega arith))
+    all_among (h ∷ gs) (suc k) d below = or_right (is_same_flow _ h) (is_among_flows _ gs) (all_among gs k d (omega arith))

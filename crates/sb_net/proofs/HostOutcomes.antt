@@ -28,7 +28,7 @@ use Rattle.sb_host.specs.Asked.{Asked, asked_by, line_in}
 use Rattle.sb_host.specs.Hosts.{HostSide, IsWholeHost}
 use Rattle.sb_host.specs.Outcomes.{answer_so_far, first_answer, is_answer_to, line_outcome, outcome_so_far, outcomes_so_far}
 use Rattle.sb_node.specs.Sides.{received_words}
-use Rattle.sb_net.specs.Flows.{asked_of, is_among, is_of}
+use Rattle.sb_net.specs.Flows.{asked_of, is_among_flows, is_of}
 use Rattle.sb_net.specs.HostSides.{IsHostOf}
 use Rattle.sb_net.specs.Layouts.{IsLayout, Layout, ring_home}
 use Rattle.sb_net.specs.Moments.{Moment, arrived}
@@ -103,7 +103,7 @@ module _ (network : Network) (layout : Layout) (journal : List Entry) (m : Momen
     pub memory : MemoryState
     pub given : access_reply network journal a ≡ access_answer memory a
 
-  flow_found : (f : NetFlow) → f.host ≡ host.id → is_among f layout.requests.flows ≡ true → All IsFound (asked_of network f)
+  flow_found : (f : NetFlow) → f.host ≡ host.id → is_among_flows f layout.requests.flows ≡ true → All IsFound (asked_of network f)
   flow_found f mine among i d below =
       let word = get_or (asked_of network f) i d in
       let there = at_flow (λ g. g.device < length network.devices) f layout.requests.flows laid.devices among in
@@ -125,9 +125,9 @@ module _ (network : Network) (layout : Layout) (journal : List Entry) (m : Momen
   flow_to d = record { host = host.id; device = d }
 
   device_found : (d : ℕ) → All IsFound (asked_of network (flow_to d))
-  device_found d = by_test (is_among (flow_to d) layout.requests.flows) refl
+  device_found d = by_test (is_among_flows (flow_to d) layout.requests.flows) refl
     where
-      by_test : (b : Bool) → is_among (flow_to d) layout.requests.flows ≡ b → All IsFound (asked_of network (flow_to d))
+      by_test : (b : Bool) → is_among_flows (flow_to d) layout.requests.flows ≡ b → All IsFound (asked_of network (flow_to d))
       by_test true e = flow_found (flow_to d) refl e
       by_test false e = subst (All IsFound) (sym (laid.all_flows (flow_to d) e)) (All-nil IsFound)
 

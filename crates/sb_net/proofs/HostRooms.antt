@@ -16,7 +16,7 @@ use Rattle.sb_packet.specs.Ways.{network_ways}
 use Rattle.sb_packet.proofs.Lists.{All-joined, All-kept, All-made, filter_all, filter_none}
 use Rattle.sb_host.specs.Asked.{asked_accesses, asked_by}
 use Rattle.sb_net.specs.Courses.{flows_over, goes_over}
-use Rattle.sb_net.specs.Flows.{aimed_script, asked_of, is_among, is_of, is_same_flow, script_of, words_of}
+use Rattle.sb_net.specs.Flows.{aimed_script, asked_of, is_among_flows, is_of, is_same_flow, script_of, words_of}
 use Rattle.sb_net.specs.NetworkLayouts.{flow_of, network_flows, network_requests, request_ring}
 use Rattle.sb_net.specs.Routed.{IsRouted}
 use Rattle.sb_net.proofs.CarriedRings.{request_budget}
@@ -40,7 +40,7 @@ same_number : (n : ℕ) → (n == n) ≡ true
 same_number n = grind (arith, nat_tests)
 
 -- a word of a flow that is among others which pass a test is of one that passes
-some_passing : (network : Network) (q : NetFlow → Bool) (f : NetFlow) (a : Access) (fs : List NetFlow) → is_of network f a ≡ true → All (λ g. g.host ≡ f.host → q g ≡ true) fs → is_among f fs ≡ true → is_of_some network (filter q fs) a ≡ true
+some_passing : (network : Network) (q : NetFlow → Bool) (f : NetFlow) (a : Access) (fs : List NetFlow) → is_of network f a ≡ true → All (λ g. g.host ≡ f.host → q g ≡ true) fs → is_among_flows f fs ≡ true → is_of_some network (filter q fs) a ≡ true
 some_passing network q f a [] p all e = absurd (let never : false ≡ true = e in cc)
 some_passing network q f a (g ∷ fs) p all e = by_test (is_same_flow f g) refl e (some_passing network q f a fs p (All-tail (λ g. g.host ≡ f.host → q g ≡ true) g fs all))
   where
@@ -48,7 +48,7 @@ some_passing network q f a (g ∷ fs) p all e = by_test (is_same_flow f g) refl 
     later_one true e = or_right (is_of network g a) (is_of_some network (filter q fs) a) e
     later_one false e = e
 
-    by_test : (b : Bool) → is_same_flow f g ≡ b → (b || is_among f fs) ≡ true → (is_among f fs ≡ true → is_of_some network (filter q fs) a ≡ true) → is_of_some network (filter q (g ∷ fs)) a ≡ true
+    by_test : (b : Bool) → is_same_flow f g ≡ b → (b || is_among_flows f fs) ≡ true → (is_among_flows f fs ≡ true → is_of_some network (filter q fs) a ≡ true) → is_of_some network (filter q (g ∷ fs)) a ≡ true
     by_test true t e later =
         let same : g ≡ f = same_flow f g t in
         ap (λ (b : Bool). is_of_some network (cond b (g ∷ filter q fs) (filter q fs)) a) (All-head (λ g. g.host ≡ f.host → q g ≡ true) g fs all (ap (λ (x : NetFlow). x.host) same))
@@ -99,7 +99,7 @@ module _ (network : Network) (routed : IsRouted network) (place : ℕ) (host : N
 
       by_place : (o : Option ℕ) → device_at network (get_or (script_accesses host) i d).dst ≡ o → option_map_or (λ d. true) o false ≡ true → is_of_some network carried (get_or (script_accesses host) i d) ≡ true
       by_place None e never = absurd (cc)
-      by_place (Some k) e there = some_passing network (goes_over (network_requests network) ring) f a (network_flows network) of_f goes_by_ring (among (is_among f (network_flows network)) refl)
+      by_place (Some k) e there = some_passing network (goes_over (network_requests network) ring) f a (network_flows network) of_f goes_by_ring (among (is_among_flows f (network_flows network)) refl)
         where
           a : Access
           a = get_or (script_accesses host) i d
@@ -114,7 +114,7 @@ module _ (network : Network) (routed : IsRouted network) (place : ℕ) (host : N
           of_f = both (a.host == host.id) (is_at network k a) (ap (λ (n : ℕ). n == host.id) (own_words i d below) ∙ same_number host.id)
               (ap (λ (b : Bool). option_map_or (λ n. n == k) (device_at network (cond b a.dst a.src)) false) asks ∙ ap (λ (o : Option ℕ). option_map_or (λ n. n == k) o false) e ∙ same_number k)
 
-          among : (b : Bool) → is_among f (network_flows network) ≡ b → is_among f (network_flows network) ≡ true
+          among : (b : Bool) → is_among_flows f (network_flows network) ≡ b → is_among_flows f (network_flows network) ≡ true
           among true t = t
           among false t = absurd (All-kept (is_of network f) (λ x. ⊥) (script_accesses host)
               (subst (λ (l : List Access). All (λ x. ⊥) (filter (is_of network f) l)) own_script (subst (All (λ x. ⊥)) (sym ((laid_out network (ways_of_routed network routed)).all_flows f t)) (All-nil (λ (x : Access). ⊥)))) i d below of_f)

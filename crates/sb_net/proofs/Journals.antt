@@ -13,7 +13,7 @@ use Rattle.sb_packet.specs.Plans.{NetFlow}
 use Rattle.sb_packet.specs.declared.entry.Entry.{Entry}
 use Rattle.sb_packet.proofs.Lists.{filter_none, All-kept, AllPairs-kept}
 use Rattle.sb_packet.specs.Prefixes.{IsPrefix}
-use Rattle.sb_net.specs.Flows.{is_of, words_of, is_among, script_of, aimed_script, asked_of}
+use Rattle.sb_net.specs.Flows.{is_of, words_of, is_among_flows, script_of, aimed_script, asked_of}
 use Rattle.sb_net.specs.Moments.{Moment, arrived}
 use Rattle.sb_net.specs.Courses.{way_of, goes_over, flows_over, is_carried}
 use Rattle.sb_net.specs.Promises.{Offers, KeepsPromises}
@@ -98,7 +98,7 @@ module _ (network : Network) (layout : Layout) (journal : List Entry) (m : Momen
   }
 
   -- what is no flow has no words at its device
-  no_words : (f : NetFlow) → is_among f layout.requests.flows ≡ false → words_of network f (journal_accesses journal f.device) ≡ []
+  no_words : (f : NetFlow) → is_among_flows f layout.requests.flows ≡ false → words_of network f (journal_accesses journal f.device) ≡ []
   no_words f none = by_device (cases_lt f.device (length network.devices))
     where
       by_device : (f.device < length network.devices) ⊎ (length network.devices ≤ f.device) → words_of network f (journal_accesses journal f.device) ≡ []
@@ -106,7 +106,7 @@ module _ (network : Network) (layout : Layout) (journal : List Entry) (m : Momen
           let ring = layout.into f.device in
           ap (words_of network f) (now.recorded f.device inside)
           ∙ none_of_others network layout.requests m ring f (now.carried ring (laid.into_has f.device inside))
-          (not_true (is_among f (flows_over layout.requests ring)) (λ e. let some = among_all (goes_over layout.requests ring) f layout.requests.flows e in cc))
+          (not_true (is_among_flows f (flows_over layout.requests ring)) (λ e. let some = among_all (goes_over layout.requests ring) f layout.requests.flows e in cc))
       by_device (inr beyond) = no_device network f (journal_accesses journal f.device) beyond
 
   -- a fact of what came by the ring into its device is one of the journal
@@ -120,9 +120,9 @@ module _ (network : Network) (layout : Layout) (journal : List Entry) (m : Momen
   -- the journal's part of each flow, where the flows have it, and where there is no such flow
   pub each_flow : (P : NetFlow → List Access → Type 0) → ((f : NetFlow) → asked_of network f ≡ [] → P f []) → All (λ f. P f (words_of network f (journal_accesses journal f.device))) layout.requests.flows →
       (f : NetFlow) → P f (words_of network f (journal_accesses journal f.device))
-  each_flow P none all f = by_test (is_among f layout.requests.flows) refl
+  each_flow P none all f = by_test (is_among_flows f layout.requests.flows) refl
     where
-      by_test : (b : Bool) → is_among f layout.requests.flows ≡ b → P f (words_of network f (journal_accesses journal f.device))
+      by_test : (b : Bool) → is_among_flows f layout.requests.flows ≡ b → P f (words_of network f (journal_accesses journal f.device))
       by_test true t = at_flow (λ g. P g (words_of network g (journal_accesses journal g.device))) f layout.requests.flows all t
       by_test false t = rw (no_words f t) (none f (laid.all_flows f t))
 

@@ -15,7 +15,7 @@ use Rattle.sb_packet.specs.Ways.{NetWay}
 use Rattle.sb_packet.specs.Rings.{network_ranges, ring_flows, ring_ways}
 use Rattle.sb_packet.proofs.Lists.{All-made}
 use Rattle.sb_packet.proofs.ReplyAddresses.{word_within}
-use Rattle.sb_net.specs.Flows.{is_of, is_among, is_same_flow}
+use Rattle.sb_net.specs.Flows.{is_of, is_among_flows, is_same_flow}
 use Rattle.sb_net.specs.NetworkLayouts.{flow_of}
 use Rattle.sb_net.specs.Routed.{IsRouted}
 use Rattle.sb_net.proofs.CarriedRings.{list_any-map}
@@ -80,10 +80,10 @@ module _ (network : Network) (routed : IsRouted network) where
       by_home false e = absurd (cc)
 
 -- a flow that goes over a ring by its plan is that of one of the ring's ways
-pub flow_through : (network : Network) (ring : ℕ) (ws : List NetWay) (fs : List NetFlow) (f : NetFlow) → ring_ways network ring ≡ ws → fs ≡ map flow_of ws → goes_through (ring_flows network ring) f ≡ true → is_among f fs ≡ true
+pub flow_through : (network : Network) (ring : ℕ) (ws : List NetWay) (fs : List NetFlow) (f : NetFlow) → ring_ways network ring ≡ ws → fs ≡ map flow_of ws → goes_through (ring_flows network ring) f ≡ true → is_among_flows f fs ≡ true
 flow_through network ring ws fs f same flows through =
     let there = in_table (ring_ways network ring) f through in
-    ap (is_among f) flows ∙ list_any-map (is_same_flow f) flow_of ws
+    ap (is_among_flows f) flows ∙ list_any-map (is_same_flow f) flow_of ws
     ∙ any_weaker (λ way. (way.host.id == f.host) && (way.device == f.device)) (λ way. is_same_flow f (flow_of way))
     (λ way e. let parts = and_parts (way.host.id == f.host) (way.device == f.device) e in
     let host_test = parts.0 in
@@ -94,10 +94,10 @@ flow_through network ring ws fs f same flows through =
     (subst (λ (l : List NetWay). list_any (λ way. (way.host.id == f.host) && (way.device == f.device)) l ≡ true) same there)
 
 -- a word of a flow is a word of some flows that it is among
-pub of_some : (network : Network) (g : NetFlow) (a : Access) (fs : List NetFlow) → is_of network g a ≡ true → is_among g fs ≡ true → list_any (λ f. is_of network f a) fs ≡ true
+pub of_some : (network : Network) (g : NetFlow) (a : Access) (fs : List NetFlow) → is_of network g a ≡ true → is_among_flows g fs ≡ true → list_any (λ f. is_of network f a) fs ≡ true
 of_some network g a [] t e = e
 of_some network g a (h ∷ fs) t e = by_test (is_same_flow g h) refl e (of_some network g a fs t)
   where
-    by_test : (b : Bool) → is_same_flow g h ≡ b → (b || is_among g fs) ≡ true → (is_among g fs ≡ true → list_any (λ f. is_of network f a) fs ≡ true) → (is_of network h a || list_any (λ f. is_of network f a) fs) ≡ true
+    by_test : (b : Bool) → is_same_flow g h ≡ b → (b || is_among_flows g fs) ≡ true → (is_among_flows g fs ≡ true → list_any (λ f. is_of network f a) fs ≡ true) → (is_of network h a || list_any (λ f. is_of network f a) fs) ≡ true
     by_test true same k later = or_left (is_of network h a) (list_any (λ f. is_of network f a) fs) (ap (λ (f : NetFlow). is_of network f a) (same_flow g h same) ∙ t)
     by_test false same k later = or_right (is_of network h a) (list_any (λ f. is_of network f a) fs) (later k)

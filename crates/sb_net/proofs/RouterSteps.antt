@@ -15,7 +15,7 @@ use Rattle.sb_router.specs.Lanes.{InletState, inlet_at, no_inlet, no_port, outle
 use Rattle.sb_router.specs.RouteOf.{route_of}
 use Rattle.sb_router.specs.Routers.{DirectionSide, ForwardsAll}
 use Rattle.sb_net.specs.Courses.{Course}
-use Rattle.sb_net.specs.Flows.{is_among, is_same_flow}
+use Rattle.sb_net.specs.Flows.{is_among_flows, is_same_flow}
 use Rattle.sb_net.specs.Moments.{Moment}
 use Rattle.sb_net.specs.NetworkLayouts.{flow_of}
 use Rattle.sb_net.specs.Promises.{Forwards}
@@ -42,7 +42,7 @@ passing_number test n k below t =
     any_passing (λ i. i == k) test (range_with_len 0 n) k 0 (omega (arith, below, length-range_with_len 0 n)) (ap test at ∙ t) (ap (λ (i : ℕ). i == k) at ∙ same)
 
 -- a flow that passes a test is among those of its list that do
-pub among_kept : (test : NetFlow → Bool) (fs : List NetFlow) (i : ℕ) (d : NetFlow) → i < length fs → test (get_or fs i d) ≡ true → is_among (get_or fs i d) (filter test fs) ≡ true
+pub among_kept : (test : NetFlow → Bool) (fs : List NetFlow) (i : ℕ) (d : NetFlow) → i < length fs → test (get_or fs i d) ≡ true → is_among_flows (get_or fs i d) (filter test fs) ≡ true
 among_kept test fs i d below t =
     let f = get_or fs i d in
     any_passing (is_same_flow f) test fs i d below t (same_flow_from f f refl (grind (arith, nat_tests)))
@@ -57,9 +57,9 @@ through_way network ring ws f same host device some =
     ∙ table_at (λ d. list_any (λ way. (way.host.id == f.host) && (way.device == d)) ways) 32 f.device false device
     ∙ ap (list_any (λ way. (way.host.id == f.host) && (way.device == f.device))) same ∙ some
 
-pub through_flow : (network : Network) (ring : ℕ) (ws : List NetWay) (fs : List NetFlow) (f : NetFlow) → ring_ways network ring ≡ ws → fs ≡ map flow_of ws → f.host < 32 → f.device < 32 → is_among f fs ≡ true → goes_through (ring_flows network ring) f ≡ true
+pub through_flow : (network : Network) (ring : ℕ) (ws : List NetWay) (fs : List NetFlow) (f : NetFlow) → ring_ways network ring ≡ ws → fs ≡ map flow_of ws → f.host < 32 → f.device < 32 → is_among_flows f fs ≡ true → goes_through (ring_flows network ring) f ≡ true
 through_flow network ring ws fs f same flows host device among =
-    let there : list_any (λ way. is_same_flow f (flow_of way)) ws ≡ true = sym (list_any-map (is_same_flow f) flow_of ws) ∙ ap (is_among f) (sym flows) ∙ among in
+    let there : list_any (λ way. is_same_flow f (flow_of way)) ws ≡ true = sym (list_any-map (is_same_flow f) flow_of ws) ∙ ap (is_among_flows f) (sym flows) ∙ among in
     through_way network ring ws f same host device
     (any_weaker (λ way. is_same_flow f (flow_of way)) (λ way. (way.host.id == f.host) && (way.device == f.device))
     (λ way e. let parts = and_parts (f.host == way.host.id) (f.device == way.device) e in

@@ -7,7 +7,7 @@ use Rattle.sb_packet.specs.Plans.{NetFlow}
 use Rattle.sb_packet.specs.Traffic.{item_accesses}
 use Rattle.sb_packet.specs.declared.entry.Entry.{Entry}
 use Rattle.sb_packet.specs.Rings.{is_answered}
-use Rattle.sb_net.specs.Flows.{words_of, is_among}
+use Rattle.sb_net.specs.Flows.{words_of, is_among_flows}
 use Rattle.sb_net.specs.Moments.{Moment, arrived}
 use Rattle.sb_net.specs.Courses.{way_of}
 use Rattle.sb_net.specs.Layouts.{Layout, ring_home}
@@ -56,7 +56,7 @@ pub record IsWithin (stages : Stages) (layout : Layout) (f : NetFlow) : Type 0 w
 pub record MissesAnswer (network : Network) (layout : Layout) (m : Moment) (r : ℕ) : Type 0 where
   pub flow : NetFlow
   pub word : Access
-  pub is_flow : is_among flow layout.requests.flows ≡ true
+  pub is_flow : is_among_flows flow layout.requests.flows ≡ true
   pub leaves : layout.requests.first flow ≡ r
   pub offered : Contains (words_of network flow (m.offered r)) word
   pub answered : is_answered word.op ≡ true

@@ -24,8 +24,8 @@ abbrev pub is_same_flow : NetFlow → NetFlow → Bool
 is_same_flow f g = (f.host == g.host) && (f.device == g.device)
 
 -- a flow is one of these
-abbrev pub is_among : NetFlow → List NetFlow → Bool
-is_among f flows = list_any (is_same_flow f) flows
+abbrev pub is_among_flows : NetFlow → List NetFlow → Bool
+is_among_flows f flows = list_any (is_same_flow f) flows
 
 -- the words of the script of the host with that id
 abbrev pub script_of : Network → ℕ → List Access

@@ -4,7 +4,7 @@ use Rattle.std.specs.Option.{option_map_or}
 use Rattle.sb_packet.specs.Networks.{Network, leads_to}
 use Rattle.sb_packet.specs.Plans.{NetFlow}
 use Rattle.sb_packet.specs.Ways.{network_ways, flow_links, router_before, router_after}
-use Rattle.sb_net.specs.Flows.{is_among, asked_of}
+use Rattle.sb_net.specs.Flows.{is_among_flows, asked_of}
 use Rattle.sb_net.specs.Layouts.{HasScripts}
 use Rattle.sb_net.specs.NetworkLayouts.{flow_of, network_flows}
 
@@ -35,7 +35,7 @@ pub record HasWays (network : Network) : Type 0 where
   pub hosts : All (λ way. Contains network.hosts way.host) (network_ways network)
   pub devices : All (λ way. way.device < length network.devices) (network_ways network)
   -- no host asks a device for anything where there is no way
-  pub all_ways : (f : NetFlow) → is_among f (network_flows network) ≡ false → asked_of network f ≡ []
+  pub all_ways : (f : NetFlow) → is_among_flows f (network_flows network) ≡ false → asked_of network f ≡ []
   -- one link leads to each device
   pub linked : (d : ℕ) → d < length network.devices → (k : ℕ) × (k < length network.links) × (is_link_to network d k ≡ true)
   pub one_link : (d j k : ℕ) → is_link_to network d j ≡ true → is_link_to network d k ≡ true → j ≡ k
