@@ -1,5 +1,5 @@
 -- What the code holds of a bundle's text: as its fields are read, and with its numbers narrowed once they are known to be in range.
-use Rattle.std.specs.Prelude.{List, map, option_map}
+use Rattle.std.specs.Prelude.{map, option_map}
 use Rattle.sb_fields.specs.Written.{WrittenBundle, WrittenDevice, WrittenHost, WrittenLink, WrittenRoute, WrittenRouter}
 use Rattle.sb_fields.specs.declared.texts.HostText.{HostText}
 use Rattle.sb_fields.specs.declared.texts.RouteText.{RouteText}

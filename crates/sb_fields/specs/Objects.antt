@@ -1,5 +1,5 @@
 -- The objects of a bundle, field by field: the first field that is missing or of another kind, and behind the known ones the least unknown.
-use Rattle.std.specs.Prelude.{ℕ, Bool, false, List, [], ◌∷◌, codes, Option, unwrap_or, Result, Ok}
+use Rattle.std.specs.Prelude.{ℕ, false, List, [], ◌∷◌, codes, unwrap_or, Result, Ok}
 use Rattle.serde_json.specs.Data.{Data}
 use Rattle.serde_json.specs.Find.{as_bool, as_str}
 use Rattle.sb_text.specs.Faults.{◌>>=◌}

@@ -1,8 +1,7 @@
 -- The ways of a host, one device after another.
 use Rattle.std.proofs.Common.{◌≡◌, ◌<◌, ℕ, ◌+◌, ◌-◌, Bool, true, false, List, length, get_or, map, refl, ap, sym, ◌∙◌, arith, Option, Some, None}
-use Rattle.std.specs.Prelude.{filter, if◌then◌else◌}
+use Rattle.std.specs.Prelude.{filter}
 use Rattle.std.specs.List.{list_any, range_with_len}
-use Rattle.std.specs.Option.{option_or}
 use Rattle.std.proofs.lemmas.List.{get_or-map, length-map}
 use Rattle.sb_packet.specs.Networks.{NetHost, Network, has_address}
 use Rattle.sb_packet.specs.Ways.{aims_at}

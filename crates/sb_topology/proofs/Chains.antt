@@ -2,7 +2,7 @@
 use Rattle.std.proofs.Common.{◌≡◌, ℕ, ◌+◌, Bool, true, false, List, [], ◌∷◌, refl, Option, Some, None, Result, Ok, Err}
 use Rattle.std.specs.List.{list_all}
 use Rattle.sb_text.specs.Faults.{◌>>=◌, some_or, unless}
-use Rattle.sb_fields.specs.Counts.{each_item, in_range, list_counts}
+use Rattle.sb_fields.specs.Counts.{each_item, in_range}
 use Rattle.sb_fields.specs.Paths.{item_of}
 use Rattle.sb_fields.specs.declared.fault.LoadFault.{LoadFault}
 use Rattle.sb_flow.specs.Limits.{is_from_to}

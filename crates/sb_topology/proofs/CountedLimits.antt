@@ -1,12 +1,11 @@
 -- Where no number is out of its range, what is written keeps the limits.
-use Rattle.std.proofs.Common.{◌≡◌, ℕ, ◌+◌, Bool, true, ◌&&◌, List, [], codes, length, refl, arith, Result, Ok}
+use Rattle.std.proofs.Common.{◌≡◌, ℕ, Bool, true, ◌&&◌, List, [], codes, length, refl, Result, Ok}
 use Rattle.std.specs.Prelude.{nat_le}
 use Rattle.std.specs.List.{list_all}
 use Rattle.std.proofs.lemmas.Bool.{and_parts}
 use Rattle.sb_text.specs.Faults.{◌>>=◌}
 use Rattle.sb_flow.specs.Limits.{is_from_to}
 use Rattle.sb_fields.specs.Counts.{all_pages, bundle_counts, device_counts, devices_counts, each_item, host_counts, in_range, link_counts, list_counts, router_counts}
-use Rattle.sb_fields.specs.Paths.{item_of}
 use Rattle.sb_fields.specs.Written.{WrittenBundle, WrittenDevice, WrittenHost, WrittenLink, WrittenRouter}
 use Rattle.sb_fields.specs.declared.fault.LoadFault.{LoadFault}
 use Rattle.sb_topology.proofs.Chains.{bind_ok, each_item_all, in_range_true}

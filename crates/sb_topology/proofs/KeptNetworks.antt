@@ -1,17 +1,16 @@
 -- What the loader accepts keeps all facts of a bundle.
-use Rattle.std.proofs.Common.{◌≡◌, ◌≤◌, ℕ, ◌+◌, Bool, true, ◌&&◌, ◌==◌, List, [], ◌∷◌, ◌++◌, codes, length, map, bytes_eq, refl, ap, sym, subst, ◌∙◌, arith, append_assoc, Option, Some, None, Result, Ok}
+use Rattle.std.proofs.Common.{◌≡◌, ◌≤◌, ℕ, Bool, true, ◌&&◌, ◌==◌, List, [], ◌∷◌, ◌++◌, codes, length, map, bytes_eq, refl, ap, sym, subst, ◌∙◌, append_assoc, Option, Some, None, Result, Ok}
 use Rattle.std.specs.Prelude.{nat_le, nat_lt, option_map, sum_by}
-use Rattle.std.specs.List.{list_all, position_from}
-use Rattle.std.specs.Option.{option_map_or, option_or}
+use Rattle.std.specs.List.{list_all}
+use Rattle.std.specs.Option.{option_map_or}
 use Rattle.std.proofs.lemmas.Bool.{leb-true}
 use Rattle.std.proofs.lemmas.List.{length-map}
-use Rattle.std.proofs.lemmas.List.Folds.{list_all-map}
-use Rattle.sb_packet.specs.Networks.{NetDevice, NetHost, NetLink, NetPlace, NetRouter, Network, at_device, at_host, at_router}
+use Rattle.sb_packet.specs.Networks.{NetDevice, NetHost, NetLink, NetPlace, Network, at_device, at_host, at_router}
 use Rattle.sb_text.specs.Faults.{◌>>=◌, some_or, unless}
 use Rattle.sb_flow.specs.Ends.{backward_link, odd_width, unfit_link, unlinked_place}
 use Rattle.sb_flow.specs.Firsts.{Clash, clash_behind, first_clash}
 use Rattle.sb_flow.specs.Limits.{is_from_to, is_limited, is_limited_device, is_limited_host, is_limited_link, is_limited_router, word_count}
-use Rattle.sb_flow.specs.Names.{is_link_there, is_there, names_what_is_there, repeated_id, repeated_link_name, repeated_name}
+use Rattle.sb_flow.specs.Names.{is_there, names_what_is_there, repeated_id, repeated_link_name, repeated_name}
 use Rattle.sb_flow.specs.Ranges.{misplaced_device, overfull_device, overlapping_device}
 use Rattle.sb_flow.specs.Routes.{RouteAt, route_fault}
 use Rattle.sb_flow.proofs.Maps.{position_of_map, sum_by_map}
@@ -25,7 +24,7 @@ use Rattle.sb_topology.specs.Lines.{hosts_by}
 use Rattle.sb_topology.specs.Names.{GivenNames, links_by, names_by, names_of, place_among, routers_by, wire_named}
 use Rattle.sb_topology.specs.Places.{named_network, placed_device, placed_router, silent_host}
 use Rattle.sb_topology.specs.Tests.{devices_tested, image_length, links_tested, place_at, scripts_tested, unless_found}
-use Rattle.sb_topology.proofs.Chains.{bind_ok, some_or_Some, unless_found_None, unless_true}
+use Rattle.sb_topology.proofs.Chains.{bind_ok, unless_found_None, unless_true}
 use Rattle.sb_topology.proofs.CountedLimits.{Fits, counts_fit, device_fits, router_fits}
 use Rattle.sb_topology.proofs.NewLinks.{LinkedBehind, has_ends, is_placed, links_by_then}
 use Rattle.sb_topology.proofs.NewNames.{clash_append, names_by_new, place_below, routers_by_new, routes_there}

@@ -1,6 +1,6 @@
 -- Ways, link by link, and the devices that a host aims at, one by one.
-use Rattle.std.proofs.Common.{◌≡◌, ◌<◌, ◌≤◌, ℕ, zero, suc, ◌+◌, ◌-◌, Bool, true, false, List, [], ◌∷◌, length, get_or, refl, ap, sym, ◌∙◌, arith, Option, Some, None}
-use Rattle.std.specs.Prelude.{filter, if◌then◌else◌, map}
+use Rattle.std.proofs.Common.{◌≡◌, ◌<◌, ◌≤◌, ℕ, zero, suc, ◌+◌, ◌-◌, Bool, true, false, ◌∷◌, length, get_or, refl, arith, Option, Some, None}
+use Rattle.std.specs.Prelude.{filter, if◌then◌else◌}
 use Rattle.std.specs.List.{list_any, range_with_len}
 use Rattle.std.specs.Option.{option_or}
 use Rattle.sb_packet.specs.Networks.{NetDevice, NetHost, Network, has_address}
@@ -8,7 +8,7 @@ use Rattle.sb_packet.specs.Ways.{aims_at, is_aimed_at, links_from, next_link}
 use Rattle.sb_packet.specs.declared.transaction.Txn.{Txn}
 use Rattle.sb_flow.specs.Firsts.{first_told}
 use Rattle.sb_flow.specs.Ranges.{overlapping_device}
-use Rattle.sb_flow.specs.Routes.{RouteAt, lost_behind, lost_on_way}
+use Rattle.sb_flow.specs.Routes.{lost_behind, lost_on_way}
 use Rattle.sb_flow.proofs.Apart.{device_at-is}
 use Rattle.sb_flow.proofs.Maps.{list_any_agree}
 use Rattle.sb_topology.proofs.Numbers.{numbers_more}

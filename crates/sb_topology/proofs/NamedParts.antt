@@ -1,5 +1,5 @@
 -- What is named, part by part.
-use Rattle.std.proofs.Common.{◌≡◌, ℕ, List, [], codes, map, refl, Option, Result, Ok}
+use Rattle.std.proofs.Common.{◌≡◌, ℕ, List, [], codes, map, refl, Option, Ok}
 use Rattle.sb_packet.specs.Networks.{NetLink}
 use Rattle.sb_flow.specs.Rows.{place_of}
 use Rattle.sb_flow.specs.declared.place.Place.{Place}

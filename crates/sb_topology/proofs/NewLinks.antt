@@ -1,5 +1,5 @@
 -- Links that are named one after another: they keep the limits, no two have one name, and they join what is there.
-use Rattle.std.proofs.Common.{◌≡◌, ℕ, suc, ◌+◌, Bool, true, ◌&&◌, List, [], ◌∷◌, ◌++◌, codes, length, map, bytes_eq, refl, ap, sym, subst, ◌∙◌, append_assoc, Option, Some, None, Result, Ok}
+use Rattle.std.proofs.Common.{◌≡◌, ℕ, suc, ◌+◌, Bool, true, ◌&&◌, List, [], ◌∷◌, ◌++◌, codes, length, map, bytes_eq, refl, ap, sym, subst, ◌∙◌, append_assoc, Option, Some, None, Ok}
 use Rattle.std.specs.Prelude.{nat_lt, option_map}
 use Rattle.std.specs.List.{list_all, position_from}
 use Rattle.std.specs.Option.{option_or}

@@ -1,17 +1,16 @@
 -- Names that are new one after another are all different, and what is named by one is there.
-use Rattle.std.proofs.Common.{◌≡◌, ◌<◌, ℕ, zero, suc, ◌+◌, Bool, true, false, not, ◌&&◌, cond, List, [], ◌∷◌, ◌++◌, codes, length, map, bytes_eq, refl, ap, sym, subst, ◌∙◌, arith, append_assoc, Option, Some, None, Result, Ok}
+use Rattle.std.proofs.Common.{◌≡◌, ◌<◌, ℕ, ◌+◌, Bool, true, false, not, ◌&&◌, cond, List, [], ◌∷◌, ◌++◌, codes, length, map, bytes_eq, refl, sym, subst, ◌∙◌, arith, append_assoc, Option, Some, None, Ok}
 use Rattle.std.specs.Prelude.{is_some, nat_lt, option_map, option_and_then}
 use Rattle.std.specs.List.{find, list_all, position_from}
-use Rattle.std.specs.Option.{option_map_or, option_or}
+use Rattle.std.specs.Option.{option_map_or}
 use Rattle.std.proofs.lemmas.Bool.{and_parts, lt-ltb}
 use Rattle.std.proofs.lemmas.List.{append-nil}
 use Rattle.sb_packet.specs.Names.{is_name}
-use Rattle.sb_text.specs.Faults.{◌>>=◌}
 use Rattle.sb_flow.specs.Firsts.{Clash, clash_behind}
 use Rattle.sb_flow.proofs.Clashes.{option_or-None}
 use Rattle.sb_fields.specs.Paths.{item_of}
 use Rattle.sb_fields.specs.Written.{WrittenRoute, WrittenRouter}
-use Rattle.sb_topology.specs.Names.{GivenNames, is_among, names_by, new_name, place_among, router_named, routers_by, routes_named, routes_path}
+use Rattle.sb_topology.specs.Names.{GivenNames, names_by, new_name, place_among, router_named, routers_by, routes_named, routes_path}
 use Rattle.sb_topology.specs.Places.{route_to}
 use Rattle.sb_topology.proofs.Chains.{bind_ok, unless_true}
 

@@ -1,13 +1,11 @@
 -- Hosts whose scripts were read: their names and ids are those that are written, and they keep the limits.
-use Rattle.std.proofs.Common.{◌≡◌, ◌≤◌, ℕ, suc, ◌+◌, Bool, true, ◌&&◌, List, [], ◌∷◌, ◌++◌, length, map, refl, ap, sym, subst, ◌∙◌, arith, append_assoc, length-append, Option, Some, None, Result, Ok}
+use Rattle.std.proofs.Common.{◌≡◌, ◌≤◌, ℕ, suc, ◌+◌, true, ◌&&◌, List, [], ◌∷◌, ◌++◌, length, map, refl, ap, sym, subst, ◌∙◌, arith, append_assoc, length-append, Option, Some, None, Ok}
 use Rattle.std.specs.Prelude.{nat_le}
 use Rattle.std.specs.List.{list_all}
 use Rattle.std.proofs.lemmas.Bool.{and_parts, le-leb, leb-true}
-use Rattle.std.proofs.lemmas.List.{append-nil, map-append}
-use Rattle.std.proofs.lemmas.List.Folds.{list_all-append}
+use Rattle.std.proofs.lemmas.List.{append-nil}
 use Rattle.sb_packet.specs.Networks.{NetHost}
 use Rattle.sb_packet.specs.declared.transaction.Txn.{Txn}
-use Rattle.sb_text.specs.Faults.{◌>>=◌}
 use Rattle.sb_text.specs.Scripts.{before}
 use Rattle.sb_text.specs.Sentences.{line_of}
 use Rattle.sb_flow.specs.Limits.{is_limited_host}

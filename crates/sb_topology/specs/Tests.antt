@@ -1,13 +1,12 @@
 -- What may be wrong with a network whose names are as they should be: each test finds the first of its faults.
-use Rattle.std.specs.Prelude.{ℕ, nat_le, length, Option, Some, None, option_map, slice_get, Result, Ok, Err}
+use Rattle.std.specs.Prelude.{ℕ, nat_le, length, Option, Some, None, slice_get, Result, Ok, Err}
 use Rattle.std.specs.Option.{option_map_or}
 use Rattle.sb_packet.specs.Networks.{NetPlace, Network, at_device, at_host, at_router}
 use Rattle.sb_flow.specs.Ends.{backward_link, unfit_link, unlinked_place}
-use Rattle.sb_flow.specs.Firsts.{Clash}
 use Rattle.sb_flow.specs.Limits.{word_count}
 use Rattle.sb_flow.specs.Names.{repeated_id}
 use Rattle.sb_flow.specs.Ranges.{misplaced_device, overfull_device, overlapping_device}
-use Rattle.sb_flow.specs.Routes.{RouteAt, route_fault}
+use Rattle.sb_flow.specs.Routes.{route_fault}
 use Rattle.sb_flow.specs.declared.place.Place.{Place}
 use Rattle.sb_flow.specs.declared.place.Place.TheVariants.{Host, Router, Device}
 use Rattle.sb_text.specs.Faults.{◌>>=◌, unless}

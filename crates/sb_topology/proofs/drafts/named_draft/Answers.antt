@@ -1,8 +1,6 @@
 -- The lists are those of the text, and as long.
-use Rattle.std.proofs.Common.{◌≡◌, ◌∙◌, ap, arith, refl, length, Ok}
-use Rattle.std.proofs.lemmas.List.{length-map}
+use Rattle.std.proofs.Common.{◌≡◌, ◌∙◌, arith, refl, length}
 use Rattle.std.specs.Vec.{vec_len}
-use Rattle.sb_packet.specs.Networks.{Network}
 use Rattle.sb_fields.specs.Counted.{counted_bundle}
 use Rattle.sb_topology.specs.Names.{names_of}
 use Rattle.sb_topology.specs.NamesHeld.{given_names}
