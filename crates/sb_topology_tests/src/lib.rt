@@ -5,3 +5,5 @@
 mod example;
 #[cfg(test)]
 mod faults;
+#[cfg(test)]
+mod limits;
