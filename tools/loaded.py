@@ -1,9 +1,19 @@
+#!/usr/bin/env python3
 """The loader as a program: as no command of `sb` reads bundles yet, a program of its own is made in a copy of the crates. It
-loads each bundle of its standard input, and prints the fault, or every field of the network."""
+loads each bundle of its standard input, and prints the fault, or every field of the network.
+
+    tools/loaded.py FILE
+
+proves and builds the program, which takes some minutes, and puts it there, for tools/compare_bundles and bench/measure_loader,
+which else make it themselves."""
+import pathlib
 import re
+import shutil
 import subprocess
 import sys
+import tempfile
 
+sys.dont_write_bytecode = True
 import built
 
 NAME = "bundle_lines"
@@ -247,7 +257,8 @@ def make(copy):
 
 
 def proved(copy):
-    """Proves and builds the program, which takes some minutes, and gives its path."""
+    """Proves and builds the program, and gives its path."""
+    make(copy)
     ran = subprocess.run(["rt", "run"], cwd=folder_of(copy), input=b"", stdout=subprocess.PIPE, stderr=subprocess.STDOUT)
     if ran.returncode:
         sys.exit(f"the program was not built: {ran.stdout[-3000:].decode(errors='replace')}")
@@ -282,3 +293,10 @@ def answers(command, folder, bundles):
     if ran.returncode:
         sys.exit(f"the program ended with status {ran.returncode}: {ran.stderr[-3000:].decode(errors='replace')}")
     return texts(ran.stdout)
+
+
+if __name__ == "__main__":
+    if len(sys.argv) != 2:
+        sys.exit("usage: loaded.py FILE")
+    with tempfile.TemporaryDirectory() as folder:
+        shutil.copy(proved(pathlib.Path(folder)), sys.argv[1])
