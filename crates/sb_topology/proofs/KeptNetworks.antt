@@ -1,10 +1,11 @@
 -- What the loader accepts keeps all facts of a bundle.
 use Rattle.std.proofs.Common.{◌≡◌, ◌≤◌, ℕ, Bool, true, ◌&&◌, ◌==◌, List, [], ◌∷◌, ◌++◌, codes, length, map, bytes_eq, refl, ap, sym, subst, ◌∙◌, append_assoc, Option, Some, None, Result, Ok}
-use Rattle.std.specs.Prelude.{nat_le, nat_lt, option_map, sum_by}
+use Rattle.std.specs.Prelude.{nat_le, nat_lt, option_map, sum_by, All}
 use Rattle.std.specs.List.{list_all}
 use Rattle.std.specs.Option.{option_map_or}
 use Rattle.std.proofs.lemmas.Bool.{leb-true}
 use Rattle.std.proofs.lemmas.List.{length-map}
+use Rattle.std.proofs.lemmas.List.Elements.{All-nil}
 use Rattle.sb_packet.specs.Networks.{NetDevice, NetHost, NetLink, NetPlace, Network, at_device, at_host, at_router}
 use Rattle.sb_text.specs.Faults.{◌>>=◌, some_or, unless}
 use Rattle.sb_flow.specs.Ends.{backward_link, odd_width, unfit_link, unlinked_place}
@@ -28,6 +29,7 @@ use Rattle.sb_topology.proofs.Chains.{bind_ok, unless_found_None, unless_true}
 use Rattle.sb_topology.proofs.CountedLimits.{Fits, counts_fit, device_fits, router_fits}
 use Rattle.sb_topology.proofs.NewLinks.{LinkedBehind, has_ends, is_placed, links_by_then}
 use Rattle.sb_topology.proofs.NewNames.{clash_append, names_by_new, place_below, routers_by_new, routes_there}
+use Rattle.sb_topology.proofs.SaidTransactions.{AsksWhatMayBe, hosts_then}
 use Rattle.sb_topology.proofs.ToldHosts.{ToldBehind, hosts_by_then}
 
 -- names and numbers of what was placed are those that are written
@@ -39,7 +41,7 @@ device_names : (ds : List WrittenDevice) → map (λ d. d.name) (map placed_devi
 device_names [] = refl
 device_names (d ∷ ds) = rw (device_names ds) refl
 
-silent_ids : (hs : List WrittenHost) → map (λ h. h.id) (map silent_host hs) ≡ map (λ h. h.id) hs
+pub silent_ids : (hs : List WrittenHost) → map (λ h. h.id) (map silent_host hs) ≡ map (λ h. h.id) hs
 silent_ids [] = refl
 silent_ids (h ∷ hs) = rw (silent_ids hs) refl
 
@@ -64,7 +66,7 @@ ids_clash before (x ∷ xs) =
     append_map [] x = refl
     append_map (b ∷ before) x = rw (append_map before x) refl
 
-same_ids : (xs ys : List NetHost) → map (λ h. h.id) xs ≡ map (λ h. h.id) ys → first_clash (λ x y. x.id == y.id) xs ≡ first_clash (λ x y. x.id == y.id) ys
+pub same_ids : (xs ys : List NetHost) → map (λ h. h.id) xs ≡ map (λ h. h.id) ys → first_clash (λ x y. x.id == y.id) xs ≡ first_clash (λ x y. x.id == y.id) ys
 same_ids xs ys same = ids_clash [] xs ∙ ap (λ (ids : List ℕ). clash_behind (λ m n. m == n) [] ids) same ∙ sym (ids_clash [] ys)
 
 and_all : (a b c d e f g h i : Bool) → a ≡ true → b ≡ true → c ≡ true → d ≡ true → e ≡ true → f ≡ true → g ≡ true → h ≡ true → i ≡ true → (a && b && c && d && e && f && g && h && i) ≡ true
@@ -92,7 +94,7 @@ routers_there names [] = refl
 routers_there names (r ∷ rs) = rw (routes_there names r.routes names.devices, routers_there names rs) refl
 
 -- a network of the text, of these links and this wire
-abbrev made : WrittenBundle → List NetLink → Option ℕ → Network
+abbrev pub made : WrittenBundle → List NetLink → Option ℕ → Network
 made b links wire = record {
   hosts = map silent_host b.hosts;
   routers = map (placed_router (names_of b)) b.routers;
@@ -110,7 +112,7 @@ pub record Named (b : WrittenBundle) (network : Network) : Type 0 where
   pub linked : LinkedBehind (names_of b) [] b.links links
   pub wired : option_map_or (λ k. nat_lt k (length (names_of b).links)) wire true ≡ true
 
-named_then : (b : WrittenBundle) (network : Network) → named_network b ≡ Ok network → Named b network
+pub named_then : (b : WrittenBundle) (network : Network) → named_network b ≡ Ok network → Named b network
 unfolding named_network
 named_then b network e =
     let g : GivenNames = names_of b in
@@ -135,7 +137,7 @@ named_then b network e =
     }
 
 -- what the tests find nothing wrong with
-abbrev after_names : WrittenBundle → Network → Result Network LoadFault
+abbrev pub after_names : WrittenBundle → Network → Result Network LoadFault
 after_names b network = do
   done ← devices_tested network
   done ← unless_found faults.Width (odd_width network)
@@ -147,6 +149,7 @@ after_names b network = do
 pub record Tested (b : WrittenBundle) (network whole : Network) : Type 0 where
   pub hosts : List NetHost
   pub is : record network { hosts = hosts } ≡ whole
+  pub read : hosts_by 0 [] b.hosts ≡ Ok hosts
   pub told : ToldBehind [] b.hosts hosts
   pub ids : repeated_id network ≡ None
   pub placed : misplaced_device network ≡ None
@@ -159,7 +162,7 @@ pub record Tested (b : WrittenBundle) (network whole : Network) : Type 0 where
   pub routes : route_fault (record network { hosts = hosts }) ≡ None
   pub words : word_count (record network { hosts = hosts }) ≤ 262144
 
-tested_then : (b : WrittenBundle) (network whole : Network) → after_names b network ≡ Ok whole → Tested b network whole
+pub tested_then : (b : WrittenBundle) (network whole : Network) → after_names b network ≡ Ok whole → Tested b network whole
 unfolding devices_tested links_tested scripts_tested
 tested_then b network whole e =
     let end = λ (hosts : List NetHost). (scripts_tested (record network { hosts = hosts }) >>= (λ done. Ok (record network { hosts = hosts }))) in
@@ -183,6 +186,7 @@ tested_then b network whole e =
     record {
       hosts = hosts.0;
       is = cc scripts.2;
+      read = hosts.1;
       told = hosts_by_then 0 [] b.hosts hosts.0 hosts.1;
       ids = unless_found_None id (repeated_id network) ids.0 ids.1;
       placed = unless_found_None faults.Range (misplaced_device network) placed.0 placed.1;
@@ -290,3 +294,10 @@ kept b network u counted e =
       routes = t.routes;
       words = t.words;
     })
+
+-- its hosts ask for what can be asked for
+pub asked : (b : WrittenBundle) (network : Network) → network_written b ≡ Ok network → All AsksWhatMayBe network.hosts
+asked b network e =
+    let parts = bind_ok (named_network b) (after_names b) network e in
+    let t = tested_then b parts.0 network parts.2 in
+    subst (λ (p : Network). All AsksWhatMayBe p.hosts) t.is (hosts_then 0 [] b.hosts t.hosts (All-nil AsksWhatMayBe) t.read)

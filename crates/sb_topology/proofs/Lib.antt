@@ -8,6 +8,7 @@ pub mod CountedLimits
 pub mod NewNames
 pub mod NewLinks
 pub mod ToldHosts
+pub mod SaidTransactions
 pub mod KeptNetworks
-pub mod AcceptedRows
+pub mod LoadedNetworks
 mod BundleExamples

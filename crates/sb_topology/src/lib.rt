@@ -7,6 +7,7 @@ mod devices;
 mod drafts;
 mod host_draft;
 mod hosts;
+pub mod laws;
 mod link_draft;
 mod link_tests;
 mod links;
