@@ -28,7 +28,8 @@ fn in_range(
     ensures ok { IfOk result (λ done. in_range_by least most number at.now name.now ≡ Ok done) }
     ensures least { OnOk result (least ≤ number) }
     ensures most { OnOk result (number ≤ most) }
-    ensures err { IfErr result (λ fault. fault ≢ faults.Memory → (in_range_by least most number at.now name.now ≡ Err fault)) }
+    ensures err { IfErr result (λ fault. fault ≢ faults.Memory
+        → (in_range_by least most number at.now name.now ≡ Err fault)) }
 {
     if least <= number && number <= most {
         Ok(())
@@ -150,7 +151,8 @@ fn counted_list<T: Countable>(
     ensures same { IfOk result (λ found. map T.Countable.after found.items ≡ map T.Countable.before items.items) }
     ensures least { IfOk result (λ found. 1 ≤ vec_len found) }
     ensures most { IfOk result (λ found. vec_len found ≤ most) }
-    ensures err { IfErr result (λ fault. fault ≢ faults.Memory → (list_counts T.Countable.counts most name.now (map T.Countable.before items.items) ≡ Err fault)) }
+    ensures err { IfErr result (λ fault. fault ≢ faults.Memory
+        → (list_counts T.Countable.counts most name.now (map T.Countable.before items.items) ≡ Err fault)) }
 {
     in_range(alloc, 1, most, items.len() as u128, "", name)?;
     counted_items(alloc, name, items)
@@ -178,7 +180,8 @@ fn counted_devices(
     ensures same { IfOk result (λ found. map counted_device found.items ≡ map written_device devices.entry.items) }
     ensures least { IfOk result (λ found. 1 ≤ vec_len found) }
     ensures most { IfOk result (λ found. vec_len found ≤ 32) }
-    ensures err { IfErr result (λ fault. fault ≢ faults.Memory → (devices_counts (map written_device devices.entry.items) ≡ Err fault)) }
+    ensures err { IfErr result (λ fault. fault ≢ faults.Memory
+        → (devices_counts (map written_device devices.entry.items) ≡ Err fault)) }
 {
     if let Err(fault) = in_range(alloc, 1, 32, devices.len() as u128, "", "devices") {
         return Err(fault);
@@ -195,7 +198,8 @@ pub fn counted_bundle(alloc: Global, bundle: BundleText<'_>) -> Result<CountedBu
     ensures routers { IfOk result (λ counted. vec_len counted.routers ≤ 32) }
     ensures devices { IfOk result (λ counted. vec_len counted.devices ≤ 32) }
     ensures links { IfOk result (λ counted. vec_len counted.links ≤ 128) }
-    ensures err { IfErr result (λ fault. fault ≢ faults.Memory → (bundle_counts (written_bundle bundle.entry) ≡ Err fault)) }
+    ensures err { IfErr result (λ fault. fault ≢ faults.Memory
+        → (bundle_counts (written_bundle bundle.entry) ≡ Err fault)) }
 {
     if let Err(fault) = in_range(alloc, 1, 1, bundle.version as u128, "", "version") {
         return Err(fault);

@@ -36,9 +36,11 @@ pub fn counted_items<T: Countable>(
     at: &str,
     items: Vec<T>,
 ) -> Result<Vec<T::Counted>, LoadFault>
-    ensures ok { IfOk result (λ found. each_item T.Countable.counts at.now 0 (map T.Countable.before items.items) ≡ Ok tt) }
+    ensures ok { IfOk result (λ found. each_item T.Countable.counts at.now 0 (map T.Countable.before items.items)
+        ≡ Ok tt) }
     ensures same { IfOk result (λ found. map T.Countable.after found.items ≡ map T.Countable.before items.items) }
-    ensures err { IfErr result (λ fault. fault ≢ faults.Memory → (each_item T.Countable.counts at.now 0 (map T.Countable.before items.items) ≡ Err fault)) }
+    ensures err { IfErr result (λ fault. fault ≢ faults.Memory
+        → (each_item T.Countable.counts at.now 0 (map T.Countable.before items.items) ≡ Err fault)) }
 {
     let mut found = Vec::new(alloc);
     for (number, item) in items.into_iter().enumerate() {

@@ -20,7 +20,8 @@ fn digit(byte: u8) -> u8
 /// What digits are worth; None where one isn't of the base, or where they are worth 2^64 or more.
 fn value(digits: &[u8], base: u8) -> Option<u64>
     requires { (2 ≤ base) × (base ≤ 16) }
-    ensures { result ≡ (if list_all (is_digit_of base) digits.now && nat_lt (digits_value base digits.now) (2 ^ 64) then Some (digits_value base digits.now) else None) }
+    ensures { result
+        ≡ (if list_all (is_digit_of base) digits.now && nat_lt (digits_value base digits.now) (2 ^ 64) then Some (digits_value base digits.now) else None) }
 {
     let mut value: u64 = 0;
     for byte in digits {

@@ -40,8 +40,10 @@ fn list<'v>(
     name: &str,
     object: &'v Value,
 ) -> Result<&'v Vec<Value>, LoadFault>
-    ensures ok { IfOk result (λ list. required as_array at.now name.now (view object.now) ≡ Ok (items_view list.now.items)) }
-    ensures err { IfErr result (λ fault. fault ≢ faults.Memory → (required as_array at.now name.now (view object.now) ≡ Err fault)) }
+    ensures ok { IfOk result (λ list. required as_array at.now name.now (view object.now)
+        ≡ Ok (items_view list.now.items)) }
+    ensures err { IfErr result (λ fault. fault ≢ faults.Memory
+        → (required as_array at.now name.now (view object.now) ≡ Err fault)) }
 {
     match object.get(name).and_then(Value::as_array) {
         Some(list) => Ok(list),
@@ -51,8 +53,10 @@ fn list<'v>(
 
 /// The items of the list at a path.
 fn parts<'v, T: Part<'v>>(alloc: Global, at: &str, values: &'v [Value]) -> Result<Vec<T>, LoadFault>
-    ensures ok { IfOk result (λ found. items_by T.Part.reads at.now 0 [] (items_view values.now) ≡ Ok (map T.Part.written found.items)) }
-    ensures err { IfErr result (λ fault. fault ≢ faults.Memory → (items_by T.Part.reads at.now 0 [] (items_view values.now) ≡ Err fault)) }
+    ensures ok { IfOk result (λ found. items_by T.Part.reads at.now 0 [] (items_view values.now)
+        ≡ Ok (map T.Part.written found.items)) }
+    ensures err { IfErr result (λ fault. fault ≢ faults.Memory
+        → (items_by T.Part.reads at.now 0 [] (items_view values.now) ≡ Err fault)) }
 {
     let mut found = Vec::new(alloc);
     for (number, value) in values.iter().enumerate() {
@@ -76,8 +80,10 @@ pub fn listed<'v, T: Part<'v>>(
     name: &str,
     object: &'v Value,
 ) -> Result<Vec<T>, LoadFault>
-    ensures ok { IfOk result (λ found. list_of T.Part.reads at.now name.now (view object.now) ≡ Ok (map T.Part.written found.items)) }
-    ensures err { IfErr result (λ fault. fault ≢ faults.Memory → (list_of T.Part.reads at.now name.now (view object.now) ≡ Err fault)) }
+    ensures ok { IfOk result (λ found. list_of T.Part.reads at.now name.now (view object.now)
+        ≡ Ok (map T.Part.written found.items)) }
+    ensures err { IfErr result (λ fault. fault ≢ faults.Memory
+        → (list_of T.Part.reads at.now name.now (view object.now) ≡ Err fault)) }
 {
     let values = list(alloc, at, name, object)?;
     match member_path(alloc, at, name) {
@@ -94,7 +100,8 @@ fn text_at<'v>(
     value: &'v Value,
 ) -> Result<&'v str, LoadFault>
     ensures ok { IfOk result (λ text. text_item (item_of at.now number) (view value.now) ≡ Ok text.now) }
-    ensures err { IfErr result (λ fault. fault ≢ faults.Memory → (text_item (item_of at.now number) (view value.now) ≡ Err fault)) }
+    ensures err { IfErr result (λ fault. fault ≢ faults.Memory
+        → (text_item (item_of at.now number) (view value.now) ≡ Err fault)) }
 {
     match value.as_str() {
         Some(text) => Ok(text),
@@ -104,8 +111,10 @@ fn text_at<'v>(
 
 /// The texts of the list at a path.
 fn text_items<'v>(alloc: Global, at: &str, values: &'v [Value]) -> Result<Vec<&'v str>, LoadFault>
-    ensures ok { IfOk result (λ texts. items_by text_item at.now 0 [] (items_view values.now) ≡ Ok (map (λ text. text.now) texts.items)) }
-    ensures err { IfErr result (λ fault. fault ≢ faults.Memory → (items_by text_item at.now 0 [] (items_view values.now) ≡ Err fault)) }
+    ensures ok { IfOk result (λ texts. items_by text_item at.now 0 [] (items_view values.now)
+        ≡ Ok (map (λ text. text.now) texts.items)) }
+    ensures err { IfErr result (λ fault. fault ≢ faults.Memory
+        → (items_by text_item at.now 0 [] (items_view values.now) ≡ Err fault)) }
 {
     let Ok(mut texts) = Vec::with_capacity(alloc, values.len()) else {
         return Err(LoadFault::Memory);
@@ -128,8 +137,10 @@ pub fn texts<'v>(
     name: &str,
     object: &'v Value,
 ) -> Result<Vec<&'v str>, LoadFault>
-    ensures ok { IfOk result (λ texts. list_of text_item at.now name.now (view object.now) ≡ Ok (map (λ text. text.now) texts.items)) }
-    ensures err { IfErr result (λ fault. fault ≢ faults.Memory → (list_of text_item at.now name.now (view object.now) ≡ Err fault)) }
+    ensures ok { IfOk result (λ texts. list_of text_item at.now name.now (view object.now)
+        ≡ Ok (map (λ text. text.now) texts.items)) }
+    ensures err { IfErr result (λ fault. fault ≢ faults.Memory
+        → (list_of text_item at.now name.now (view object.now) ≡ Err fault)) }
 {
     let values = list(alloc, at, name, object)?;
     match member_path(alloc, at, name) {
@@ -144,8 +155,10 @@ fn route_texts<'v>(
     at: &str,
     object: &'v Map<String, Value>,
 ) -> Result<Vec<RouteText<'v>>, LoadFault>
-    ensures ok { IfOk result (λ routes. routes_by at.now [] (members_view object.now.entries) ≡ Ok (map written_route routes.items)) }
-    ensures err { IfErr result (λ fault. fault ≢ faults.Memory → (routes_by at.now [] (members_view object.now.entries) ≡ Err fault)) }
+    ensures ok { IfOk result (λ routes. routes_by at.now [] (members_view object.now.entries)
+        ≡ Ok (map written_route routes.items)) }
+    ensures err { IfErr result (λ fault. fault ≢ faults.Memory
+        → (routes_by at.now [] (members_view object.now.entries) ≡ Err fault)) }
 {
     let mut found = Vec::new(alloc);
     for (name, value) in object.iter() {
@@ -168,8 +181,10 @@ fn routes_object<'v>(
     at: &str,
     object: &'v Value,
 ) -> Result<&'v Map<String, Value>, LoadFault>
-    ensures ok { IfOk result (λ routes. required as_object at.now (codes "routes") (view object.now) ≡ Ok (members_view routes.now.entries)) }
-    ensures err { IfErr result (λ fault. fault ≢ faults.Memory → (required as_object at.now (codes "routes") (view object.now) ≡ Err fault)) }
+    ensures ok { IfOk result (λ routes. required as_object at.now (codes "routes") (view object.now)
+        ≡ Ok (members_view routes.now.entries)) }
+    ensures err { IfErr result (λ fault. fault ≢ faults.Memory
+        → (required as_object at.now (codes "routes") (view object.now) ≡ Err fault)) }
 {
     match object.get("routes").and_then(Value::as_object) {
         Some(routes) => Ok(routes),

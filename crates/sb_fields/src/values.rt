@@ -41,7 +41,8 @@ pub fn text<'v>(
     object: &'v Value,
 ) -> Result<&'v str, LoadFault>
     ensures ok { IfOk result (λ text. required as_str at.now name.now (view object.now) ≡ Ok text.now) }
-    ensures err { IfErr result (λ fault. fault ≢ faults.Memory → (required as_str at.now name.now (view object.now) ≡ Err fault)) }
+    ensures err { IfErr result (λ fault. fault ≢ faults.Memory
+        → (required as_str at.now name.now (view object.now) ≡ Err fault)) }
 {
     match object.get(name).and_then(Value::as_str) {
         Some(text) => Ok(text),
@@ -57,8 +58,10 @@ pub fn optional_text<'v>(
     name: &str,
     object: &'v Value,
 ) -> Result<Option<&'v str>, LoadFault>
-    ensures ok { IfOk result (λ found. optional as_str at.now name.now (view object.now) ≡ Ok (option_map (λ text. text.now) found)) }
-    ensures err { IfErr result (λ fault. fault ≢ faults.Memory → (optional as_str at.now name.now (view object.now) ≡ Err fault)) }
+    ensures ok { IfOk result (λ found. optional as_str at.now name.now (view object.now)
+        ≡ Ok (option_map (λ text. text.now) found)) }
+    ensures err { IfErr result (λ fault. fault ≢ faults.Memory
+        → (optional as_str at.now name.now (view object.now) ≡ Err fault)) }
 {
     let Some(value) = object.get(name) else {
         return Ok(None);
@@ -73,7 +76,8 @@ pub fn optional_text<'v>(
 #[tactic(auto, unfolding(crate::specs::Fields::required))]
 pub fn number(alloc: Global, at: &str, name: &str, object: &Value) -> Result<u64, LoadFault>
     ensures ok { IfOk result (λ number. required number_in at.now name.now (view object.now) ≡ Ok number) }
-    ensures err { IfErr result (λ fault. fault ≢ faults.Memory → (required number_in at.now name.now (view object.now) ≡ Err fault)) }
+    ensures err { IfErr result (λ fault. fault ≢ faults.Memory
+        → (required number_in at.now name.now (view object.now) ≡ Err fault)) }
 {
     match object.get(name).and_then(Value::as_u64) {
         Some(number) => Ok(number),
@@ -90,7 +94,8 @@ pub fn optional_number(
     object: &Value,
 ) -> Result<Option<u64>, LoadFault>
     ensures ok { IfOk result (λ found. optional number_in at.now name.now (view object.now) ≡ Ok found) }
-    ensures err { IfErr result (λ fault. fault ≢ faults.Memory → (optional number_in at.now name.now (view object.now) ≡ Err fault)) }
+    ensures err { IfErr result (λ fault. fault ≢ faults.Memory
+        → (optional number_in at.now name.now (view object.now) ≡ Err fault)) }
 {
     let Some(value) = object.get(name) else {
         return Ok(None);
@@ -110,7 +115,8 @@ pub fn optional_truth(
     object: &Value,
 ) -> Result<Option<bool>, LoadFault>
     ensures ok { IfOk result (λ found. optional as_bool at.now name.now (view object.now) ≡ Ok found) }
-    ensures err { IfErr result (λ fault. fault ≢ faults.Memory → (optional as_bool at.now name.now (view object.now) ≡ Err fault)) }
+    ensures err { IfErr result (λ fault. fault ≢ faults.Memory
+        → (optional as_bool at.now name.now (view object.now) ≡ Err fault)) }
 {
     let Some(value) = object.get(name) else {
         return Ok(None);
@@ -136,7 +142,8 @@ fn numeral_in_text(value: &Value) -> Option<u64>
 #[tactic(auto, unfolding(crate::specs::Fields::required))]
 pub fn numeral_text(alloc: Global, at: &str, name: &str, object: &Value) -> Result<u64, LoadFault>
     ensures ok { IfOk result (λ number. required numeral_in at.now name.now (view object.now) ≡ Ok number) }
-    ensures err { IfErr result (λ fault. fault ≢ faults.Memory → (required numeral_in at.now name.now (view object.now) ≡ Err fault)) }
+    ensures err { IfErr result (λ fault. fault ≢ faults.Memory
+        → (required numeral_in at.now name.now (view object.now) ≡ Err fault)) }
 {
     let Some(value) = object.get(name) else {
         return Err(field_fault(alloc, at, name));
@@ -179,8 +186,10 @@ pub fn optional_bytes(
     name: &str,
     object: &Value,
 ) -> Result<Option<Vec<u8>>, LoadFault>
-    ensures ok { IfOk result (λ found. optional bytes_in at.now name.now (view object.now) ≡ Ok (option_map (λ bytes. bytes.items) found)) }
-    ensures err { IfErr result (λ fault. fault ≢ faults.Memory → (optional bytes_in at.now name.now (view object.now) ≡ Err fault)) }
+    ensures ok { IfOk result (λ found. optional bytes_in at.now name.now (view object.now)
+        ≡ Ok (option_map (λ bytes. bytes.items) found)) }
+    ensures err { IfErr result (λ fault. fault ≢ faults.Memory
+        → (optional bytes_in at.now name.now (view object.now) ≡ Err fault)) }
 {
     let Some(value) = object.get(name) else {
         return Ok(None);
@@ -206,7 +215,8 @@ fn is_known(known: &[&str], name: &str) -> bool
 
 /// The least name of an object that isn't known.
 fn first_unknown<'v>(known: &[&str], object: &'v Map<String, Value>) -> Option<&'v String>
-    ensures { option_map (λ name. string_bytes name.now) result ≡ first_unknown_by (map (λ k. k.now) known.now) (members_view object.now.entries) }
+    ensures { option_map (λ name. string_bytes name.now) result
+        ≡ first_unknown_by (map (λ k. k.now) known.now) (members_view object.now.entries) }
 {
     for (name, _value) in object.iter() {
         if !is_known(known, name.as_str()) {
@@ -224,8 +234,10 @@ pub fn only_fields(
     known: &[&str],
     object: &Map<String, Value>,
 ) -> Result<(), LoadFault>
-    ensures ok { IfOk result (λ done. only_fields_by (map (λ k. k.now) known.now) at.now (members_view object.now.entries) ≡ Ok done) }
-    ensures err { IfErr result (λ fault. fault ≢ faults.Memory → (only_fields_by (map (λ k. k.now) known.now) at.now (members_view object.now.entries) ≡ Err fault)) }
+    ensures ok { IfOk result (λ done. only_fields_by (map
+        (λ k. k.now) known.now) at.now (members_view object.now.entries) ≡ Ok done) }
+    ensures err { IfErr result (λ fault. fault ≢ faults.Memory
+        → (only_fields_by (map (λ k. k.now) known.now) at.now (members_view object.now.entries) ≡ Err fault)) }
 {
     match first_unknown(known, object) {
         Some(name) => Err(field_fault(alloc, at, name.as_str())),

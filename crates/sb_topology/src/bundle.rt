@@ -24,11 +24,14 @@ use std::alloc::Global;
 
 /// A network with its scripts; `Script` is the one error but `Memory`.
 fn told_rows(alloc: Global, plan: Plan<'_>) -> Result<Rows, LoadFault>
-    ensures hosts { IfOk result (λ rows. hosts_by 0 [] (map draft_host plan.entry.hosts.items) ≡ Ok (whole_network rows).hosts) }
-    ensures network { IfOk result (λ rows. whole_network rows ≡ record (plan_network plan.entry) { hosts = (whole_network rows).hosts }) }
+    ensures hosts { IfOk result (λ rows. hosts_by 0 [] (map draft_host plan.entry.hosts.items)
+        ≡ Ok (whole_network rows).hosts) }
+    ensures network { IfOk result (λ rows. whole_network rows
+        ≡ record (plan_network plan.entry) { hosts = (whole_network rows).hosts }) }
     ensures devices { IfOk result (λ rows. rows.devices ≡ plan.entry.devices) }
     ensures scripts { IfOk result (λ rows. All (λ h. length h.script ≤ 65536) rows.hosts.items) }
-    ensures err { IfErr result (λ fault. fault ≢ faults.Memory → (hosts_by 0 [] (map draft_host plan.entry.hosts.items) ≡ Err fault)) }
+    ensures err { IfErr result (λ fault. fault ≢ faults.Memory
+        → (hosts_by 0 [] (map draft_host plan.entry.hosts.items) ≡ Err fault)) }
 {
     match told_hosts(alloc, plan.hosts.as_slice()) {
         Ok(hosts) => Ok(Rows {
@@ -49,7 +52,8 @@ fn tested_rows(alloc: Global, bundle: CountedBundle<'_>) -> Result<Rows, LoadFau
     requires devices { vec_len bundle.devices ≤ 32 }
     requires links { vec_len bundle.links ≤ 128 }
     ensures ok { IfOk result (λ rows. network_written (counted_bundle bundle.entry) ≡ Ok (whole_network rows)) }
-    ensures err { IfErr result (λ fault. fault ≢ faults.Memory → (network_written (counted_bundle bundle.entry) ≡ Err fault)) }
+    ensures err { IfErr result (λ fault. fault ≢ faults.Memory
+        → (network_written (counted_bundle bundle.entry) ≡ Err fault)) }
 {
     let draft = named_draft(alloc, bundle)?;
     devices_tested(&draft)?;
@@ -84,7 +88,8 @@ pub fn bundle(alloc: Global, written: CountedBundle<'_>) -> Result<Bundle, LoadF
     requires devices { vec_len written.devices ≤ 32 }
     requires links { vec_len written.links ≤ 128 }
     ensures ok { IfOk result (λ bundle. network_written (counted_bundle written.entry) ≡ Ok (network_of bundle)) }
-    ensures err { IfErr result (λ fault. fault ≢ faults.Memory → (network_written (counted_bundle written.entry) ≡ Err fault)) }
+    ensures err { IfErr result (λ fault. fault ≢ faults.Memory
+        → (network_written (counted_bundle written.entry) ≡ Err fault)) }
 {
     match tested_rows(alloc, written) {
         Ok(rows) => Ok(bundle_of_rows(rows)),

@@ -35,7 +35,8 @@ fn host_with(hosts: &[HostDraft<'_>], id: u8) -> Option<usize>
 
 /// The first host with the id of an earlier one.
 fn repeated_id(hosts: &[HostDraft<'_>]) -> Option<usize>
-    ensures place { result ≡ option_map (λ clash. clash.at) (first_clash (λ x y. x.id == y.id) (map silent_host (map draft_host hosts.now))) }
+    ensures place { result ≡ option_map (λ clash. clash.at) (first_clash
+        (λ x y. x.id == y.id) (map silent_host (map draft_host hosts.now))) }
     ensures there { IfSome result (λ place. place < length hosts.now) }
 {
     for place in 0..hosts.len() {
@@ -92,7 +93,8 @@ fn do_overlap(device: &DevicePlan, other: &DevicePlan) -> bool
 
 /// The first of some devices that a device overlaps.
 fn overlapped(devices: &[DevicePlan], device: &DevicePlan) -> Option<usize>
-    ensures place { result ≡ position_from (λ y. not (are_apart (range_of (device_of device.now)) (range_of y))) 0 (map device_of devices.now) }
+    ensures place { result ≡ position_from
+        (λ y. not (are_apart (range_of (device_of device.now)) (range_of y))) 0 (map device_of devices.now) }
     ensures there { IfSome result (λ place. place < length devices.now) }
 {
     for (place, other) in devices.iter().enumerate() {
@@ -105,7 +107,8 @@ fn overlapped(devices: &[DevicePlan], device: &DevicePlan) -> Option<usize>
 
 /// The first device that overlaps an earlier one, and the first such.
 fn first_overlap(devices: &[DevicePlan]) -> Option<Overlap>
-    ensures clash { option_map clash_of result ≡ first_clash (λ x y. not (are_apart (range_of x) (range_of y))) (map device_of devices.now) }
+    ensures clash { option_map clash_of result ≡ first_clash
+        (λ x y. not (are_apart (range_of x) (range_of y))) (map device_of devices.now) }
     ensures there { IfSome result (λ overlap. overlap.device < length devices.now) }
     ensures earlier { IfSome result (λ overlap. overlap.other < overlap.device) }
 {
@@ -126,7 +129,8 @@ fn is_overfull(device: &DevicePlan) -> bool
 
 /// The first device of which that is so.
 fn overfull(devices: &[DevicePlan]) -> Option<usize>
-    ensures place { result ≡ position_from (λ d. nat_lt (device_size d) (length d.image)) 0 (map device_of devices.now) }
+    ensures place { result ≡ position_from
+        (λ d. nat_lt (device_size d) (length d.image)) 0 (map device_of devices.now) }
     ensures there { IfSome result (λ place. place < length devices.now) }
 {
     for (place, device) in devices.iter().enumerate() {
@@ -152,7 +156,8 @@ fn image_fault(device: u8, plan: &DevicePlan) -> LoadFault
 pub fn devices_tested(draft: &Draft<'_>) -> Result<(), LoadFault>
     ensures apart { OnOk result (overlapping_device (draft_network draft.now) ≡ None) }
     ensures ok { IfOk result (λ done. devices_tested_by (draft_network draft.now) ≡ Ok done) }
-    ensures err { IfErr result (λ fault. fault ≢ faults.Memory → (devices_tested_by (draft_network draft.now) ≡ Err fault)) }
+    ensures err { IfErr result (λ fault. fault ≢ faults.Memory
+        → (devices_tested_by (draft_network draft.now) ≡ Err fault)) }
 {
     let devices = draft.devices.as_slice();
     if let Some(host) = repeated_id(draft.hosts.as_slice()) {

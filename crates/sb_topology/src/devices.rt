@@ -33,10 +33,14 @@ pub fn device_plans<'v>(
     earlier: &mut Vec<&'v str>,
     devices: Vec<CountedDevice<'v>>,
 ) -> Result<Vec<DevicePlan>, LoadFault>
-    ensures names { IfOk result (λ plans. names_by (codes "devices") 0 (map (λ n. n.now) earlier.old.items) (map (λ d. d.name) (map counted_device devices.entry.items)) ≡ Ok (map (λ n. n.now) earlier.new.items)) }
-    ensures plans { IfOk result (λ plans. map device_of plans.items ≡ map placed_device (map counted_device devices.entry.items)) }
+    ensures names { IfOk result (λ plans. names_by (codes "devices") 0 (map (λ n. n.now) earlier.old.items) (map
+        (λ d. d.name) (map counted_device devices.entry.items)) ≡ Ok (map (λ n. n.now) earlier.new.items)) }
+    ensures plans { IfOk result (λ plans. map device_of plans.items
+        ≡ map placed_device (map counted_device devices.entry.items)) }
     ensures many { IfOk result (λ plans. vec_len plans ≡ vec_len devices.entry) }
-    ensures err { IfErr result (λ fault. fault ≢ faults.Memory → (names_by (codes "devices") 0 (map (λ n. n.now) earlier.old.items) (map (λ d. d.name) (map counted_device devices.entry.items)) ≡ Err fault)) }
+    ensures err { IfErr result (λ fault. fault ≢ faults.Memory
+        → (names_by (codes "devices") 0 (map (λ n. n.now) earlier.old.items) (map
+        (λ d. d.name) (map counted_device devices.entry.items)) ≡ Err fault)) }
 {
     let mut plans = Vec::new(alloc);
     for (number, device) in devices.into_iter().enumerate() {

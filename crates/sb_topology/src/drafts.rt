@@ -24,8 +24,10 @@ pub fn named_draft(alloc: Global, bundle: CountedBundle<'_>) -> Result<Draft<'_>
     requires devices { vec_len bundle.devices ≤ 32 }
     requires links { vec_len bundle.links ≤ 128 }
     ensures ok { IfOk result (λ draft. named_network (counted_bundle bundle.entry) ≡ Ok (draft_network draft)) }
-    ensures hosts { IfOk result (λ draft. map draft_host draft.hosts.items ≡ map counted_host bundle.entry.hosts.items) }
-    ensures err { IfErr result (λ fault. fault ≢ faults.Memory → (named_network (counted_bundle bundle.entry) ≡ Err fault)) }
+    ensures hosts { IfOk result (λ draft. map draft_host draft.hosts.items
+        ≡ map counted_host bundle.entry.hosts.items) }
+    ensures err { IfErr result (λ fault. fault ≢ faults.Memory
+        → (named_network (counted_bundle bundle.entry) ≡ Err fault)) }
 {
     let names = match given_names(alloc, &bundle) {
         Ok(names) => names,

@@ -32,10 +32,13 @@ pub fn host_drafts<'v>(
     earlier: &mut Vec<&'v str>,
     hosts: Vec<CountedHost<'v>>,
 ) -> Result<Vec<HostDraft<'v>>, LoadFault>
-    ensures names { IfOk result (λ drafts. names_by (codes "hosts") 0 (map (λ n. n.now) earlier.old.items) (map (λ h. h.name) (map counted_host hosts.entry.items)) ≡ Ok (map (λ n. n.now) earlier.new.items)) }
+    ensures names { IfOk result (λ drafts. names_by (codes "hosts") 0 (map (λ n. n.now) earlier.old.items) (map
+        (λ h. h.name) (map counted_host hosts.entry.items)) ≡ Ok (map (λ n. n.now) earlier.new.items)) }
     ensures drafts { IfOk result (λ drafts. map draft_host drafts.items ≡ map counted_host hosts.entry.items) }
     ensures many { IfOk result (λ drafts. vec_len drafts ≡ vec_len hosts.entry) }
-    ensures err { IfErr result (λ fault. fault ≢ faults.Memory → (names_by (codes "hosts") 0 (map (λ n. n.now) earlier.old.items) (map (λ h. h.name) (map counted_host hosts.entry.items)) ≡ Err fault)) }
+    ensures err { IfErr result (λ fault. fault ≢ faults.Memory
+        → (names_by (codes "hosts") 0 (map (λ n. n.now) earlier.old.items) (map
+        (λ h. h.name) (map counted_host hosts.entry.items)) ≡ Err fault)) }
 {
     let mut drafts = Vec::new(alloc);
     for (number, host) in hosts.into_iter().enumerate() {

@@ -48,8 +48,10 @@ fn end_named(
     requires hosts { vec_len names.now.hosts ≤ 32 }
     requires routers { vec_len names.now.routers ≤ 32 }
     requires devices { vec_len names.now.devices ≤ 32 }
-    ensures ok { IfOk result (λ place. end_named_by (given_names names.now) (item_of (codes "links") number) field.now name.now ≡ Ok (place_in place)) }
-    ensures err { IfErr result (λ fault. fault ≢ faults.Memory → (end_named_by (given_names names.now) (item_of (codes "links") number) field.now name.now ≡ Err fault)) }
+    ensures ok { IfOk result (λ place.
+        end_named_by (given_names names.now) (item_of (codes "links") number) field.now name.now ≡ Ok (place_in place)) }
+    ensures err { IfErr result (λ fault. fault ≢ faults.Memory
+        → (end_named_by (given_names names.now) (item_of (codes "links") number) field.now name.now ≡ Err fault)) }
 {
     match place_named(names, name) {
         Some(place) => Ok(place),
@@ -71,9 +73,12 @@ fn link_draft(
     requires routers { vec_len names.now.routers ≤ 32 }
     requires devices { vec_len names.now.devices ≤ 32 }
     requires earlier { map (λ n. n.now) earlier.now ≡ map (λ l. l.name) (map draft_link drafts.now) }
-    ensures ok { IfOk result (λ draft. link_named_by (given_names names.now) number (map draft_link drafts.now) (counted_link link.now) ≡ Ok (draft_link draft)) }
+    ensures ok { IfOk result (λ draft.
+        link_named_by (given_names names.now) number (map draft_link drafts.now) (counted_link link.now) ≡ Ok (draft_link draft)) }
     ensures name { IfOk result (λ draft. draft.name ≡ (counted_link link.now).name) }
-    ensures err { IfErr result (λ fault. fault ≢ faults.Memory → (link_named_by (given_names names.now) number (map draft_link drafts.now) (counted_link link.now) ≡ Err fault)) }
+    ensures err { IfErr result (λ fault. fault ≢ faults.Memory
+        → (link_named_by (given_names names.now) number (map draft_link drafts.now) (counted_link link.now)
+        ≡ Err fault)) }
 {
     let name = new_name(alloc, "links", number, earlier, link.name)?;
     let from = end_named(alloc, names, number, "from", link.from)?;
@@ -98,9 +103,11 @@ pub fn link_drafts(
     requires hosts { vec_len names.now.hosts ≤ 32 }
     requires routers { vec_len names.now.routers ≤ 32 }
     requires devices { vec_len names.now.devices ≤ 32 }
-    ensures ok { IfOk result (λ drafts. links_by (given_names names.now) 0 [] (map counted_link links.now) ≡ Ok (map draft_link drafts.items)) }
+    ensures ok { IfOk result (λ drafts. links_by (given_names names.now) 0 [] (map counted_link links.now)
+        ≡ Ok (map draft_link drafts.items)) }
     ensures many { IfOk result (λ drafts. vec_len drafts ≡ length links.now) }
-    ensures err { IfErr result (λ fault. fault ≢ faults.Memory → (links_by (given_names names.now) 0 [] (map counted_link links.now) ≡ Err fault)) }
+    ensures err { IfErr result (λ fault. fault ≢ faults.Memory
+        → (links_by (given_names names.now) 0 [] (map counted_link links.now) ≡ Err fault)) }
 {
     let mut earlier = Vec::new(alloc);
     let mut drafts = Vec::new(alloc);
@@ -133,8 +140,10 @@ pub fn wire_named(
     wire: Option<&str>,
 ) -> Result<Option<u8>, LoadFault>
     requires { vec_len names.now.links ≤ 128 }
-    ensures ok { IfOk result (λ link. wire_named_by (given_names names.now) (option_map (λ n. n.now) wire.entry) ≡ Ok link) }
-    ensures err { IfErr result (λ fault. fault ≢ faults.Memory → (wire_named_by (given_names names.now) (option_map (λ n. n.now) wire.entry) ≡ Err fault)) }
+    ensures ok { IfOk result (λ link. wire_named_by (given_names names.now) (option_map (λ n. n.now) wire.entry)
+        ≡ Ok link) }
+    ensures err { IfErr result (λ fault. fault ≢ faults.Memory
+        → (wire_named_by (given_names names.now) (option_map (λ n. n.now) wire.entry) ≡ Err fault)) }
 {
     let Some(name) = wire else {
         return Ok(None);

@@ -74,7 +74,8 @@ impl<'v> Named<'v> for CountedLink<'v> {
 
 /// The names of some things, in order.
 fn names<'v, T: Named<'v>>(alloc: Global, things: &[T]) -> Result<Vec<&'v str>, AllocError>
-    ensures names { IfOk result (λ names. map (λ name. name.now) names.items ≡ map T.Named.name_of (map T.Named.written things.now)) }
+    ensures names { IfOk result (λ names. map (λ name. name.now) names.items
+        ≡ map T.Named.name_of (map T.Named.written things.now)) }
     ensures many { IfOk result (λ names. vec_len names ≡ length things.now) }
 {
     let mut names = Vec::new(alloc);

@@ -33,7 +33,8 @@ pub fn is_among(names: &[&str], name: &str) -> bool
 
 /// A text as a name, if it is one and none of some earlier ones.
 fn made_name(earlier: &[&str], text: &str) -> Option<Name>
-    ensures { result ≡ (if is_name text.now && not (is_among_by (map (λ n. n.now) earlier.now) text.now) then Some text.now else None) }
+    ensures { result ≡ (if is_name text.now && not (is_among_by (map
+        (λ n. n.now) earlier.now) text.now) then Some text.now else None) }
 {
     let name = Name::new(text.as_bytes())?;
     if is_among(earlier, text) {
@@ -62,9 +63,11 @@ pub fn new_name(
     earlier: &[&str],
     text: &str,
 ) -> Result<Name, LoadFault>
-    ensures ok { IfOk result (λ name. new_name_by (item_of list.now number) (map (λ n. n.now) earlier.now) text.now ≡ Ok tt) }
+    ensures ok { IfOk result (λ name. new_name_by (item_of list.now number) (map (λ n. n.now) earlier.now) text.now
+        ≡ Ok tt) }
     ensures name { IfOk result (λ name. name ≡ text.now) }
-    ensures err { IfErr result (λ fault. fault ≢ faults.Memory → (new_name_by (item_of list.now number) (map (λ n. n.now) earlier.now) text.now ≡ Err fault)) }
+    ensures err { IfErr result (λ fault. fault ≢ faults.Memory
+        → (new_name_by (item_of list.now number) (map (λ n. n.now) earlier.now) text.now ≡ Err fault)) }
 {
     match made_name(earlier, text) {
         Some(name) => Ok(name),

@@ -45,7 +45,8 @@ fn route_named(
     route: &RouteText<'_>,
 ) -> Result<(), LoadFault>
     ensures ok { IfOk result (λ done. route_named_by (given_names names.now) (routes_path_by number) (written_route route.now) ≡ Ok done) }
-    ensures err { IfErr result (λ fault. fault ≢ faults.Memory → (route_named_by (given_names names.now) (routes_path_by number) (written_route route.now) ≡ Err fault)) }
+    ensures err { IfErr result (λ fault. fault ≢ faults.Memory
+        → (route_named_by (given_names names.now) (routes_path_by number) (written_route route.now) ≡ Err fault)) }
 {
     if is_among(names.devices.as_slice(), route.device)
         && is_among(names.links.as_slice(), route.link)
@@ -64,8 +65,11 @@ fn routes_named(
     number: usize,
     routes: &[RouteText<'_>],
 ) -> Result<(), LoadFault>
-    ensures ok { IfOk result (λ done. routes_named_by (given_names names.now) (routes_path_by number) (map written_route routes.now) ≡ Ok done) }
-    ensures err { IfErr result (λ fault. fault ≢ faults.Memory → (routes_named_by (given_names names.now) (routes_path_by number) (map written_route routes.now) ≡ Err fault)) }
+    ensures ok { IfOk result (λ done.
+        routes_named_by (given_names names.now) (routes_path_by number) (map written_route routes.now) ≡ Ok done) }
+    ensures err { IfErr result (λ fault. fault ≢ faults.Memory
+        → (routes_named_by (given_names names.now) (routes_path_by number) (map written_route routes.now)
+        ≡ Err fault)) }
 {
     for route in routes {
         if let Err(fault) = route_named(alloc, names, number, route) {
@@ -84,9 +88,12 @@ fn router_named(
     earlier: &[&str],
     router: &CountedRouter<'_>,
 ) -> Result<Name, LoadFault>
-    ensures ok { IfOk result (λ name. router_named_by (given_names names.now) number (map (λ n. n.now) earlier.now) (counted_router router.now) ≡ Ok tt) }
+    ensures ok { IfOk result (λ name. router_named_by (given_names names.now) number (map
+        (λ n. n.now) earlier.now) (counted_router router.now) ≡ Ok tt) }
     ensures name { IfOk result (λ name. name ≡ (counted_router router.now).name) }
-    ensures err { IfErr result (λ fault. fault ≢ faults.Memory → (router_named_by (given_names names.now) number (map (λ n. n.now) earlier.now) (counted_router router.now) ≡ Err fault)) }
+    ensures err { IfErr result (λ fault. fault ≢ faults.Memory
+        → (router_named_by (given_names names.now) number (map (λ n. n.now) earlier.now) (counted_router router.now)
+        ≡ Err fault)) }
 {
     let name = new_name(alloc, "routers", number, earlier, router.name)?;
     match routes_named(alloc, names, number, router.routes.as_slice()) {
@@ -97,7 +104,8 @@ fn router_named(
 
 /// The first of some routes that goes from a device.
 fn route_from<'v>(routes: &[RouteText<'v>], device: &str) -> Option<RouteText<'v>>
-    ensures { option_map written_route result ≡ find (λ route. bytes_eq device.now route.device) (map written_route routes.now) }
+    ensures { option_map written_route result ≡ find
+        (λ route. bytes_eq device.now route.device) (map written_route routes.now) }
 {
     for route in routes {
         if device == route.device {
@@ -125,7 +133,8 @@ fn route_places(names: &NameLists<'_>, routes: &[RouteText<'_>]) -> [Option<u8>;
     requires links { vec_len names.now.links ≤ 128 }
     requires devices { vec_len names.now.devices ≤ 32 }
     ensures whole { length result ≡ 32 }
-    ensures routes { take (vec_len names.now.devices) result ≡ map (route_to_by (given_names names.now) (map written_route routes.now)) (given_names names.now).devices }
+    ensures routes { take (vec_len names.now.devices) result
+        ≡ map (route_to_by (given_names names.now) (map written_route routes.now)) (given_names names.now).devices }
 {
     let mut places = [None; 32];
     for (device, name) in names.devices.iter().enumerate() {
@@ -139,7 +148,8 @@ fn router_plan(names: &NameLists<'_>, name: Name, router: &CountedRouter<'_>) ->
     requires name { name ≡ (counted_router router.now).name }
     requires links { vec_len names.now.links ≤ 128 }
     requires devices { vec_len names.now.devices ≤ 32 }
-    ensures { router_of (vec_len names.now.devices) result ≡ placed_router (given_names names.now) (counted_router router.now) }
+    ensures { router_of (vec_len names.now.devices) result
+        ≡ placed_router (given_names names.now) (counted_router router.now) }
 {
     RouterPlan {
         name,
@@ -157,10 +167,14 @@ pub fn router_plans<'v>(
 ) -> Result<Vec<RouterPlan>, LoadFault>
     requires links { vec_len names.now.links ≤ 128 }
     requires devices { vec_len names.now.devices ≤ 32 }
-    ensures names { IfOk result (λ plans. routers_by (given_names names.now) 0 (map (λ n. n.now) earlier.old.items) (map counted_router routers.now) ≡ Ok (map (λ n. n.now) earlier.new.items)) }
-    ensures plans { IfOk result (λ plans. map (router_of (vec_len names.now.devices)) plans.items ≡ map (placed_router (given_names names.now)) (map counted_router routers.now)) }
+    ensures names { IfOk result (λ plans. routers_by (given_names names.now) 0 (map
+        (λ n. n.now) earlier.old.items) (map counted_router routers.now) ≡ Ok (map (λ n. n.now) earlier.new.items)) }
+    ensures plans { IfOk result (λ plans. map (router_of (vec_len names.now.devices)) plans.items
+        ≡ map (placed_router (given_names names.now)) (map counted_router routers.now)) }
     ensures many { IfOk result (λ plans. vec_len plans ≡ length routers.now) }
-    ensures err { IfErr result (λ fault. fault ≢ faults.Memory → (routers_by (given_names names.now) 0 (map (λ n. n.now) earlier.old.items) (map counted_router routers.now) ≡ Err fault)) }
+    ensures err { IfErr result (λ fault. fault ≢ faults.Memory
+        → (routers_by (given_names names.now) 0 (map (λ n. n.now) earlier.old.items) (map counted_router routers.now)
+        ≡ Err fault)) }
 {
     let mut plans = Vec::new(alloc);
     for (number, router) in routers.iter().enumerate() {

@@ -67,7 +67,8 @@ fn transactions(alloc: Global, host: u8, lines: &[&str]) -> Result<Vec<Txn>, Loa
     ensures ok { IfOk result (λ txns. script_by host 1 [] (map (λ line. line.now) lines.now) ≡ Ok txns.items) }
     ensures transactions { IfOk result (λ txns. All IsTransaction txns.items) }
     ensures many { IfOk result (λ txns. vec_len txns ≤ length lines.now) }
-    ensures err { IfErr result (λ fault. fault ≢ faults.Memory → (script_by host 1 [] (map (λ line. line.now) lines.now) ≡ Err fault)) }
+    ensures err { IfErr result (λ fault. fault ≢ faults.Memory
+        → (script_by host 1 [] (map (λ line. line.now) lines.now) ≡ Err fault)) }
 {
     let mut txns = Vec::new(alloc);
     for (index, line) in lines.iter().enumerate() {
@@ -84,7 +85,8 @@ fn transactions(alloc: Global, host: u8, lines: &[&str]) -> Result<Vec<Txn>, Loa
 fn told_host(alloc: Global, number: u8, host: &HostDraft<'_>) -> Result<HostPlan, LoadFault>
     ensures ok { IfOk result (λ plan. told_host_by number (draft_host host.now) ≡ Ok (host_of plan)) }
     ensures many { IfOk result (λ plan. length plan.script ≤ 65536) }
-    ensures err { IfErr result (λ fault. fault ≢ faults.Memory → (told_host_by number (draft_host host.now) ≡ Err fault)) }
+    ensures err { IfErr result (λ fault. fault ≢ faults.Memory
+        → (told_host_by number (draft_host host.now) ≡ Err fault)) }
 {
     match transactions(alloc, number, host.lines.as_slice()) {
         Ok(txns) => Ok(HostPlan {
@@ -104,7 +106,8 @@ pub fn told_hosts(alloc: Global, hosts: &[HostDraft<'_>]) -> Result<Vec<HostPlan
     ensures ok { IfOk result (λ plans. hosts_by 0 [] (map draft_host hosts.now) ≡ Ok (map host_of plans.items)) }
     ensures scripts { IfOk result (λ plans. All (λ h. length h.script ≤ 65536) plans.items) }
     ensures hosts { IfOk result (λ plans. vec_len plans ≡ length hosts.now) }
-    ensures err { IfErr result (λ fault. fault ≢ faults.Memory → (hosts_by 0 [] (map draft_host hosts.now) ≡ Err fault)) }
+    ensures err { IfErr result (λ fault. fault ≢ faults.Memory
+        → (hosts_by 0 [] (map draft_host hosts.now) ≡ Err fault)) }
 {
     let mut plans = Vec::new(alloc);
     for (number, host) in hosts.iter().enumerate() {

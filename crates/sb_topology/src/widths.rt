@@ -42,9 +42,12 @@ fn link_row(link: &LinkDraft) -> LinkRow
 #[tactic(auto, unfolding(crate::specs::Tests::unless_found))]
 fn link_rows(alloc: Global, links: &[LinkDraft]) -> Result<Vec<LinkRow>, LoadFault>
     requires { length links.now ≤ 128 }
-    ensures widths { IfOk result (λ rows. position_from (λ l. not (is_width_now l.width)) 0 (map draft_link links.now) ≡ None) }
+    ensures widths { IfOk result (λ rows. position_from (λ l. not (is_width_now l.width)) 0 (map draft_link links.now)
+        ≡ None) }
     ensures rows { IfOk result (λ rows. map link_of rows.items ≡ map draft_link links.now) }
-    ensures err { IfErr result (λ fault. fault ≢ faults.Memory → (unless_found faults.Width (position_from (λ l. not (is_width_now l.width)) 0 (map draft_link links.now)) ≡ Err fault)) }
+    ensures err { IfErr result (λ fault. fault ≢ faults.Memory
+        → (unless_found faults.Width (position_from (λ l. not (is_width_now l.width)) 0 (map draft_link links.now))
+        ≡ Err fault)) }
 {
     let mut rows = Vec::new(alloc);
     for (number, link) in links.iter().enumerate() {
@@ -66,7 +69,8 @@ pub fn sized_plan(alloc: Global, draft: Draft<'_>) -> Result<Plan<'_>, LoadFault
     ensures hosts { IfOk result (λ plan. plan.hosts ≡ draft.entry.hosts) }
     ensures devices { IfOk result (λ plan. plan.devices ≡ draft.entry.devices) }
     ensures ok { IfOk result (λ plan. unless_found faults.Width (odd_width (draft_network draft.entry)) ≡ Ok tt) }
-    ensures err { IfErr result (λ fault. fault ≢ faults.Memory → (unless_found faults.Width (odd_width (draft_network draft.entry)) ≡ Err fault)) }
+    ensures err { IfErr result (λ fault. fault ≢ faults.Memory
+        → (unless_found faults.Width (odd_width (draft_network draft.entry)) ≡ Err fault)) }
 {
     match link_rows(alloc, draft.links.as_slice()) {
         Ok(links) => Ok(Plan {
