@@ -1,4 +1,4 @@
-//! The example network is accepted: that its rows are those of the example is proved of its text.
+//! The example network and that of `sb solo` are accepted: that their fields are those of the text is proved of it.
 
 use crate::faults::told;
 use std::test::Fail;
@@ -9,5 +9,15 @@ const EXAMPLE: &str =
 #[test]
 fn example_is_accepted(rt: HostRuntime) -> Result<(), Fail> {
     assert_eq!(rt; told(rt.alloc(), EXAMPLE)?.as_str(), "accepted");
+    Ok(())
+}
+
+// its network is that of `sb solo`: proofs/SoloBundle.antt
+const SOLO: &str =
+    r#"{"version":1,"hosts":[{"name":"host","id":0,"script":["wr 0x10 2 0102030405060708","rd 0x10 2 2"]}],"routers":[{"name":"hub","routes":{"mem":"dn"}}],"devices":[{"name":"mem","base":"0","pages":16}],"links":[{"name":"up","from":"host","to":"hub","width":32,"capacity":1},{"name":"dn","from":"hub","to":"mem","width":32,"capacity":1}]}"#;
+
+#[test]
+fn solo_is_accepted(rt: HostRuntime) -> Result<(), Fail> {
+    assert_eq!(rt; told(rt.alloc(), SOLO)?.as_str(), "accepted");
     Ok(())
 }

@@ -104,3 +104,56 @@ fn json(rt: HostRuntime) -> Result<(), Fail> {
     assert_eq!(rt; told_of_bytes(alloc, &[34, 255, 34])?.as_str(), "Json");
     Ok(())
 }
+
+/// What is told of the text with so many of an item before those of a list.
+fn told_of_list(alloc: Global, list: &str, count: u32, item: &str) -> Result<String, Fail> {
+    let longer = long(alloc, list, count, item, "")?;
+    told(
+        alloc,
+        replaced(alloc, BASE, list, longer.as_str())?.as_str(),
+    )
+}
+
+#[test]
+fn lists(rt: HostRuntime) -> Result<(), Fail> {
+    let alloc = rt.alloc();
+    let rows = [
+        (
+            "hosts",
+            "\"hosts\":[",
+            30,
+            "{\"name\":\"x\",\"id\":0,\"script\":[]},",
+        ),
+        (
+            "routers",
+            "\"routers\":[",
+            30,
+            "{\"name\":\"x\",\"routes\":{}},",
+        ),
+        (
+            "devices",
+            "\"devices\":[",
+            30,
+            "{\"name\":\"x\",\"base\":\"0\",\"pages\":1},",
+        ),
+        (
+            "links",
+            "\"links\":[",
+            123,
+            "{\"name\":\"x\",\"from\":\"h0\",\"to\":\"r0\",\"width\":32,\"capacity\":1},",
+        ),
+    ];
+    for (name, list, count, item) in rows {
+        let most = format!(in alloc; "Name {{ path: Path {{ text: \"{name}[1].name\" }} }}")?;
+        let more = format!(in alloc; "Count {{ path: Path {{ text: \"{name}\" }} }}")?;
+        assert_eq!(rt;
+            told_of_list(alloc, list, count, item)?.as_str(),
+            most.as_str()
+        );
+        assert_eq!(rt;
+            told_of_list(alloc, list, count + 1, item)?.as_str(),
+            more.as_str()
+        );
+    }
+    Ok(())
+}
