@@ -47,8 +47,8 @@ pub trait Fabric: Send {
         ensures settled { (ring : ℕ) → settled self.new ring ≡ settled self.old ring }
         ensures unsettled { IfOk result (λ ends. settled self.new plan.now.ring ≡ false) };
 
-    /// Hands over what the fabric keeps back inside the producer's end. No end knows more than the other one did, and
-    /// where the fabric is prompt, each knows all of it. Takes no memory.
+    /// Hands over what the fabric keeps back inside the producer's end. Where the fabric is prompt, the two ends meet:
+    /// each knows all that the other one did, and no more. Takes no memory.
     fn hand(tx: &mut Self::Tx, rx: &mut Self::Rx)
         requires marks { Self.Tx.mark tx.old ≡ Self.Rx.mark rx.old }
         ensures tx_plan { Self.Tx.planned tx.new ≡ Self.Tx.planned tx.old }
@@ -58,8 +58,8 @@ pub trait Fabric: Send {
         ensures taken { Self.Tx.taken tx.old ≤ Self.Tx.taken tx.new }
         ensures known { Self.Rx.known rx.old ≤ Self.Rx.known rx.new }
         ensures marks { Self.Tx.mark tx.new ≡ Self.Rx.mark rx.new }
-        ensures taken_at_most { Self.Tx.taken tx.new ≤ length (Self.Rx.received rx.new) }
-        ensures known_at_most { Self.Rx.known rx.new ≤ length (Self.Tx.sent tx.new) }
+        ensures taken_at_most { prompt ≡ true → Self.Tx.taken tx.new ≤ length (Self.Rx.received rx.new) }
+        ensures known_at_most { prompt ≡ true → Self.Rx.known rx.new ≤ length (Self.Tx.sent tx.new) }
         ensures met { prompt ≡ true → HaveMet (Self.Tx.sent tx.new) (Self.Tx.taken tx.new) (Self.Rx.received rx.new) (Self.Rx.known rx.new) };
 
     /// Takes the ends of a ring back, and keeps what it carried in a place that `make` reserved. Takes no memory.
@@ -75,4 +75,19 @@ pub trait Fabric: Send {
         ensures settled { settled self.new (Self.Tx.planned tx).ring ≡ true }
         ensures others_settled { (ring : ℕ) → ring ≢ (Self.Tx.planned tx).ring → settled self.new ring ≡ settled self.old ring }
         ensures others { (ring : ℕ) → ring ≢ (Self.Tx.planned tx).ring → carried self.new ring ≡ carried self.old ring };
+}
+
+/// A fabric whose rings' ends can meet in place, whether it is prompt or not.
+pub trait MeetFabric: Fabric {
+    /// The two ends of a ring meet: each knows at least all that the other one did. Takes no memory.
+    fn meet(tx: &mut Self::Tx, rx: &mut Self::Rx)
+        requires marks { Self.Tx.mark tx.old ≡ Self.Rx.mark rx.old }
+        ensures tx_plan { Self.Tx.planned tx.new ≡ Self.Tx.planned tx.old }
+        ensures rx_plan { Self.Rx.planned rx.new ≡ Self.Rx.planned rx.old }
+        ensures sent { Self.Tx.sent tx.new ≡ Self.Tx.sent tx.old }
+        ensures received { Self.Rx.received rx.new ≡ Self.Rx.received rx.old }
+        ensures taken { Self.Tx.taken tx.old ≤ Self.Tx.taken tx.new }
+        ensures known { Self.Rx.known rx.old ≤ Self.Rx.known rx.new }
+        ensures marks { Self.Tx.mark tx.new ≡ Self.Rx.mark rx.new }
+        ensures met { HaveMet (Self.Tx.sent tx.new) (Self.Tx.taken tx.new) (Self.Rx.received rx.new) (Self.Rx.known rx.new) };
 }

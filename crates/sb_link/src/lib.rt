@@ -25,7 +25,7 @@ mod told;
 
 pub use answers::{Cause, Pop, Push, Turn};
 pub use ends::{RxEnd, TxEnd};
-pub use fabric::Fabric;
+pub use fabric::{Fabric, MeetFabric};
 pub use flow::Flow;
 pub use flows::Flows;
 pub use moves::move_item;

@@ -2,7 +2,7 @@
 
 use crate::answers::{Pop, Push};
 use crate::ends::{RxEnd, TxEnd};
-use crate::fabric::Fabric;
+use crate::fabric::{Fabric, MeetFabric};
 use crate::plan::LinkPlan;
 use sb_packet::Item;
 use std::alloc::{AllocError, Global};
@@ -99,5 +99,11 @@ impl<F: Fabric> Fabric for PassOn<F> {
         let PassOnTx { inner: tx } = tx;
         let PassOnRx { inner: rx } = rx;
         self.inner.settle(tx, rx);
+    }
+}
+
+impl<F: MeetFabric> MeetFabric for PassOn<F> {
+    fn meet(tx: &mut PassOnTx<F::Tx>, rx: &mut PassOnRx<F::Rx>) {
+        F::meet(&mut tx.inner, &mut rx.inner);
     }
 }

@@ -4,7 +4,7 @@ ghost use Rattle.std.specs.Prelude.{◌≡◌, [], false, true, IfOk, ℕ};
 ghost use Rattle.sb_link.specs.PlanOf.{plan_of};
 
 use crate::ends::{RxEnd, TxEnd};
-use crate::fabric::Fabric;
+use crate::fabric::{Fabric, MeetFabric};
 use crate::hand::hand_over;
 use crate::plan::LinkPlan;
 use crate::serial_rx::SerialRx;
@@ -102,5 +102,11 @@ impl Fabric for SerialFabric {
 
     fn settle(&mut self, tx: SerialTx, rx: SerialRx) {
         self.shelf.keep(tx.plan.ring, rx);
+    }
+}
+
+impl MeetFabric for SerialFabric {
+    fn meet(tx: &mut SerialTx, rx: &mut SerialRx) {
+        hand_over(tx, rx);
     }
 }

@@ -1,4 +1,4 @@
 pub mod EndsChanged
-pub mod RingsHanded
+pub mod RingsMet
 pub mod RingsJoined
 pub mod Turned

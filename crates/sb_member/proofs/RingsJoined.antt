@@ -27,7 +27,7 @@ below_not zero (suc b) lt n = omega arith
 below_not (suc a) zero lt n = absurd (omega (arith, lt))
 below_not (suc a) (suc b) lt n = let less = below_not a b (omega (arith, lt)) (λ e. n (ap suc e)) in omega (arith, less)
 
-module _ {F T U : Type 0} (prompt : Bool) (j : Joint) (before after : List (Member F T U)) (p : IsRingPlaced before j) (h : HasRingMet prompt j before after) where
+module _ {F T U : Type 0} (j : Joint) (before after : List (Member F T U)) (p : IsRingPlaced before j) (h : HasRingMet j before after) where
   abbrev a : Member F T U
   a = node_at before j.from
 
@@ -112,7 +112,7 @@ module _ {F T U : Type 0} (prompt : Bool) (j : Joint) (before after : List (Memb
       (whole_with_ring b j.into h.ring_then p.into (All-get_or IsWholeMember before j.to no_node p.to w) h.joined.received)
       (All-set IsWholeMember before j.from a_then (whole_with_port a j.out h.port_then p.out (All-get_or IsWholeMember before j.from no_node p.from w) h.joined.sent) w))
 
-module _ {F T U : Type 0} (prompt : Bool) (joints : List Joint) (r : ℕ) (before after : List (Member F T U)) (lt : r < length joints) (n : IsJoined joints before) (h : HasRingMet prompt (joint_at joints r) before after) where
+module _ {F T U : Type 0} (joints : List Joint) (r : ℕ) (before after : List (Member F T U)) (lt : r < length joints) (n : IsJoined joints before) (h : HasRingMet (joint_at joints r) before after) where
   abbrev j : Joint
   j = joint_at joints r
 
@@ -129,34 +129,34 @@ module _ {F T U : Type 0} (prompt : Bool) (joints : List Joint) (r : ℕ) (befor
       differs (sym (n.received_by q below) ∙ ap (λ k. (ring_at (node_at before k) (joint_at joints q).into).plan.ring) to ∙ ap (λ k. (ring_at (node_at before j.to) k).plan.ring) into ∙ n.received_by r lt)
 
   sender_stays : (q : ℕ) → q < length joints → q ≢ r → sender_of after (joint_at joints q) ≡ sender_of before (joint_at joints q)
-  sender_stays q below differs = sender_there prompt j before after p h (joint_at joints q) (other_port q below differs)
+  sender_stays q below differs = sender_there j before after p h (joint_at joints q) (other_port q below differs)
 
   receiver_stays : (q : ℕ) → q < length joints → q ≢ r → receiver_of after (joint_at joints q) ≡ receiver_of before (joint_at joints q)
-  receiver_stays q below differs = receiver_there prompt j before after p h (joint_at joints q) (other_ring q below differs)
+  receiver_stays q below differs = receiver_there j before after p h (joint_at joints q) (other_ring q below differs)
 
   marks_then : (q : ℕ) → q < length joints → (sender_of after (joint_at joints q)).mark ≡ (receiver_of after (joint_at joints q)).mark
   marks_then q below = same_or_not q r
-      (λ e. ap (λ k. (sender_of after (joint_at joints k)).mark) e ∙ ap (λ (x : PortSide). x.mark) (sender_here prompt j before after p h) ∙ h.joined.marks
-      ∙ sym (ap (λ (x : RingSide). x.mark) (receiver_here prompt j before after p h)) ∙ sym (ap (λ k. (receiver_of after (joint_at joints k)).mark) e))
+      (λ e. ap (λ k. (sender_of after (joint_at joints k)).mark) e ∙ ap (λ (x : PortSide). x.mark) (sender_here j before after p h) ∙ h.joined.marks
+      ∙ sym (ap (λ (x : RingSide). x.mark) (receiver_here j before after p h)) ∙ sym (ap (λ k. (receiver_of after (joint_at joints k)).mark) e))
       (λ differs. ap (λ (x : PortSide). x.mark) (sender_stays q below differs) ∙ (n.placed q below).marks ∙ sym (ap (λ (x : RingSide). x.mark) (receiver_stays q below differs)))
 
   pub joined_on : IsJoined joints after
   joined_on = record {
-    whole = all_whole prompt j before after p h n.whole;
-    placed = λ q below. placed_on prompt j before after p h (joint_at joints q) (n.placed q below) (marks_then q below);
+    whole = all_whole j before after p h n.whole;
+    placed = λ q below. placed_on j before after p h (joint_at joints q) (n.placed q below) (marks_then q below);
     sent_by = λ q below. same_or_not q r
-        (λ e. ap (λ k. (sender_of after (joint_at joints k)).plan.ring) e ∙ ap (λ (x : PortSide). x.plan.ring) (sender_here prompt j before after p h) ∙ ap (λ (x : RingPlan). x.ring) h.joined.sent.plan ∙ n.sent_by r lt ∙ sym e)
+        (λ e. ap (λ k. (sender_of after (joint_at joints k)).plan.ring) e ∙ ap (λ (x : PortSide). x.plan.ring) (sender_here j before after p h) ∙ ap (λ (x : RingPlan). x.ring) h.joined.sent.plan ∙ n.sent_by r lt ∙ sym e)
         (λ differs. ap (λ (x : PortSide). x.plan.ring) (sender_stays q below differs) ∙ n.sent_by q below);
     received_by = λ q below. same_or_not q r
-        (λ e. ap (λ k. (receiver_of after (joint_at joints k)).plan.ring) e ∙ ap (λ (x : RingSide). x.plan.ring) (receiver_here prompt j before after p h) ∙ ap (λ (x : RingPlan). x.ring) h.joined.received.plan ∙ n.received_by r lt ∙ sym e)
+        (λ e. ap (λ k. (receiver_of after (joint_at joints k)).plan.ring) e ∙ ap (λ (x : RingSide). x.plan.ring) (receiver_here j before after p h) ∙ ap (λ (x : RingPlan). x.ring) h.joined.received.plan ∙ n.received_by r lt ∙ sym e)
         (λ differs. ap (λ (x : RingSide). x.plan.ring) (receiver_stays q below differs) ∙ n.received_by q below);
   }
 
-  pub met_on : prompt ≡ true → HaveAllMet joints r before → HaveAllMet joints (r + 1) after
-  met_on prompted met q below = same_or_not q r
+  pub met_on : HaveAllMet joints r before → HaveAllMet joints (r + 1) after
+  met_on met q below = same_or_not q r
       (λ e. subst (λ k. KnowEachOther after (joint_at joints k)) (sym e)
-      (subst (λ (x : PortSide). HaveMet x.state.sent x.taken (receiver_of after j).received (receiver_of after j).known) (sym (sender_here prompt j before after p h))
-      (subst (λ (x : RingSide). HaveMet h.port_then.state.sent h.port_then.taken x.received x.known) (sym (receiver_here prompt j before after p h)) (h.joined.met prompted))))
+      (subst (λ (x : PortSide). HaveMet x.state.sent x.taken (receiver_of after j).received (receiver_of after j).known) (sym (sender_here j before after p h))
+      (subst (λ (x : RingSide). HaveMet h.port_then.state.sent h.port_then.taken x.received x.known) (sym (receiver_here j before after p h)) h.joined.met)))
       (λ differs. let inside : q < r = below_not q r below differs in
       let within : q < length joints = omega (arith, inside, lt) in
       subst (λ (x : PortSide). HaveMet x.state.sent x.taken (receiver_of after (joint_at joints q)).received (receiver_of after (joint_at joints q)).known) (sym (sender_stays q within differs))

@@ -40,17 +40,17 @@ module _ {F T U : Type 0} where
   member_with_ring (Device d) k ring = Device (record d { requests = ring })
 
 -- Two ends of a ring have met: both are as before, but for what they learnt, and are of one ring still.
-pub record HaveJoined (prompt : Bool) (port port_then : PortSide) (ring ring_then : RingSide) : Type 0 where
+pub record HaveJoined (port port_then : PortSide) (ring ring_then : RingSide) : Type 0 where
   pub sent : IsPortMet port port_then
   pub received : IsRingMet ring ring_then
   pub marks : port_then.mark ≡ ring_then.mark
-  pub met : prompt ≡ true → HaveMet port_then.state.sent port_then.taken ring_then.received ring_then.known
+  pub met : HaveMet port_then.state.sent port_then.taken ring_then.received ring_then.known
 
 module _ {F T U : Type 0} where
   -- the port at a place of one node met the ring's end at a place of another
-  pub record HaveMetAt (prompt : Bool) (out into : ℕ) (from from_then to to_then : Member F T U) : Type 0 where
+  pub record HaveMetAt (out into : ℕ) (from from_then to to_then : Member F T U) : Type 0 where
     pub port_then : PortSide
     pub ring_then : RingSide
     pub sender : from_then ≡ member_with_port from out port_then
     pub receiver : to_then ≡ member_with_ring to into ring_then
-    pub joined : HaveJoined prompt (port_at from out) port_then (ring_at to into) ring_then
+    pub joined : HaveJoined (port_at from out) port_then (ring_at to into) ring_then

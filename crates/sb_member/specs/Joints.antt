@@ -41,16 +41,16 @@ module _ {F T U : Type 0} where
     pub marks : (sender_of nodes j).mark ≡ (receiver_of nodes j).mark
 
   -- The ends of one ring have met; nothing else happened.
-  pub record HasRingMet (prompt : Bool) (j : Joint) (before after : List (Member F T U)) : Type 0 where
+  pub record HasRingMet (j : Joint) (before after : List (Member F T U)) : Type 0 where
     pub port_then : PortSide
     pub ring_then : RingSide
     pub nodes : after ≡ set (set before j.from (member_with_port (node_at before j.from) j.out port_then)) j.to (member_with_ring (node_at before j.to) j.into ring_then)
-    pub joined : HaveJoined prompt (sender_of before j) port_then (receiver_of before j) ring_then
+    pub joined : HaveJoined (sender_of before j) port_then (receiver_of before j) ring_then
 
   -- The ends of these rings have met, one ring after another; nothing else happened.
-  abbrev pub HandsAlong : Bool → List Joint → List (Member F T U) → List (Member F T U) → Type 0
-  HandsAlong prompt [] before after = after ≡ before
-  HandsAlong prompt (j ∷ joints) before after = (between : List (Member F T U)) × HasRingMet prompt j before between × HandsAlong prompt joints between after
+  abbrev pub MeetAlong : List Joint → List (Member F T U) → List (Member F T U) → Type 0
+  MeetAlong [] before after = after ≡ before
+  MeetAlong (j ∷ joints) before after = (between : List (Member F T U)) × HasRingMet j before between × MeetAlong joints between after
 
   -- A network between two steps: each node is whole, and ring r stands at joint r.
   pub record IsJoined (joints : List Joint) (nodes : List (Member F T U)) : Type 0 where

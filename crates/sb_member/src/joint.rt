@@ -6,7 +6,7 @@ ghost use Rattle.sb_member.specs.Joints.{HasRingMet, IsRingPlaced};
 
 use crate::member::Member;
 use crate::pair::two;
-use sb_link::Fabric;
+use sb_link::MeetFabric;
 
 /// Where a ring stands: the node that sends over it and the place of its port there, and the node that receives by it
 /// and the place of its end there.
@@ -19,25 +19,25 @@ pub struct Joint {
 }
 
 // the ends of a ring meet: the port at a place of one node, and the end at a place of another
-fn hand_over<F: Fabric>(from: &mut Member<F>, out: usize, to: &mut Member<F>, into: usize)
+fn meet_ends<F: MeetFabric>(from: &mut Member<F>, out: usize, to: &mut Member<F>, into: usize)
     requires out { out < length (ports_of from.old) }
     requires within { into < length (rings_of to.old) }
     requires marks { (port_at from.old out).mark ≡ (ring_at to.old into).mark }
-    ensures met { HaveMetAt F.prompt out into from.old from.new to.old to.new }
+    ensures met { HaveMetAt out into from.old from.new to.old to.new }
 {
-    F::hand(from.port(out).end(), to.end(into));
+    F::meet(from.port(out).end(), to.end(into));
 }
 
-/// The two ends of a ring meet in their nodes, by `Fabric::hand`. Takes no memory.
-pub fn hand_ring<F: Fabric>(nodes: &mut [Member<F>], joint: &Joint)
+/// The two ends of a ring meet in their nodes, by `MeetFabric::meet`. Takes no memory.
+pub fn meet_ring<F: MeetFabric>(nodes: &mut [Member<F>], joint: &Joint)
     requires placed { IsRingPlaced nodes.old joint.now }
-    ensures handed { HasRingMet F.prompt joint.now nodes.old nodes.new }
+    ensures met { HasRingMet joint.now nodes.old nodes.new }
 {
     if joint.from < joint.to {
         let (from, to) = two(nodes, joint.from, joint.to);
-        hand_over(from, joint.out, to, joint.into);
+        meet_ends(from, joint.out, to, joint.into);
     } else {
         let (to, from) = two(nodes, joint.to, joint.from);
-        hand_over(from, joint.out, to, joint.into);
+        meet_ends(from, joint.out, to, joint.into);
     }
 }

@@ -6,7 +6,7 @@ mod member;
 mod pair;
 mod rings;
 
-pub use joint::{Joint, hand_ring};
+pub use joint::{Joint, meet_ring};
 pub use member::Member;
 pub use pair::two;
-pub use rings::hand_rings;
+pub use rings::meet_rings;

@@ -12,9 +12,11 @@ use Rattle.sb_packet.specs.Soundness.{IsSound}
 use Rattle.sb_packet.specs.Spans.{word_count_of}
 use Rattle.sb_packet.specs.Traffic.{IsCarriable, MayFollow, MayPass, has_close, item_accesses, item_messages}
 use Rattle.sb_packet.specs.declared.packet.Packet.{Packet}
+use Rattle.sb_packet.specs.declared.item.Item.{Item}
 use Rattle.sb_packet.specs.declared.item.Item.TheVariants as items
 use Rattle.sb_packet.proofs.FineParts.{packet_whole}
-use Rattle.sb_port.specs.Waiting.{listed, offered, released}
+use Rattle.sb_link.proofs.InTurn.{appended_in_turn, nothing_in_turn}
+use Rattle.sb_port.specs.Waiting.{IsWidth, Waiting, listed, nothing_waits, offered, released}
 use Rattle.sb_port.specs.Ports.{PortState, IsFit, IsSendable, port_messages, port_accesses}
 use Rattle.sb_port.specs.Turns.{SendsFirst, SendsClose}
 use Rattle.sb_port.proofs.Items.{has_close-packet, has_close-close, item_messages-packet, item_messages-close, item_accesses-messages}
@@ -90,6 +92,7 @@ fit_offered plan s p fit untold passes =
       told = fit.told;
       none_owed = λ h. absurd (unshut h);
       none_held = λ h. refl;
+      in_turn = fit.in_turn;
       sound = fit.sound;
       owed = All-append (IsSendable plan) s.waiting.owed (listed s.waiting.held ++ message_of p ∷ []) fit.owed
           (All-push (IsSendable plan) (listed s.waiting.held) (message_of p) fit.held (passes_sendable plan s p fit passes));
@@ -116,6 +119,7 @@ fit_sends plan s t fit sends =
       told = fit.told;
       none_owed = λ h. let no_way : true ≡ false = sym h ∙ unsent in absurd (cc);
       none_held = fit.none_held;
+      in_turn = appended_in_turn s.sent (items.Packet p) fit.in_turn (may_send plan s p rest fit sends.first);
       sound = rw (item_messages-packet s.sent p) (All-push IsSound (item_messages s.sent) m fit.sound sendable.fine.sound);
       owed = All-tail (IsSendable plan) m rest owed;
       held = fit.held;
@@ -133,6 +137,7 @@ fit_released plan s fit = record {
   told = fit.told;
   none_owed = λ h. rw (fit.none_owed h, fit.none_held h) refl;
   none_held = λ h. refl;
+  in_turn = fit.in_turn;
   sound = fit.sound;
   owed = All-append (IsSendable plan) s.waiting.owed (listed s.waiting.held) fit.owed fit.held;
   held = All-nil (IsSendable plan);
@@ -153,9 +158,34 @@ fit_closes plan s t fit closes =
       told = λ h. closes.told;
       none_owed = λ h. closes.none_owed;
       none_held = λ h. closes.none_held;
+      in_turn = appended_in_turn s.sent items.Close fit.in_turn (may_close plan s fit closes.unsent);
       sound = rw (item_messages-close s.sent) fit.sound;
       owed = fit.owed;
       held = fit.held;
       counted = fit.counted ∙ ap (λ (list : List Access). length list) (sym same);
       room = fit.room;
     })
+
+-- A port over an end at which nothing was sent is fit.
+pub fit_fresh : (plan : RingPlan) (sent : List Item) (waiting : Waiting) → sent ≡ [] → waiting ≡ nothing_waits plan.width → IsWidth plan.width → plan.budget ≤ 262144
+    → IsFit plan (record { sent = sent; waiting = waiting; closing = false; shut = false; claimed = 0 })
+fit_fresh plan sent waiting unsent none wide limit =
+    subst (λ (w : Waiting). IsFit plan (record { sent = sent; waiting = w; closing = false; shut = false; claimed = 0 })) (sym none)
+    (subst (λ (list : List Item). IsFit plan (record { sent = list; waiting = nothing_waits plan.width; closing = false; shut = false; claimed = 0 })) (sym unsent) (record {
+      width = refl;
+      wide = wide;
+      limit = limit;
+      close = refl;
+      told = λ h. absurd (false_true h);
+      none_owed = λ h. refl;
+      none_held = λ h. refl;
+      in_turn = nothing_in_turn;
+      sound = All-nil IsSound;
+      owed = All-nil (IsSendable plan);
+      held = All-nil (IsSendable plan);
+      counted = refl;
+      room = omega arith;
+    }))
+  where
+    false_true : false ≡ true → ⊥
+    false_true h = cc

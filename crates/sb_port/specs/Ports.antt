@@ -3,7 +3,7 @@ use Rattle.std.specs.Prelude.{◌≡◌, ℕ, ◌≤◌, Bool, true, false, not,
 use Rattle.sb_packet.specs.Accesses.{Access, message_accesses}
 use Rattle.sb_packet.specs.Messages.{Message}
 use Rattle.sb_packet.specs.Plans.{RingPlan}
-use Rattle.sb_packet.specs.Traffic.{IsPlanned, has_close, item_messages}
+use Rattle.sb_packet.specs.Traffic.{AreInTurn, IsPlanned, has_close, item_messages}
 use Rattle.sb_packet.specs.Soundness.{IsSound, IsFine}
 use Rattle.sb_packet.specs.declared.item.Item.{Item}
 use Rattle.sb_link.specs.Ends.{Mark}
@@ -85,7 +85,8 @@ pub record IsFit (plan : RingPlan) (s : PortState) : Type 0 where
   pub told : s.shut ≡ true → s.closing ≡ true
   pub none_owed : s.shut ≡ true → s.waiting.owed ≡ []
   pub none_held : s.shut ≡ true → s.waiting.held ≡ None
-  -- all that was sent was sound, and all that waits may be sent
+  -- what was sent may go over the ring in this order; all of it was sound, and all that waits may be sent
+  pub in_turn : AreInTurn plan s.sent
   pub sound : All IsSound (item_messages s.sent)
   pub owed : All (IsSendable plan) s.waiting.owed
   pub held : All (IsSendable plan) (listed s.waiting.held)

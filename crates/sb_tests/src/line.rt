@@ -13,8 +13,8 @@ use sb_device::Device;
 use sb_drive::{Group, round_serial};
 use sb_flow::{Bundle, Paths};
 use sb_host::Host;
-use sb_link::{Fabric, SerialFabric, Turn};
-use sb_member::{Joint, Member, hand_rings};
+use sb_link::{Fabric, MeetFabric, SerialFabric, Turn};
+use sb_member::{Joint, Member, meet_rings};
 use sb_packet::{Code, TxnState};
 use sb_router::Router;
 use std::alloc::{AllocError, Global};
@@ -42,7 +42,7 @@ fn joints() -> [Joint; 4]
 }
 
 /// Rounds until no node moved, and whether it came to that: each node takes its turn, and then the ends of each ring meet.
-fn run<F: Fabric>(group: &mut Group<Member<F>>) -> bool
+fn run<F: MeetFabric>(group: &mut Group<Member<F>>) -> bool
     requires some { 0 < vec_len group.old.nodes }
     requires joined { IsJoined sample_joints group.old.nodes.items }
     ensures joined { IsJoined sample_joints group.new.nodes.items }
@@ -52,7 +52,7 @@ fn run<F: Fabric>(group: &mut Group<Member<F>>) -> bool
         if !round_serial(group, 0, number) {
             return true;
         }
-        hand_rings(&mut group.nodes, &joints);
+        meet_rings(&mut group.nodes, &joints);
     }
     false
 }

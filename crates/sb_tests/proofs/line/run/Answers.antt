@@ -19,8 +19,8 @@ returns-then-not-round_serial g c =
     let long : length after.items ≡ length before.items = omega (arith, r.ensures.count, after.ok.0, before.ok.0) in
     record { joined = joined_then c.loop-number.number sample_joints before.items after.items long (each_kept c.loop-number.number before.items after.items r.ensures.round.reached) r.ensures.whole c.loop-number.invariant.1 }
 
-pub hand_rings-requires-clause-joined : goal.hand_rings-requires-clause-joined
-hand_rings-requires-clause-joined g c κs below =
+pub meet_rings-requires-clause-joined : goal.meet_rings-requires-clause-joined
+meet_rings-requires-clause-joined g c κs below =
     let r = c.round_serial in
     let before = c.loop-number.group.nodes in
     let after = r.new.group.nodes in
@@ -32,9 +32,9 @@ pub loop-number-preserved : goal.loop-number-preserved
 loop-number-preserved g c =
     let r = c.round_serial in
     let nodes = r.new.group.nodes in
-    let new = c.hand_rings.new.nodes in
+    let new = c.meet_rings.new.nodes in
     let rest = drop (length new) nodes.items in
-    let kept = c.hand_rings.auto.nodes in
+    let kept = c.meet_rings.auto.nodes in
     let some = c.loop-number.invariant.0 in
     let len : nodes.len ≡ length new = omega (arith, nodes.ok.0, kept, c.deref_mut.ensures.len) in
-    (omega (arith, some, r.ensures.count), subst (λ list. IsJoined sample_joints list) (sym (taken_whole new rest nodes.len len)) (subst (λ (joints : List Joint). IsJoined joints new) c.joints-joints.ensures c.hand_rings.ensures.joined))
+    (omega (arith, some, r.ensures.count), subst (λ list. IsJoined sample_joints list) (sym (taken_whole new rest nodes.len len)) (subst (λ (joints : List Joint). IsJoined joints new) c.joints-joints.ensures c.meet_rings.ensures.joined))

@@ -1,6 +1,0 @@
--- The ids of an accepted network are below 32.
-use Rattle.sb_net.proofs.AcceptedNetworks.{low_ids}
-use Rattle.sb_net.proofs.router_laws.accepted_ids_are_low.Goals as goal
-
-pub returns : goal.returns
-returns c = record { low = λ network accepted. low_ids network accepted }
