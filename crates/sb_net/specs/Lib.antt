@@ -1,0 +1,6 @@
+pub mod Standing
+pub mod RingEnds
+pub mod NetRounds
+pub mod Recorded
+pub mod Spent
+pub mod Over

@@ -1,0 +1,33 @@
+-- The journal of a run, as it is collected from the devices.
+use Rattle.std.specs.Prelude.{◌≡◌, ℕ, ◌<◌, ◌==◌, List, [], ◌∷◌, ◌++◌, length, map, filter, flat_map, drop, slice_index_or, All}
+use Rattle.std.specs.List.{range_with_len}
+use Rattle.sb_packet.specs.Networks.{Network}
+use Rattle.sb_packet.specs.declared.entry.Entry.{Entry}
+use Rattle.sb_member.specs.Joints.{node_at}
+use Rattle.sb_member.specs.declared.member.Member.{Member}
+use Rattle.sb_member.specs.declared.member.Member.TheVariants.{Host, Router, Device}
+use Rattle.sb_net.specs.Standing.{device_number}
+
+module _ {F T U : Type 0} where
+  -- what a device has served, entry by entry; hosts and routers serve nothing
+  abbrev pub entries_of : Member F T U → List Entry
+  entries_of (Host h) = []
+  entries_of (Router r) = []
+  entries_of (Device d) = d.journal.entries
+
+  -- the same by the device's place in the network
+  abbrev pub device_entries : Network → List (Member F T U) → ℕ → List Entry
+  device_entries network nodes d = entries_of (node_at nodes (device_number network d))
+
+  -- The entries of each device that aren't among its first so many, in the order of the devices.
+  abbrev pub new_entries : Network → List ℕ → List (Member F T U) → List Entry
+  new_entries network seen nodes = flat_map (λ d. drop (slice_index_or seen d 0) (device_entries network nodes d)) (range_with_len 0 (length network.devices))
+
+  -- how many entries each device has
+  abbrev pub entry_counts : Network → List (Member F T U) → List ℕ
+  entry_counts network nodes = map (λ d. length (device_entries network nodes d)) (range_with_len 0 (length network.devices))
+
+  -- A journal has of each device what it served, in order, and nothing of any other.
+  pub record IsRecorded (network : Network) (journal : List Entry) (nodes : List (Member F T U)) : Type 0 where
+    pub entries : (d : ℕ) → d < length network.devices → filter (λ e. e.device == d) journal ≡ device_entries network nodes d
+    pub devices : All (λ e. e.device < length network.devices) journal

@@ -1,0 +1,1 @@
+//! The nodes of a network, at the ends of its rings.

@@ -1,0 +1,1 @@
+//! Laws of how much is done at the rings of a network.

@@ -1,0 +1,1 @@
+//! Laws of networks of nodes that stand.

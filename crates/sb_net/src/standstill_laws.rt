@@ -1,0 +1,1 @@
+//! Laws of a round in which no node moved.
