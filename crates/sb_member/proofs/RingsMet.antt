@@ -24,7 +24,7 @@ pub taken_further : (joints : List Joint) (k : ℕ) → k < length joints → ta
 taken_further joints k lt = let next : k + 1 ≡ suc k = omega arith in ap (λ (n : ℕ). take n joints) next ∙ taken_next joints k lt
 
 -- within a list, whatever stands for a missing element
-within_list : {A : Type 0} (xs : List A) (k : ℕ) (d e : A) → k < length xs → slice_index_or xs k d ≡ slice_index_or xs k e
+pub within_list : {A : Type 0} (xs : List A) (k : ℕ) (d e : A) → k < length xs → slice_index_or xs k d ≡ slice_index_or xs k e
 within_list [] k d e lt = absurd (omega (arith, lt))
 within_list (x ∷ xs) zero d e lt = refl
 within_list (x ∷ xs) (suc k) d e lt = within_list xs k d e (omega (arith, lt))

@@ -1,3 +1,4 @@
 pub mod Members
 pub mod Ends
 pub mod Joints
+pub mod Groups

@@ -19,7 +19,7 @@ pub struct Joint {
 }
 
 // the ends of a ring meet: the port at a place of one node, and the end at a place of another
-fn meet_ends<F: MeetFabric>(from: &mut Member<F>, out: usize, to: &mut Member<F>, into: usize)
+pub(crate) fn meet_ends<F: MeetFabric>(from: &mut Member<F>, out: usize, to: &mut Member<F>, into: usize)
     requires out { out < length (ports_of from.old) }
     requires within { into < length (rings_of to.old) }
     requires marks { (port_at from.old out).mark ≡ (ring_at to.old into).mark }
@@ -28,8 +28,8 @@ fn meet_ends<F: MeetFabric>(from: &mut Member<F>, out: usize, to: &mut Member<F>
     F::meet(from.port(out).end(), to.end(into));
 }
 
-/// The two ends of a ring meet in their nodes, by `MeetFabric::meet`. Takes no memory.
-pub fn meet_ring<F: MeetFabric>(nodes: &mut [Member<F>], joint: &Joint)
+// the two ends of a ring meet in their nodes
+pub(crate) fn meet_within<F: MeetFabric>(nodes: &mut [Member<F>], joint: &Joint)
     requires placed { IsRingPlaced nodes.old joint.now }
     ensures met { HasRingMet joint.now nodes.old nodes.new }
 {

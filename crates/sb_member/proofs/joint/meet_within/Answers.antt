@@ -2,7 +2,7 @@
 use Rattle.std.proofs.Common.{subst}
 use Rattle.sb_member.specs.Joints.{HasRingMet}
 use Rattle.sb_member.proofs.RingsMet.{met_in, set_swap}
-use Rattle.sb_member.proofs.joint.meet_ring.Goals as goal
+use Rattle.sb_member.proofs.joint.meet_within.Goals as goal
 
 pub returns-then-joint : goal.returns-then-joint
 returns-then-joint g c = record {

@@ -1,0 +1,28 @@
+-- The nodes of two groups are others.
+use Rattle.std.proofs.Common.{◌≡◌, ◌<◌, List, set, sym, ap, subst, ◌∙◌, refl, arith}
+use Rattle.std.specs.Prelude.{slice_index_or}
+use Rattle.sb_drive.specs.declared.group.Group.{Group}
+use Rattle.sb_member.specs.Groups.{HaveMetBetween, IsRingAcross, grouped_nodes, nodes_in}
+use Rattle.sb_member.proofs.Dealt.{group_is, regrouped_both}
+use Rattle.sb_member.proofs.groups.meet_onward.Goals as goal
+
+pub returns : goal.returns
+returns g c =
+    let groups = c.args.groups.now in
+    let from = c.args.from in
+    let to = c.args.to in
+    let order = c.requires.order in
+    let within = c.requires.within in
+    let new = c.meet_groups.new in
+    let j = c.args.places.now in
+    let here = group_is groups from _ (omega (arith, order, within)) c.two-sender.ensures.first in
+    let there = group_is groups to _ within c.two-sender.ensures.second in
+    record {
+      met = record {
+        senders = new.from.nodes.items;
+        receivers = new.to.nodes.items;
+        set_there = regrouped_both groups from to new.from new.to;
+        met = subst (λ list. HaveMetBetween j list new.from.nodes.items (nodes_in (grouped_nodes groups) to) new.to.nodes.items) (sym here)
+            (subst (λ list. HaveMetBetween j c.two-sender.result.0.now.nodes.items new.from.nodes.items list new.to.nodes.items) (sym there) c.meet_groups.ensures.met);
+      };
+    }
