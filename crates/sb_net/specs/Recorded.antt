@@ -10,14 +10,14 @@ use Rattle.sb_net.specs.Standing.{device_number}
 
 module _ {F T U : Type 0} where
   -- what a device has served, entry by entry; hosts and routers serve nothing
-  abbrev pub entries_of : Member F T U → List Entry
-  entries_of (Host h) = []
-  entries_of (Router r) = []
-  entries_of (Device d) = d.journal.entries
+  abbrev pub member_entries : Member F T U → List Entry
+  member_entries (Host h) = []
+  member_entries (Router r) = []
+  member_entries (Device d) = d.journal.entries
 
   -- the same by the device's place in the network
   abbrev pub device_entries : Network → List (Member F T U) → ℕ → List Entry
-  device_entries network nodes d = entries_of (node_at nodes (device_number network d))
+  device_entries network nodes d = member_entries (node_at nodes (device_number network d))
 
   -- The entries of each device that aren't among its first so many, in the order of the devices.
   abbrev pub new_entries : Network → List ℕ → List (Member F T U) → List Entry
