@@ -1,0 +1,2 @@
+pub mod LaterNodes
+pub mod LaterNets
