@@ -1,2 +1,4 @@
 pub mod LaterNodes
 pub mod LaterNets
+pub mod Collected
+pub mod RoundsRecorded
