@@ -1,6 +1,6 @@
 -- Hosts as they stand in a network keep the promises of whole runs.
 use Rattle.std.proofs.Common.{◌≡◌, ◌≢◌, ◌<◌, ℕ, Bool, ◌+◌, ◌%◌, true, false, List, [], ◌∷◌, ◌++◌, length, refl, sym, ap, ◌∙◌, subst, inl, inr}
-use Rattle.std.specs.Prelude.{◌⊎◌, ◌==◌, filter, flat_map, map, All, Contains, Option, Some, None, is_some, get_or, if◌then◌else◌}
+use Rattle.std.specs.Prelude.{◌⊎◌, ◌==◌, filter, flat_map, map, All, Contains, Option, Some, None, is_some, get_or, slice_get, if◌then◌else◌}
 use Rattle.std.specs.List.{enumerate_from, find}
 use Rattle.std.specs.Option.{option_map_or}
 use Rattle.std.proofs.lemmas.List.Elements.{All-head, All-tail, filter-append}
@@ -10,11 +10,12 @@ use Rattle.sb_link.specs.declared.answers.Turn.TheVariants.{Moved}
 use Rattle.sb_packet.specs.Networks.{NetHost, Network, device_at}
 use Rattle.sb_packet.specs.Scripts.{IsTransaction, transaction_accesses, transaction_message, script_accesses}
 use Rattle.sb_packet.specs.Traffic.{has_close, item_accesses}
+use Rattle.sb_packet.specs.Ways.{first_link}
 use Rattle.sb_packet.specs.declared.transaction.Txn.{Txn}
 use Rattle.sb_packet.proofs.Lists.{All-made, filter_all, filter_none}
 use Rattle.sb_packet.specs.Plans.{RingPlan}
 use Rattle.sb_port.specs.Ports.{IsFit, PortSide, offered_words}
-use Rattle.sb_node.specs.Sides.{RingSide, has_ended, has_rest, is_drained, is_full}
+use Rattle.sb_node.specs.Sides.{RingSide, has_ended, has_rest, is_drained, is_full, received_words}
 use Rattle.sb_host.specs.Asked.{accesses_from, asked_accesses, asked_by, line_in, sent_accesses}
 use Rattle.sb_host.specs.Hosts.{HostSide, IsHostTurn, IsKeptHost, IsWholeHost}
 use Rattle.sb_host.specs.Rows.{IsTable}

@@ -1,9 +1,10 @@
 -- Entries that are collected device by device: of each device they have its own, in order.
-use Rattle.std.proofs.Common.{◌≡◌, ◌≢◌, ℕ, zero, suc, ◌+◌, ◌<◌, ◌≤◌, Bool, true, false, cond, List, [], ◌∷◌, ◌++◌, refl, sym, ap, ◌∙◌, subst, arith, append-nil}
+use Rattle.std.proofs.Common.{◌≡◌, ◌≢◌, ℕ, zero, suc, ◌+◌, ◌<◌, ◌≤◌, Bool, true, false, List, [], ◌∷◌, ◌++◌, refl, sym, ap, ◌∙◌, subst, arith, append-nil}
 use Rattle.std.specs.Prelude.{◌==◌, ◌&&◌, ◌||◌, nat_lt, nat_le, filter, flat_map, All, IsTrue, slice_index_or}
 use Rattle.std.specs.List.{range_with_len}
 use Rattle.std.proofs.lemmas.Bool.Decides.{nat_tests}
 use Rattle.std.proofs.lemmas.List.Elements.{All-append, All-head, All-nil, All-tail, All-weaker, filter-append}
+use Rattle.sb_packet.proofs.Lists.{filter_all, filter_none}
 use Rattle.sb_packet.specs.Journals.{is_in_round_order, may_follow}
 use Rattle.sb_packet.specs.declared.entry.Entry.{Entry}
 use Rattle.sb_member.proofs.RingsJoined.{same_or_not}
@@ -13,21 +14,11 @@ abbrev pub is_of_device : ℕ → Entry → Bool
 is_of_device d e = e.device == d
 
 pub filter_own : (d : ℕ) (list : List Entry) → All (λ e. e.device ≡ d) list → filter (is_of_device d) list ≡ list
-filter_own d [] own = refl
-filter_own d (e ∷ list) own =
-    let here : e.device ≡ d = All-head (λ e. e.device ≡ d) e list own in
-    let test : (e.device == d) ≡ true = grind (arith, nat_tests) in
-    ap (λ (b : Bool). cond b (e ∷ filter (is_of_device d) list) (filter (is_of_device d) list)) test
-    ∙ ap (λ (rest : List Entry). e ∷ rest) (filter_own d list (All-tail (λ e. e.device ≡ d) e list own))
+filter_own d list own = filter_all (is_of_device d) list (All-weaker (λ e. e.device ≡ d) (λ e. is_of_device d e ≡ true) (λ e here. grind (arith, nat_tests)) list own)
 
 pub filter_other : (d c : ℕ) (list : List Entry) → c ≢ d → All (λ e. e.device ≡ c) list → filter (is_of_device d) list ≡ []
-filter_other d c [] apart own = refl
-filter_other d c (e ∷ list) apart own =
-    let here : e.device ≡ c = All-head (λ e. e.device ≡ c) e list own in
-    let not_here : e.device ≢ d = λ same. apart (sym here ∙ same) in
-    let test : (e.device == d) ≡ false = grind (arith, nat_tests) in
-    ap (λ (b : Bool). cond b (e ∷ filter (is_of_device d) list) (filter (is_of_device d) list)) test
-    ∙ filter_other d c list apart (All-tail (λ e. e.device ≡ c) e list own)
+filter_other d c list apart own =
+    filter_none (is_of_device d) list (All-weaker (λ e. e.device ≡ c) (λ e. is_of_device d e ≡ false) (λ e here. let not_here : e.device ≢ d = λ same. apart (sym here ∙ same) in grind (arith, nat_tests)) list own)
 
 -- both of two facts hold
 pub true_and : (a b : Bool) → a ≡ true → b ≡ true → (a && b) ≡ true

@@ -62,7 +62,7 @@ pub record IsLaterDevice (x y : DeviceSide) : Type 0 where
 same_host : (x : HostSide) → IsLaterHost x x
 same_host x = record { asked = refl; requests = refl; answers = refl }
 
-pub same_direction : (x : DirectionSide) → IsLaterDirection x x
+same_direction : (x : DirectionSide) → IsLaterDirection x x
 same_direction x = record { rows = refl; inlet_count = refl; outlet_count = refl; inlets = λ i. refl; outlets = λ o. refl; forwards = λ words h. h }
 
 same_router : (x : RouterSide) → IsLaterRouter x x
@@ -191,7 +191,7 @@ module _ (d : DirectionSide) (k : ℕ) where
   }
 
 -- a place is before the others, or behind them
-pub places : (k n : ℕ) → ((k < n) × (nat_lt k n ≡ true)) ⊎ ((n ≤ k) × (nat_lt k n ≡ false))
+places : (k n : ℕ) → ((k < n) × (nat_lt k n ≡ true)) ⊎ ((n ≤ k) × (nat_lt k n ≡ false))
 places k n = by_test (nat_lt k n) refl
   where
     by_test : (b : Bool) → nat_lt k n ≡ b → ((k < n) × (nat_lt k n ≡ true)) ⊎ ((n ≤ k) × (nat_lt k n ≡ false))

@@ -2,3 +2,8 @@ pub mod LaterNodes
 pub mod LaterNets
 pub mod Collected
 pub mod RoundsRecorded
+pub mod NodeKinds
+pub mod RingMoments
+pub mod RouterMoments
+pub mod DeviceEntries
+pub mod PromisesKept

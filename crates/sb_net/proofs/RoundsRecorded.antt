@@ -1,6 +1,7 @@
 -- What the devices of a network serve in a round is recorded behind the journal.
 use Rattle.std.proofs.Common.{◌≡◌, ℕ, zero, suc, ◌<◌, Bool, false, List, [], ◌∷◌, ◌++◌, length, drop, set, refl, sym, ap, ◌∙◌, subst, arith}
-use Rattle.std.specs.Prelude.{filter, All, IsTrue, slice_index_or}
+use Rattle.std.specs.Prelude.{map, filter, All, IsTrue, slice_index_or}
+use Rattle.std.specs.List.{range_with_len}
 use Rattle.std.proofs.Math.Seq.{drop-append_seam, drop-length}
 use Rattle.std.proofs.lemmas.List.Elements.{All-append, All-weaker, filter-append}
 use Rattle.std.proofs.lemmas.List.FromFn.{get_or-map-range_with_len}
@@ -54,6 +55,17 @@ module _ {F T U : Type 0} where
   pub entries_kept : (joints : List Joint) (before after : List (Member F T U)) → MeetAlong joints before after → (k : ℕ) → entries_of (node_at after k) ≡ entries_of (node_at before k)
   entries_kept [] before after h k = ap (λ (nodes : List (Member F T U)). entries_of (node_at nodes k)) h
   entries_kept (j ∷ joints) before after h k = entries_kept joints h.0 after h.2 k ∙ entries_met j before h.0 h.1 k
+
+  -- so each device has as many entries as before
+  same_counts : (network : Network) (before after : List (Member F T U)) → ((k : ℕ) → entries_of (node_at after k) ≡ entries_of (node_at before k)) → (places : List ℕ)
+      → map (λ d. length (device_entries network after d)) places ≡ map (λ d. length (device_entries network before d)) places
+  same_counts network before after same [] = refl
+  same_counts network before after same (d ∷ places) =
+      ap (λ (entries : List Entry). length entries ∷ map (λ d. length (device_entries network after d)) places) (same (device_number network d))
+      ∙ ap (λ (counts : List ℕ). length (device_entries network before d) ∷ counts) (same_counts network before after same places)
+
+  pub counts_kept : (network : Network) (joints : List Joint) (before after : List (Member F T U)) → MeetAlong joints before after → entry_counts network after ≡ entry_counts network before
+  counts_kept network joints before after h = same_counts network before after (entries_kept joints before after h) (range_with_len 0 (length network.devices))
 
   -- what a device serves in a round stands behind what it served before
   journalled_node : (network : Network) (place round : ℕ) (x y : Member F T U) → IsDeviceNode network place x → IsKeptMember round x y → IsJournalled round place (entries_of x) (entries_of y)

@@ -1,6 +1,6 @@
 -- What is new of each device stands behind the journal.
 use Rattle.sb_net.specs.Standing.{device_number}
-use Rattle.sb_net.proofs.RoundsRecorded.{entries_kept, new_rounds, nothing_new, ordered_on, recorded_on}
+use Rattle.sb_net.proofs.RoundsRecorded.{counts_kept, entries_kept, new_rounds, nothing_new, ordered_on, recorded_on}
 use Rattle.sb_net.proofs.standing_laws.rounds_are_recorded.Goals as goal
 
 pub returns-clause-recorded : goal.returns-clause-recorded
@@ -17,3 +17,6 @@ returns-clause-none g c = λ network joints round before turned after last moved
 
 pub returns-clause-kept : goal.returns-clause-kept
 returns-clause-kept g c = λ network joints turned after d meets. entries_kept joints turned after meets (device_number network d)
+
+pub returns-clause-counts_kept : goal.returns-clause-counts_kept
+returns-clause-counts_kept g c = λ network joints turned after meets. counts_kept network joints turned after meets
