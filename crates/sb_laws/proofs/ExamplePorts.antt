@@ -1,5 +1,5 @@
 -- The ports and rings of the example meet all that the laws of ports and rings ask for, fresh, halfway and at the end.
-use Rattle.std.proofs.Common.{◌≡◌, ◌≤◌, ◌<◌, lit≤, lit<, ℕ, zero, suc, true, false, List, [], ◌∷◌, ◌++◌, length, refl, sym, ap, ◌∙◌, subst, arith, append-nil, append_assoc}
+use Rattle.std.proofs.Common.{◌≡◌, ◌≤◌, ◌<◌, lit≤, lit<, ℕ, zero, suc, true, false, [], ◌∷◌, length, refl, sym, ap, ◌∙◌, subst, arith, append-nil}
 use Rattle.std.specs.Prelude.{flat_map, not}
 use Rattle.std.proofs.lemmas.List.Elements.{All-nil}
 use Rattle.sb_link.specs.Ends.{HaveMet}
@@ -12,14 +12,13 @@ use Rattle.sb_packet.specs.Prefixes.{IsPrefix}
 use Rattle.sb_packet.specs.Rings.{ring_plan}
 use Rattle.sb_packet.specs.Soundness.{IsSound}
 use Rattle.sb_packet.specs.Traffic.{AreInTurn, IsCarriable, item_accesses, item_messages}
-use Rattle.sb_packet.specs.declared.item.Item.{Item}
 use Rattle.sb_packet.specs.declared.item.Item.TheVariants as items
 use Rattle.sb_packet.specs.declared.packet.Packet.{Packet}
 use Rattle.sb_port.specs.Ports.{IsFit, IsSendable, offered_words}
 use Rattle.sb_device.specs.Served.{AreSound}
 use Rattle.sb_laws.specs.Moments.{Moment}
 use Rattle.sb_laws.specs.RoundSides.{HasPort, HasRing}
-use Rattle.sb_laws.proofs.InTurn.{turn_words_are_few}
+use Rattle.sb_laws.proofs.InTurn.{begins_in_turn, turn_words_are_few}
 use Rattle.sb_laws.proofs.PortSides.{words_of_messages}
 use Rattle.sb_laws.proofs.Prefixes.{same_prefix}
 use Rattle.sb_laws.proofs.ExampleNetwork.{small, asking, answering, write, posted, read, written, read_back}
@@ -102,11 +101,6 @@ all_answers plan carries =
     appended_in_turn (items.Packet written ∷ items.Packet read_back ∷ []) items.Close
     (appended_in_turn (items.Packet written ∷ []) (items.Packet read_back) (one_answer plan carries) (record { unclosed = refl; fit = carried_packet plan read_back carries.read_back; room = omega arith }))
     (record { unclosed = refl; fit = λ p e. absurd (cc); room = omega arith })
-
--- what begins a list in turn is in turn
-begins_in_turn : (plan : RingPlan) (list all : List Item) → IsPrefix list all → AreInTurn plan all → AreInTurn plan list
-begins_in_turn plan list all begins turn before after item cut =
-    turn before (after ++ begins.rest) item (sym begins.joined ∙ ap (λ (l : List Item). l ++ begins.rest) cut ∙ append_assoc before (item ∷ after) begins.rest)
 
 -- A moment at which each port has sent all that it was offered, with lists that are in turn.
 pub record IsSettled (m : Moment) : Type 0 where

@@ -58,6 +58,7 @@ pub mod AcceptedNetworks
 pub mod PortSides
 pub mod SidePromises
 pub mod DeviceSides
+pub mod DevicesInNetworks
 pub mod RouterSides
 pub mod MessageFlows
 pub mod BuiltRouters

@@ -146,7 +146,7 @@ module _ (network : Network) where
     last_link : (f : NetFlow) (w : FlowWay network f) → f.device < length network.devices → last_of w.head w.tail ≡ link_into network f.device
     last_link f w there = ways.one_link f.device (last_of w.head w.tail) (link_into network f.device) (last_leads network f.device w.head w.tail w.way) (link_into_leads network ways f.device there).leads
 
-    flow_devices : All (λ f. f.device < length network.devices) (network_flows network)
+    pub flow_devices : All (λ f. f.device < length network.devices) (network_flows network)
     flow_devices = All-map (λ f. f.device < length network.devices) flow_of (network_ways network) ways.devices
 
     into_flows : (d : ℕ) → d < length network.devices → All (λ f. f.device ≡ d) (flows_over (network_requests network) (request_ring (link_into network d)))
@@ -163,13 +163,17 @@ module _ (network : Network) where
         let w : FlowWay network g = flow_ways k f below in
         goes_there g w (link_into network g.device) ∙ ap (λ (n : ℕ). is_in n (w.head ∷ w.tail)) (sym (last_link g w (flow_devices k f below))) ∙ last_is_in w.head w.tail
 
+    -- the answers of a flow begin by the answer ring of the link to its device
+    pub begins_back : All (λ f. (network_answers network).first f ≡ answer_ring (link_into network f.device)) (network_flows network)
+    begins_back k f below =
+        let g = get_or (network_flows network) k f in
+        let w : FlowWay network g = flow_ways k f below in
+        ap first_ring (ring_by_ring_back network g ∙ ap (map answer_ring) (back_links g w)) ∙ ap answer_ring (last_link g w (flow_devices k f below))
+
     back_flows : All (λ f. flows_over (network_answers network) ((network_answers network).first f) ≡ flows_over (network_requests network) (request_ring (link_into network f.device))) (network_flows network)
     back_flows k f below =
         let g = get_or (network_flows network) k f in
-        let w : FlowWay network g = flow_ways k f below in
-        let first : (network_answers network).first g ≡ answer_ring (link_into network g.device) =
-        ap first_ring (ring_by_ring_back network g ∙ ap (map answer_ring) (back_links g w)) ∙ ap answer_ring (last_link g w (flow_devices k f below)) in
-        ap (flows_over (network_answers network)) first
+        ap (flows_over (network_answers network)) (begins_back k f below)
         ∙ filter_same (goes_over (network_answers network) (answer_ring (link_into network g.device))) (goes_over (network_requests network) (request_ring (link_into network g.device))) (network_flows network)
         (All-weaker (FlowWay network) (λ h. goes_over (network_answers network) (answer_ring (link_into network g.device)) h ≡ goes_over (network_requests network) (request_ring (link_into network g.device)) h)
         (λ h v. goes_back h v (link_into network g.device) ∙ sym (goes_there h v (link_into network g.device))) (network_flows network) flow_ways)

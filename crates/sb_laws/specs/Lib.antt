@@ -19,3 +19,4 @@ pub mod RouterSides
 pub mod RouterLayouts
 pub mod RouterEnds
 pub mod HostSides
+pub mod DeviceSides

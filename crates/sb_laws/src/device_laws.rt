@@ -1,6 +1,6 @@
 //! Laws of devices as they stand in a network: they keep the promises on which whole runs rest.
 
-ghost use Rattle.std.specs.Prelude.{◌≡◌, ◌<◌, ℕ, false, List, [], ◌∷◌, None};
+ghost use Rattle.std.specs.Prelude.{◌≡◌, ◌<◌, ℕ, false, List, [], ◌∷◌, length, All, None};
 ghost use Rattle.sb_device.specs.Sides.{DeviceSide};
 ghost use Rattle.sb_device.specs.Served.{HasServed, entry_accesses, entry_packets, item_packets};
 ghost use Rattle.sb_node.specs.Steps.{IsBlockedPort};
@@ -12,9 +12,12 @@ ghost use Rattle.sb_packet.specs.Plans.{NetFlow};
 ghost use Rattle.sb_packet.specs.declared.entry.Entry.{Entry};
 ghost use Rattle.sb_port.specs.Ports.{IsFit, PortSide};
 ghost use Rattle.sb_laws.specs.Courses.{budget_over};
+ghost use Rattle.sb_laws.specs.DeviceSides.{IsDeviceAt};
 ghost use Rattle.sb_laws.specs.Layouts.{Layout};
 ghost use Rattle.sb_laws.specs.Moments.{Moment, arrived};
+ghost use Rattle.sb_laws.specs.NetworkLayouts.{network_flows, network_layout};
 ghost use Rattle.sb_laws.specs.RoundSides.{HasPort, HasRing, ShowsPort, ShowsRing};
+ghost use Rattle.sb_laws.specs.Routed.{IsRouted};
 ghost use Rattle.sb_laws.specs.Runs.{IsDevice};
 ghost use Rattle.sb_laws.specs.Stages.{Stages};
 ghost use Rattle.sb_laws.specs.Standstills.{IsIdleReceiver, IsIdleSender, RoundEnd};
@@ -32,6 +35,14 @@ pub fn devices_keep_their_promise()
         → journal_accesses journal d ≡ entry_accesses device.journal.entries
         → entry_packets device.journal.entries ≡ item_packets device.requests.received
         → journal_accesses journal d ≡ arrived m (layout.into d) }
+{}
+
+/// Where each device stands so in its network, at the two rings of the link that leads to it, each flow's device keeps its
+/// promise: all that whole runs ask of devices.
+pub fn devices_keep_promises_for_all_flows()
+    ensures promises { (network : Network) (journal : List Entry) (m : Moment) (device : ℕ → DeviceSide)
+        → IsRouted network → ((d : ℕ) → d < length network.devices → IsDeviceAt network journal m d (device d))
+        → All (IsDevice network (network_layout network) journal m) (network_flows network) }
 {}
 
 /// A device that did nothing in its turn is idle at the ring that leads to it, and at the ring that leads back.

@@ -5,3 +5,12 @@ pub mod StandstillHosts
 pub mod StandstillDevices
 pub mod StandstillRouters
 pub mod Standstills
+pub mod LaterNodes
+pub mod LaterNets
+pub mod Collected
+pub mod RoundsRecorded
+pub mod NodeKinds
+pub mod RingMoments
+pub mod RouterMoments
+pub mod DeviceEntries
+pub mod PromisesKept

@@ -8,7 +8,6 @@ use Rattle.sb_packet.specs.Rings.{IsCarried}
 use Rattle.sb_packet.specs.declared.entry.Entry.{Entry}
 use Rattle.sb_node.specs.Sides.{is_done, received_words}
 use Rattle.sb_host.specs.Outcomes.{outcomes_so_far}
-use Rattle.sb_host.specs.Rows.{IsTable}
 use Rattle.sb_member.specs.Ends.{ports_of, rings_of}
 use Rattle.sb_member.specs.Joints.{joint_at, node_at, receiver_of}
 use Rattle.sb_member.specs.declared.joint.Joint.{Joint}

@@ -1,5 +1,5 @@
 -- The journal of a run, as it is collected from the devices.
-use Rattle.std.specs.Prelude.{◌≡◌, ℕ, ◌<◌, ◌==◌, List, [], ◌∷◌, ◌++◌, length, map, filter, flat_map, drop, slice_index_or, All}
+use Rattle.std.specs.Prelude.{◌≡◌, ℕ, ◌<◌, ◌==◌, List, [], length, map, filter, flat_map, drop, slice_index_or, All}
 use Rattle.std.specs.List.{range_with_len}
 use Rattle.sb_packet.specs.Networks.{Network}
 use Rattle.sb_packet.specs.declared.entry.Entry.{Entry}

@@ -1,5 +1,5 @@
 -- What stands at the two ends of each ring of a network's nodes, by the ring's number: the moment of a run at which they are, and what there is after a round.
-use Rattle.std.specs.Prelude.{ℕ, ◌≡◌, ◌<◌, nat_lt, Bool, true, false, is_some, List, [], ◌∷◌, ◌++◌, length, map, Option, None, slice_index_or, if◌then◌else◌}
+use Rattle.std.specs.Prelude.{ℕ, ◌<◌, nat_lt, Bool, false, is_some, List, [], ◌∷◌, ◌++◌, length, map, Option, None, slice_index_or, if◌then◌else◌}
 use Rattle.sb_packet.specs.Accesses.{Access}
 use Rattle.sb_packet.specs.Prefixes.{IsPrefix}
 use Rattle.sb_port.specs.Ports.{PortSide, offered_words, owes}
