@@ -1,0 +1,3 @@
+pub mod EndingRings
+pub mod EndingNodes
+pub mod EndingMeetings
