@@ -1,3 +1,4 @@
 pub mod EndingRings
 pub mod EndingNodes
 pub mod EndingMeetings
+pub mod ExampleNet
