@@ -23,13 +23,13 @@ use Rattle.sb_laws.proofs.ExampleRouted.{small_is_routed}
 use Rattle.sb_laws.proofs.ExampleRun.{the_end}
 use Rattle.sb_laws.proofs.ExampleHalfway.{first_step, halfway}
 use Rattle.sb_laws.proofs.ExampleNodes.{device_in, fresh}
-use Rattle.sb_laws.proofs.ExamplePorts.{IsSettled, end_is_settled, fresh_is_settled, halfway_is_settled}
+use Rattle.sb_laws.proofs.ExamplePorts.{IsSettled, end_is_settled, fresh_is_settled, halfway_is_settled, have_met}
 use Rattle.sb_laws.proofs.ExampleHost.{end_host_is_whole, end_rows, fresh_host_is_whole, fresh_rows, halfway_host_is_whole, host_in, host_is_built}
 use Rattle.sb_laws.proofs.ExampleDevice.{end_has_served, fresh_has_served, halfway_has_served}
 use Rattle.sb_laws.proofs.ExampleWholeDevice.{end_device_is_whole, fresh_device_is_whole, halfway_device_is_whole}
 use Rattle.sb_laws.proofs.ExampleRouter.{HasPassed, answers_are_built, direction_forwards, direction_in, direction_is_whole, end_answers, end_requests, fresh_answers, fresh_requests, halfway_answers, halfway_requests, requests_are_built}
 use Rattle.sb_member.specs.Ends.{port_at, ports_of, ring_at, rings_of}
-use Rattle.sb_member.specs.Joints.{IsRingPlaced, joint_at, node_at, receiver_of, sender_of}
+use Rattle.sb_member.specs.Joints.{HaveAllMet, IsRingPlaced, joint_at, node_at, receiver_of, sender_of}
 use Rattle.sb_member.specs.Members.{IsWholeMember}
 use Rattle.sb_member.specs.declared.joint.Joint.{Joint}
 use Rattle.sb_member.specs.declared.member.Member.{Member}
@@ -193,6 +193,14 @@ module _ (F T U : Type 0) (s : SmallState) where
     small_is_linked (suc (suc zero)) lt = is.settled.in_order 2
     small_is_linked (suc (suc (suc zero))) lt = is.settled.in_order 3
     small_is_linked (suc (suc (suc (suc r)))) lt = absurd (omega arith)
+
+    -- and the ends of each ring know all of each other
+    pub small_has_met : HaveAllMet small_joints 4 small_nodes
+    small_has_met zero lt = have_met s.now is.settled 0
+    small_has_met (suc zero) lt = have_met s.now is.settled 1
+    small_has_met (suc (suc zero)) lt = have_met s.now is.settled 2
+    small_has_met (suc (suc (suc zero))) lt = have_met s.now is.settled 3
+    small_has_met (suc (suc (suc (suc r)))) lt = absurd (omega arith)
 
 -- fresh, halfway and at the end
 module _ (heap : Global) where

@@ -2,3 +2,4 @@ pub mod EndingRings
 pub mod EndingNodes
 pub mod EndingMeetings
 pub mod ExampleNet
+pub mod ExampleNetOver
