@@ -3,3 +3,4 @@ pub mod EndingNodes
 pub mod EndingMeetings
 pub mod ExampleNet
 pub mod ExampleNetOver
+pub mod ExampleNetRound
