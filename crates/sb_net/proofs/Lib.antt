@@ -4,3 +4,4 @@ pub mod EndingMeetings
 pub mod ExampleNet
 pub mod ExampleNetOver
 pub mod ExampleNetRound
+pub mod ExampleNetStandstill
