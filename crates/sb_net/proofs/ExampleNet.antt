@@ -49,7 +49,7 @@ abbrev pub words_back : Words
 words_back = course_words small (network_answers small) (answer_outs small 0)
 
 -- at least as many words were popped for a port as were offered or are held
-abbrev HasFew : Words → DirectionSide → Type 0
+abbrev pub HasFew : Words → DirectionSide → Type 0
 HasFew words d = (o : ℕ) → length (offered_at d.lane o) + sum_by (held_for words o) d.lane.inlets ≤ popped_for words d.lane o
 
 -- What the nodes are at a moment: the host's rows and its next transaction, the packet that the router holds, and the device's journal.

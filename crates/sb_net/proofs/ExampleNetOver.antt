@@ -108,7 +108,7 @@ module _ (F T U : Type 0) (heap : Global) where
   end_is_over = record { lawful = steps_are_lawful; done = done; carried = carried; outcomes = outcomes; memories = memories }
 
   -- Each ring's ends know all of each other already: where they meet once more nothing changes.
-  same_joined : (port : PortSide) (ring : RingSide) → port.mark ≡ ring.mark → HaveMet port.state.sent port.taken ring.received ring.known → HaveJoined port port ring ring
+  pub same_joined : (port : PortSide) (ring : RingSide) → port.mark ≡ ring.mark → HaveMet port.state.sent port.taken ring.received ring.known → HaveJoined port port ring ring
   same_joined port ring marks met = record {
     sent = record { plan = refl; state = refl; learnt = omega arith };
     received = record { plan = refl; received = refl; learnt = omega arith };
@@ -116,7 +116,7 @@ module _ (F T U : Type 0) (heap : Global) where
     met = met;
   }
 
-  meet_again : (r : ℕ) → r < 4 → HasRingMet (joint_at small_joints r) end_nodes end_nodes
+  pub meet_again : (r : ℕ) → r < 4 → HasRingMet (joint_at small_joints r) end_nodes end_nodes
   meet_again zero lt = record { port_then = port_in the_end 0; ring_then = ring_in the_end 0; nodes = refl; joined = same_joined (port_in the_end 0) (ring_in the_end 0) refl (have_met the_end end_is_settled 0) }
   meet_again (suc zero) lt = record { port_then = port_in the_end 1; ring_then = ring_in the_end 1; nodes = refl; joined = same_joined (port_in the_end 1) (ring_in the_end 1) refl (have_met the_end end_is_settled 1) }
   meet_again (suc (suc zero)) lt = record { port_then = port_in the_end 2; ring_then = ring_in the_end 2; nodes = refl; joined = same_joined (port_in the_end 2) (ring_in the_end 2) refl (have_met the_end end_is_settled 2) }

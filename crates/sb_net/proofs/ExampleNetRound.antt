@@ -16,7 +16,7 @@ use Rattle.sb_net.specs.NetRounds.{IsNetRound}
 use Rattle.sb_net.proofs.ExampleNetOver.{end_nodes}
 
 -- the device's turn
-device_turn : IsDeviceTurn (device_in the_end steps 0) Done (device_in the_end steps 0)
+pub device_turn : IsDeviceTurn (device_in the_end steps 0) Done (device_in the_end steps 0)
 device_turn = record {
   answered = (refl, refl);
   idle = λ still. devices.idle;

@@ -5,3 +5,4 @@ pub mod ExampleNet
 pub mod ExampleNetOver
 pub mod ExampleNetRound
 pub mod ExampleNetStandstill
+pub mod ExampleNetMoves
