@@ -1,6 +1,7 @@
 -- The last round of the example's nodes in which one moved: the host takes the Close of its answers. Then the ends of the rings meet, and the nodes are at their end.
 use Rattle.std.proofs.Common.{◌≡◌, ◌<◌, lit≤, lit<, ℕ, zero, suc, true, Global, List, [], ◌∷◌, refl, arith, inl, inr, Some, None}
-use Rattle.std.specs.Prelude.{slice_index_or}
+use Rattle.std.specs.Prelude.{◌==◌, All, filter, slice_index_or}
+use Rattle.std.proofs.lemmas.List.Elements.{All-from_recursion}
 use Rattle.sb_link.specs.declared.answers.Turn.{Turn}
 use Rattle.sb_link.specs.declared.answers.Turn.TheVariants.{Done, Moved}
 use Rattle.sb_packet.specs.Traffic.{item_accesses}
@@ -17,21 +18,22 @@ use Rattle.sb_router.specs.Routers.{ClosesWhenDue, IsRouterTurn}
 use Rattle.sb_router.specs.Turning.{IsIdleLane, IsSeen, ServesPorts}
 use Rattle.sb_laws.specs.Moments.{Moment}
 use Rattle.sb_laws.proofs.Prefixes.{front_prefix, same_prefix}
-use Rattle.sb_laws.proofs.ExampleNetwork.{read_back, steps, written}
+use Rattle.sb_laws.proofs.ExampleNetwork.{read_back, small, steps, written}
 use Rattle.sb_laws.proofs.ExampleLayout.{of_one}
-use Rattle.sb_laws.proofs.ExampleRun.{all_items, the_end}
+use Rattle.sb_laws.proofs.ExampleRun.{all_items, steps_of_small, the_end}
 use Rattle.sb_laws.proofs.ExampleNodes.{device_in, port_in, ring_in}
 use Rattle.sb_laws.proofs.ExamplePorts.{IsSettled, end_is_settled, have_met, is_fit}
 use Rattle.sb_laws.proofs.ExampleHost.{end_host, end_host_is_whole, end_rows, host_in}
 use Rattle.sb_laws.proofs.ExampleDevice.{end_has_served}
 use Rattle.sb_laws.proofs.ExampleWholeDevice.{end_device_is_whole}
-use Rattle.sb_laws.proofs.ExampleRouter.{HasPassed, direction_in, inlet_in, small_rows}
+use Rattle.sb_laws.proofs.ExampleRouter.{HasPassed, direction_in, direction_is_whole, inlet_in, small_rows}
 use Rattle.sb_laws.proofs.ExampleRouterTurns as routers
 use Rattle.sb_member.specs.Joints.{HasRingMet, MeetAlong, joint_at}
-use Rattle.sb_member.specs.Members.{IsKeptMember, IsMemberTurn, kept_member_same}
+use Rattle.sb_member.specs.Members.{IsKeptMember, IsMemberTurn, IsWholeMember, kept_member_same}
 use Rattle.sb_member.specs.declared.member.Member.{Member}
 use Rattle.sb_member.specs.declared.member.Member.TheVariants.{Host, Router, Device}
 use Rattle.sb_net.specs.NetRounds.{IsNetRound}
+use Rattle.sb_net.specs.Recorded.{IsRecorded, device_entries}
 use Rattle.sb_net.proofs.ExampleNet.{HasFew, IsSmallState, SmallState, small_joints, small_nodes, small_router, words_back, words_there}
 use Rattle.sb_net.proofs.ExampleNetOver.{end_nodes, meet_again, same_joined}
 use Rattle.sb_net.proofs.ExampleNetRound.{device_turn}
@@ -156,6 +158,26 @@ module _ (F T U : Type 0) (heap : Global) where
 
   abbrev pub turned_nodes : List (Member F T U)
   turned_nodes = Host (end_host heap) ∷ Router (small_router (late_state heap)) ∷ Device (device_in the_end steps 0) ∷ []
+
+  -- all has been recorded before the round, and all nodes are whole after it
+  late_entries : (d : ℕ) → d < 1 → filter (λ e. e.device == d) steps ≡ device_entries small late_nodes d
+  late_entries zero lt = refl
+  late_entries (suc d) lt = absurd (omega arith)
+
+  pub late_is_recorded : IsRecorded small steps late_nodes
+  late_is_recorded = record { entries = late_entries; devices = steps_of_small.devices }
+
+  pub turned_are_whole : All IsWholeMember turned_nodes
+  turned_are_whole = All-from_recursion IsWholeMember turned_nodes (
+    end_host_is_whole heap,
+    (
+      record {
+        requests = direction_is_whole late late_is_settled 0 2 None late_requests;
+        answers = direction_is_whole late late_is_settled 3 1 None late_answers;
+      },
+      (end_device_is_whole, tt),
+    ),
+  )
 
   kept : (k : ℕ) (none : Member F T U) → k < 3 → IsKeptMember 4 (slice_index_or late_nodes k none) (slice_index_or turned_nodes k none)
   kept zero none lt = host_kept heap
