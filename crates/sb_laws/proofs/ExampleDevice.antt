@@ -70,7 +70,7 @@ devices_record = (
 )
 
 -- In the last round it does nothing: all has come and gone.
-idle : IsIdleAt (λ ring. IsBlockedPort (port_in the_end 3)) (port_in the_end 3 ∷ []) (ring_in the_end 2 ∷ [])
+pub idle : IsIdleAt (λ ring. IsBlockedPort (port_in the_end 3)) (port_in the_end 3 ∷ []) (ring_in the_end 2 ∷ [])
 idle = record {
   owing_ports_are_full = of_one (λ port. has_rest port ≡ true → is_full port ≡ true) (port_in the_end 3) (at_rest 3 (lit< tt));
   open_rings_are_drained = of_one (λ ring. has_ended ring ≡ false → (is_drained ring ≡ true) ⊎ IsBlockedPort (port_in the_end 3)) (ring_in the_end 2) (λ unended. absurd (cc));

@@ -92,7 +92,7 @@ module _ (heap : Global) where
   )
 
   -- a turn in which it is done
-  done_turn : IsHostTurn (end_host heap) 4 Done (end_host heap)
+  pub done_turn : IsHostTurn (end_host heap) 4 Done (end_host heap)
   done_turn = record {
     answered = (refl, refl);
     idle = λ still. idle;

@@ -93,7 +93,7 @@ idle_routers_are_idle = (
 )
 
 -- a turn in which it is done
-done_turn : IsRouterTurn end_router Done end_router
+pub done_turn : IsRouterTurn end_router Done end_router
 done_turn = record {
   answered = (refl, refl);
   idle_requests = λ still. is_idle 0 2 (lit< tt) refl refl;

@@ -14,3 +14,12 @@ pub mod RingMoments
 pub mod RouterMoments
 pub mod DeviceEntries
 pub mod PromisesKept
+pub mod EndingRings
+pub mod EndingNodes
+pub mod EndingMeetings
+pub mod ExampleNet
+pub mod ExampleNetOver
+pub mod ExampleNetRound
+pub mod ExampleNetStandstill
+pub mod ExampleNetMoves
+pub mod ExampleNetLaws
