@@ -149,3 +149,31 @@ one_dealt nodes = record {
       subst (λ i. (p < length (nodes_in (nodes ∷ []) i)) ↔ (p * 1 + i < node_total (nodes ∷ []))) (sym zero_is)
       ((λ lt. omega (arith, lt, total)), (λ lt. omega (arith, lt, total)));
 }
+
+-- The node of a number, as it is found: in its group, at its place there.
+module _ {F T U : Type 0} (groups : List (Group (Member F T U))) (n : ℕ) (group : Group (Member F T U)) (dealt : IsDealt (grouped_nodes groups)) (below : n < node_total (grouped_nodes groups))
+    (is : group ≡ slice_index_or groups (n % length groups) group) where
+  counted : length (grouped_nodes groups) ≡ length groups
+  counted = length-map groups (λ x. x.nodes.items)
+
+  group_nodes : nodes_in (grouped_nodes groups) (n % length (grouped_nodes groups)) ≡ group.nodes.items
+  group_nodes = ap (λ w. nodes_in (grouped_nodes groups) (n % w)) counted
+      ∙ group_is groups (n % length groups) group (subst (λ w. n % w < w) counted (group_there (grouped_nodes groups) dealt n)) is
+
+  pub place_found : n / length groups < length group.nodes.items
+  place_found = subst (λ w. n / w < length group.nodes.items) counted (subst (λ nodes. n / length (grouped_nodes groups) < length nodes) group_nodes (place_there (grouped_nodes groups) dealt n below))
+
+  pub node_found : node_at (dealt_nodes (grouped_nodes groups)) n ≡ node_at group.nodes.items (n / length groups)
+  node_found = stands_in (grouped_nodes groups) n below ∙ ap (λ nodes. node_at nodes (n / length (grouped_nodes groups))) group_nodes ∙ ap (λ w. node_at group.nodes.items (n / w)) counted
+
+-- where there is one group, all nodes are its nodes
+pub sole_group : {F T U : Type 0} (groups : List (Group (Member F T U))) (none : Group (Member F T U)) → length groups ≡ 1 → dealt_nodes (grouped_nodes groups) ≡ (slice_index_or groups 0 none).nodes.items
+sole_group [] none one = absurd (omega (arith, one))
+sole_group (x ∷ []) none one = one_group x.nodes.items
+sole_group (x ∷ y ∷ rest) none one = let more : 2 + length rest ≡ 1 = omega (arith, one) in absurd (omega (arith, more))
+
+-- and where it becomes another one, the nodes of that
+pub sole_set : {F T U : Type 0} (groups : List (Group (Member F T U))) (x : Group (Member F T U)) → length groups ≡ 1 → dealt_nodes (grouped_nodes (set groups 0 x)) ≡ x.nodes.items
+sole_set [] x one = absurd (omega (arith, one))
+sole_set (y ∷ []) x one = one_group x.nodes.items
+sole_set (y ∷ z ∷ rest) x one = let more : 2 + length rest ≡ 1 = omega (arith, one) in absurd (omega (arith, more))

@@ -21,7 +21,7 @@ pub same_or_not : {P : Type 0} (a b : ℕ) → (a ≡ b → P) → (a ≢ b → 
 same_or_not a b f g = ⊎_elim (λ (e : (eqb a b ≡ true) × (a ≡ b)). f e.1) (λ (e : (eqb a b ≡ false) × (a ≢ b)). g e.1) (eqb_tells a b)
 
 -- what is no more than a number and isn't it is less
-below_not : (a b : ℕ) → a < b + 1 → a ≢ b → a < b
+pub below_not : (a b : ℕ) → a < b + 1 → a ≢ b → a < b
 below_not zero zero lt n = absurd (n refl)
 below_not zero (suc b) lt n = omega arith
 below_not (suc a) zero lt n = absurd (omega (arith, lt))

@@ -23,3 +23,5 @@ pub mod ExampleNetRound
 pub mod ExampleNetStandstill
 pub mod ExampleNetMoves
 pub mod ExampleNetLaws
+pub mod CollectedPlaces
+pub mod UnderWay

@@ -144,3 +144,12 @@ module _ {F T U : Type 0} where
     nothing_new still = none_collected given n (λ d lt. let k = device_number network d in
         let same : device_entries network after d ≡ device_entries network before d = entries_kept joints turned after met k ∙ rested_node (node_at before k) (node_at turned k) (h.rested still k no_node (inside d lt)) in
         ap (λ (i : ℕ). drop i (device_entries network after d)) (counted d lt) ∙ ap (drop (length (device_entries network before d))) same ∙ drop-length (device_entries network before d)) 0 n (omega arith)
+
+  -- where no node moved, a journal that has what was served has it still
+  pub recorded_still : (network : Network) (joints : List Joint) (round : ℕ) (before after : List (Member F T U)) (last : List Turn) (journal : List Entry)
+      → StandsFor network joints before → IsNetRound round before after last false → IsRecorded network journal before → IsRecorded network journal after
+  recorded_still network joints round before after last journal s h r = record {
+    entries = λ d lt. let all = s.nodes_count in let k = device_number network d in
+        r.entries d lt ∙ sym (rested_node (node_at before k) (node_at after k) (h.rested refl k no_node (omega (arith, lt, all))));
+    devices = r.devices;
+  }

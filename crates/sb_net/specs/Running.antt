@@ -1,0 +1,44 @@
+-- A run of a network's nodes, from its first round to its end.
+use Rattle.std.specs.Prelude.{◌≡◌, ◌≤◌, ◌<◌, ◌+◌, ℕ, Bool, List, [], length, All}
+use Rattle.sb_packet.specs.Ledger.{Ledger}
+use Rattle.sb_packet.specs.Networks.{Network}
+use Rattle.sb_packet.specs.declared.entry.Entry.{Entry}
+use Rattle.sb_flow.specs.Accepted.{IsAccepted}
+use Rattle.sb_flow.specs.Limits.{word_count}
+use Rattle.sb_member.specs.Joints.{HaveAllMet}
+use Rattle.sb_member.specs.declared.joint.Joint.{Joint}
+use Rattle.sb_member.specs.declared.member.Member.{Member}
+use Rattle.sb_net.specs.NetRounds.{IsNetRound}
+use Rattle.sb_net.specs.Over.{IsOver}
+use Rattle.sb_net.specs.Recorded.{device_entries, entry_counts}
+use Rattle.sb_net.specs.Spent.{network_moves}
+use Rattle.sb_net.specs.Standing.{StandsFor}
+use Rattle.sb_link.specs.declared.answers.Turn.{Turn}
+
+module _ {F T U : Type 0} where
+  -- Nodes are built for a network: they stand at its rings, whose ends have met, and no device has served anything.
+  pub record IsBuilt (network : Network) (first : ℕ) (collected : List ℕ) (joints : List Joint) (nodes : List (Member F T U)) : Type 0 where
+    pub accepted : IsAccepted network
+    pub stands : StandsFor network joints nodes
+    pub met : HaveAllMet joints (length joints) nodes
+    pub unserved : (d : ℕ) → d < length network.devices → device_entries network nodes d ≡ []
+    -- the devices have the numbers from the first one on, and nothing was collected
+    pub first_device : first ≡ length network.hosts + length network.routers
+    pub nothing_collected : collected ≡ entry_counts network nodes
+
+  -- They can run, with that journal: it is empty, and has room for all words of the scripts.
+  pub record IsReady (network : Network) (first : ℕ) (collected : List ℕ) (joints : List Joint) (nodes : List (Member F T U)) (journal : Ledger) : Type 0 where
+    pub built : IsBuilt network first collected joints nodes
+    pub empty : journal.entries ≡ []
+    pub room : word_count network ≤ journal.spare
+
+  -- They have run to the end, with that journal: the run is over, and its rounds were few.
+  pub record HasRun (network : Network) (journal : List Entry) (joints : List Joint) (nodes : List (Member F T U)) : Type 0 where
+    pub over : IsOver network journal joints nodes
+    pub stands : StandsFor network joints nodes
+    pub few : All (λ e. e.round < network_moves network) journal
+
+-- a round was made, with whatever last answers
+pub record HasGone {F T U : Type 0} (number : ℕ) (before after : List (Member F T U)) (moved : Bool) : Type 0 where
+  pub last : List Turn
+  pub went : IsNetRound number before after last moved
