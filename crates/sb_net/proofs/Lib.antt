@@ -5,3 +5,7 @@ pub mod StandstillHosts
 pub mod StandstillDevices
 pub mod StandstillRouters
 pub mod Standstills
+pub mod GrownSums
+pub mod SpendingNodes
+pub mod SpendingRounds
+pub mod SpendingMeetings
