@@ -9,3 +9,5 @@ pub mod GrownSums
 pub mod SpendingNodes
 pub mod SpendingRounds
 pub mod SpendingMeetings
+pub mod SpendingBounds
+pub mod WordsAtDevices

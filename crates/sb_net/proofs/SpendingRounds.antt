@@ -28,7 +28,7 @@ use Rattle.sb_net.proofs.StandstillShown.{below_passes}
 
 module _ {F T U : Type 0} where
   -- a port's number among those of its node
-  sending_at : (m : Member F T U) (o : ℕ) → slice_index_or (node_sendings m) o 0 ≡ port_moves (port_at m o)
+  pub sending_at : (m : Member F T U) (o : ℕ) → slice_index_or (node_sendings m) o 0 ≡ port_moves (port_at m o)
   sending_at m o = get_or-map port_moves (ports_of m) o no_port
 
   -- a node counts something of each of its rings

@@ -27,4 +27,7 @@ pub fn moving_nets_end<F: Fabric>()
         → moved ≡ true → spent joints before < spent joints after }
     ensures met { (network : Network) (joints : List AnyJoint) (before after : List (AnyMember F F.Tx F.Rx))
         → StandsFor network joints before → MeetAlong joints before after → spent joints after ≡ spent joints before }
+    ensures bounded { (network : Network) (joints : List AnyJoint) (nodes : List (AnyMember F F.Tx F.Rx))
+        → StandsFor network joints nodes → AreLinked joints nodes → spent joints nodes ≤ network_moves network }
+    ensures small { (network : Network) → IsAccepted network → network_moves network < 2 ^ 32 - 1 }
 {}

@@ -1,6 +1,7 @@
 -- Rounds in which a node moves are few.
 use Rattle.std.proofs.Common.{true, subst}
 use Rattle.sb_net.specs.NetRounds.{IsNetRound}
+use Rattle.sb_net.proofs.SpendingBounds.{moves_are_small, spent_within}
 use Rattle.sb_net.proofs.SpendingMeetings.{meetings_do_nothing}
 use Rattle.sb_net.proofs.SpendingRounds.{round_adds, turned}
 use Rattle.sb_net.proofs.spending_laws.moving_nets_end.Goals as goal
@@ -14,3 +15,9 @@ returns-clause-moved g c = λ network joints before after round last moved stand
 
 pub returns-clause-met : goal.returns-clause-met
 returns-clause-met g c = λ network joints before after stands met. meetings_do_nothing joints before after stands.joined met
+
+pub returns-clause-bounded : goal.returns-clause-bounded
+returns-clause-bounded g c = λ network joints nodes stands linked. spent_within network joints nodes stands linked
+
+pub returns-clause-small : goal.returns-clause-small
+returns-clause-small g c = λ network accepted. moves_are_small network accepted
