@@ -11,3 +11,4 @@ pub mod SpendingRounds
 pub mod SpendingMeetings
 pub mod SpendingBounds
 pub mod WordsAtDevices
+pub mod JournalRoom

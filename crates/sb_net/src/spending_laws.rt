@@ -1,13 +1,16 @@
 //! Laws of how much is done at the rings of a network.
 
-ghost use Rattle.std.specs.Prelude.{◌≡◌, ◌≤◌, ◌<◌, ◌-◌, ◌^◌, ℕ, Bool, true, List};
+ghost use Rattle.std.specs.Prelude.{◌≡◌, ◌≤◌, ◌<◌, ◌-◌, ◌^◌, ℕ, Bool, true, List, length};
 ghost use Rattle.sb_flow.specs.Accepted.{IsAccepted};
+ghost use Rattle.sb_flow.specs.Limits.{word_count};
 ghost use Rattle.sb_link.specs.declared.answers.Turn.{Turn};
 ghost use Rattle.sb_packet.specs.Networks.{Network};
+ghost use Rattle.sb_packet.specs.declared.entry.Entry.{Entry};
 ghost use Rattle.sb_member.specs.Joints.{MeetAlong};
 ghost use Rattle.sb_member.specs.declared.joint.Joint.{Joint as AnyJoint};
 ghost use Rattle.sb_member.specs.declared.member.Member.{Member as AnyMember};
 ghost use Rattle.sb_net.specs.NetRounds.{IsNetRound};
+ghost use Rattle.sb_net.specs.Recorded.{IsRecorded};
 ghost use Rattle.sb_net.specs.RingEnds.{AreLinked};
 ghost use Rattle.sb_net.specs.Spent.{network_moves, spent};
 ghost use Rattle.sb_net.specs.Standing.{StandsFor};
@@ -30,4 +33,12 @@ pub fn moving_nets_end<F: Fabric>()
     ensures bounded { (network : Network) (joints : List AnyJoint) (nodes : List (AnyMember F F.Tx F.Rx))
         → StandsFor network joints nodes → AreLinked joints nodes → spent joints nodes ≤ network_moves network }
     ensures small { (network : Network) → IsAccepted network → network_moves network < 2 ^ 32 - 1 }
+{}
+
+/// The journal of a run has room for each word of the scripts: at no time has it more entries than they have words, since
+/// each entry is of a packet with a word or more, and each word comes to one device at most.
+pub fn journals_have_room<F: Fabric>()
+    ensures room { (network : Network) (joints : List AnyJoint) (journal : List Entry) (nodes : List (AnyMember F F.Tx F.Rx))
+        → IsAccepted network → StandsFor network joints nodes → AreLinked joints nodes → IsRecorded network journal nodes
+        → length journal ≤ word_count network }
 {}
