@@ -91,14 +91,14 @@ module _ (f g : ℕ → ℕ) where
   range_grows_more a zero k each from to more = absurd (omega (arith, from, to))
   range_grows_more a (suc n) k each from to more = same_or_not a k
       (λ e.
-        let rest = range_grows (a + 1) n (λ r below. each r (omega (arith, below))) in
-        let here : f a < g a = subst (λ i. f i < g i) (sym e) more in
-        omega (arith, rest, here, sum_by-cons f a (range_with_len (a + 1) n), sum_by-cons g a (range_with_len (a + 1) n)))
+      let rest = range_grows (a + 1) n (λ r below. each r (omega (arith, below))) in
+      let here : f a < g a = subst (λ i. f i < g i) (sym e) more in
+      omega (arith, rest, here, sum_by-cons f a (range_with_len (a + 1) n), sum_by-cons g a (range_with_len (a + 1) n)))
       (λ n_same.
-        let further : a + 1 ≤ k = elim (cases_lt a k) [ inl lt ↦ omega (arith, lt) | inr le ↦ absurd (n_same (omega (arith, le, from))) ] in
-        let rest = range_grows_more (a + 1) n k (λ r below. each r (omega (arith, below))) further (omega (arith, to)) more in
-        let here : f a ≤ g a = each a (omega arith) in
-        omega (arith, rest, here, sum_by-cons f a (range_with_len (a + 1) n), sum_by-cons g a (range_with_len (a + 1) n)))
+      let further : a + 1 ≤ k = elim (cases_lt a k) [ inl lt ↦ omega (arith, lt) | inr le ↦ absurd (n_same (omega (arith, le, from))) ] in
+      let rest = range_grows_more (a + 1) n k (λ r below. each r (omega (arith, below))) further (omega (arith, to)) more in
+      let here : f a ≤ g a = each a (omega arith) in
+      omega (arith, rest, here, sum_by-cons f a (range_with_len (a + 1) n), sum_by-cons g a (range_with_len (a + 1) n)))
 
 pub range_same : (f g : ℕ → ℕ) (n : ℕ) → ((r : ℕ) → r < n → f r ≡ g r) → sum_by f (range_with_len 0 n) ≡ sum_by g (range_with_len 0 n)
 range_same f g n each =

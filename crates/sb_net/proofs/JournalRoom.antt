@@ -1,5 +1,5 @@
 -- The journal of a run has no more entries than the scripts have words.
-use Rattle.std.proofs.Common.{◌≡◌, ◌≤◌, ◌<◌, ℕ, zero, suc, ◌+◌, Bool, true, false, cond, List, [], ◌∷◌, ◌++◌, length, refl, sym, ap, ◌∙◌, subst, arith, length-append}
+use Rattle.std.proofs.Common.{◌≡◌, ◌≤◌, ◌<◌, ℕ, Bool, true, false, cond, List, [], ◌∷◌, length, refl, sym, ap, ◌∙◌, subst, arith, length-append}
 use Rattle.std.specs.Prelude.{◌==◌, All, filter, sum_by}
 use Rattle.std.specs.List.{range_with_len}
 use Rattle.std.proofs.lemmas.Bool.Decides.{nat_tests}
@@ -69,7 +69,7 @@ counted_out n (e ∷ es) all =
     let rest = counted_out n es (All-tail (λ e. e.device < n) e es all) in
     let inside : e.device < n = All-head (λ e. e.device < n) e es all in
     let more = range_grows_more (λ d. length (filter (λ x. x.device == d) es)) (λ d. length (filter (λ x. x.device == d) (e ∷ es))) 0 n e.device
-        (λ d below. more_entries e es d) (omega arith) (omega (arith, inside)) (one_entry e es) in
+    (λ d below. more_entries e es d) (omega arith) (omega (arith, inside)) (one_entry e es) in
     omega (arith, rest, more)
 
 module _ {F T U : Type 0} (network : Network) (joints : List Joint) (nodes : List (Member F T U)) (stands : StandsFor network joints nodes) (linked : AreLinked joints nodes) where
@@ -81,7 +81,7 @@ module _ {F T U : Type 0} (network : Network) (joints : List Joint) (nodes : Lis
       let place : 0 < length (rings_of (node_at nodes k)) = subst (λ (m : Member F T U). 0 < length (rings_of m)) (sym is) (omega arith) in
       let at : IsReceivedBy joints r k 0 = subst (λ (m : Member F T U). IsReceivedBy joints (ring_at m 0).plan.ring k 0) is (stands.covered.rings k 0 inside place) in
       let same : receiver_of nodes (joint_at joints r) ≡ x.requests =
-          ap (λ n. ring_at (node_at nodes n) (joint_at joints r).into) at.to ∙ ap (ring_at (node_at nodes k)) at.into ∙ ap (λ (m : Member F T U). ring_at m 0) is in
+      ap (λ n. ring_at (node_at nodes n) (joint_at joints r).into) at.to ∙ ap (ring_at (node_at nodes k)) at.into ∙ ap (λ (m : Member F T U). ring_at m 0) is in
       let turn : AreInTurn (ring_plan network r) x.requests.received = subst (λ (ring : RingSide). AreInTurn (ring_plan network r) ring.received) same (come_in_turn network joints nodes stands linked r at.ring) in
       let words : length (item_accesses x.requests.received) ≤ ring_budget network r = turn_words_are_few (ring_plan network r) x.requests.received turn in
       let packets = packets_are_few x.requests.received in
@@ -104,8 +104,8 @@ module _ {F T U : Type 0} (network : Network) (joints : List Joint) (nodes : Lis
   journal_within accepted journal recorded =
       let counted = counted_out (length network.devices) journal recorded.devices in
       let each = range_grows (λ d. length (filter (λ e. e.device == d) journal)) (λ d. ring_budget network (request_ring (link_into network d))) 0 (length network.devices)
-          (λ d below.
-            let there : d < length network.devices = omega (arith, below) in
-            subst (λ (list : List Entry). length list ≤ ring_budget network (request_ring (link_into network d))) (sym (recorded.entries d there)) (device_within d there)) in
+      (λ d below.
+      let there : d < length network.devices = omega (arith, below) in
+      subst (λ (list : List Entry). length list ≤ ring_budget network (request_ring (link_into network d))) (sym (recorded.entries d there)) (device_within d there)) in
       let all = into_devices_le network (ways_of_routed network (accepted_is_routed network accepted)) in
       omega (arith, counted, each, all)

@@ -1,12 +1,10 @@
 -- What is spent at the rings of a network is bounded by their budgets.
-use Rattle.std.proofs.Common.{◌≡◌, ◌≤◌, ◌<◌, inl, inr, ℕ, zero, suc, ◌+◌, ◌*◌, ◌-◌, ◌^◌, Bool, true, List, [], ◌∷◌, ◌++◌, length, map, refl, sym, ap, ◌∙◌, subst, arith, append_assoc}
-use Rattle.std.specs.Prelude.{◌&&◌, get_or, nat_le, slice_index_or, sum_by, Option, None, Some}
+use Rattle.std.proofs.Common.{◌≡◌, ◌≤◌, ◌<◌, ℕ, zero, suc, ◌+◌, ◌*◌, ◌-◌, ◌^◌, Bool, true, List, [], ◌∷◌, ◌++◌, length, map, sym, ap, ◌∙◌, subst, arith, append_assoc}
+use Rattle.std.specs.Prelude.{◌&&◌, get_or, nat_le, slice_index_or, Option, None, Some}
 use Rattle.std.specs.List.{list_all, range_with_len}
-use Rattle.std.proofs.Math.ListN.{get_or-map}
 use Rattle.std.proofs.lemmas.Bool.{and_parts, leb-true}
 use Rattle.std.proofs.lemmas.List.FromFn.{length-range_with_len}
 use Rattle.std.proofs.lemmas.List.Sums.{sum_by-le}
-use Rattle.std.proofs.lemmas.List.{get_or-append_right, get_or_append_left, length-map}
 use Rattle.std.proofs.lemmas.List.Elements.{All-get_or}
 use Rattle.sb_packet.specs.Networks.{Network}
 use Rattle.sb_packet.specs.Plans.{RingPlan}
@@ -15,17 +13,16 @@ use Rattle.sb_packet.specs.Rings.{ring_budget, ring_plan}
 use Rattle.sb_packet.specs.Traffic.{AreInTurn}
 use Rattle.sb_packet.specs.declared.item.Item.{Item}
 use Rattle.sb_packet.specs.declared.packet.Packet.{Packet}
-use Rattle.sb_port.specs.Ports.{IsFit, PortSide}
+use Rattle.sb_port.specs.Ports.{IsFit}
 use Rattle.sb_node.specs.Sides.{RingSide, port_moves}
-use Rattle.sb_router.specs.Lanes.{InletState, no_inlet, no_port, no_ring}
+use Rattle.sb_router.specs.Lanes.{InletState, no_ring}
 use Rattle.sb_router.specs.Moves.{free_count, inlet_moves}
-use Rattle.sb_router.specs.Routers.{RouterSide, router_rings}
 use Rattle.sb_flow.specs.Accepted.{IsAccepted}
 use Rattle.sb_flow.specs.Limits.{is_from_to, is_limited, is_limited_device, is_limited_host, is_limited_link, is_limited_router, page_count}
 use Rattle.sb_laws.specs.Moves.{move_bound}
 use Rattle.sb_laws.specs.NetworkLayouts.{ring_count}
 use Rattle.sb_laws.proofs.PortSides.{moves_are_few, received_are_few}
-use Rattle.sb_member.specs.Ends.{port_at, ports_of, ring_at, rings_of}
+use Rattle.sb_member.specs.Ends.{ring_at, rings_of}
 use Rattle.sb_member.specs.Joints.{joint_at, no_node, node_at, receiver_of, sender_of}
 use Rattle.sb_member.specs.Members.{IsWholeMember}
 use Rattle.sb_member.specs.declared.joint.Joint.{Joint}
@@ -36,8 +33,7 @@ use Rattle.sb_net.specs.RingEnds.{AreLinked}
 use Rattle.sb_net.specs.Spent.{network_moves, node_receipts, spent, spent_at}
 use Rattle.sb_net.specs.Standing.{StandsFor}
 use Rattle.sb_net.proofs.GrownSums.{range_grows}
-use Rattle.sb_net.proofs.SpendingNodes.{node_sendings}
-use Rattle.sb_net.proofs.SpendingRounds.{receipts_count, sending_at, spent_is}
+use Rattle.sb_net.proofs.SpendingRounds.{sending_at, spent_is}
 use Rattle.sb_net.proofs.Standstills.{fits}
 use Rattle.sb_net.proofs.WordsAtDevices.{ring_budget_le}
 
@@ -108,17 +104,24 @@ module _ {F T U : Type 0} (network : Network) (joints : List Joint) (nodes : Lis
       subst (λ n. spent joints nodes ≤ move_bound (range_with_len 0 n) (ring_budget network)) stands.rings
       (range_grows (spent_at joints nodes) (λ r. 2 * (4 * (ring_budget network r + 1))) 0 (length joints) (λ r below. at_ring linked r (omega (arith, below))))
 
--- the link numbers are few, and so are the words: the bound is below the last number of 32 bits
+-- the fourth of nine tests that all pass
+fourth_of_nine : (a b c d e f g h i : Bool) → (a && b && c && d && e && f && g && h && i) ≡ true → d ≡ true
+fourth_of_nine a b c d e f g h i all =
+    let eight = (and_parts (a && b && c && d && e && f && g && h) i all).0 in
+    let seven = (and_parts (a && b && c && d && e && f && g) h eight).0 in
+    let six = (and_parts (a && b && c && d && e && f) g seven).0 in
+    let five = (and_parts (a && b && c && d && e) f six).0 in
+    let four = (and_parts (a && b && c && d) e five).0 in
+    (and_parts (a && b && c) d four).1
+
 links_are_few : (network : Network) → is_limited network ≡ true → length network.links ≤ 128
 links_are_few network e =
-    let eight = (and_parts (is_from_to 1 32 (length network.hosts) && is_from_to 1 32 (length network.routers) && is_from_to 1 32 (length network.devices) && is_from_to 1 128 (length network.links) && list_all is_limited_host network.hosts && list_all is_limited_router network.routers && list_all is_limited_device network.devices && list_all is_limited_link network.links) (nat_le (page_count network) 4096) e).0 in
-    let seven = (and_parts (is_from_to 1 32 (length network.hosts) && is_from_to 1 32 (length network.routers) && is_from_to 1 32 (length network.devices) && is_from_to 1 128 (length network.links) && list_all is_limited_host network.hosts && list_all is_limited_router network.routers && list_all is_limited_device network.devices) (list_all is_limited_link network.links) eight).0 in
-    let six = (and_parts (is_from_to 1 32 (length network.hosts) && is_from_to 1 32 (length network.routers) && is_from_to 1 32 (length network.devices) && is_from_to 1 128 (length network.links) && list_all is_limited_host network.hosts && list_all is_limited_router network.routers) (list_all is_limited_device network.devices) seven).0 in
-    let five = (and_parts (is_from_to 1 32 (length network.hosts) && is_from_to 1 32 (length network.routers) && is_from_to 1 32 (length network.devices) && is_from_to 1 128 (length network.links) && list_all is_limited_host network.hosts) (list_all is_limited_router network.routers) six).0 in
-    let four = (and_parts (is_from_to 1 32 (length network.hosts) && is_from_to 1 32 (length network.routers) && is_from_to 1 32 (length network.devices) && is_from_to 1 128 (length network.links)) (list_all is_limited_host network.hosts) five).0 in
-    let links = (and_parts (is_from_to 1 32 (length network.hosts) && is_from_to 1 32 (length network.routers) && is_from_to 1 32 (length network.devices)) (is_from_to 1 128 (length network.links)) four).1 in
+    let links = fourth_of_nine (is_from_to 1 32 (length network.hosts)) (is_from_to 1 32 (length network.routers)) (is_from_to 1 32 (length network.devices))
+    (is_from_to 1 128 (length network.links)) (list_all is_limited_host network.hosts) (list_all is_limited_router network.routers)
+    (list_all is_limited_device network.devices) (list_all is_limited_link network.links) (nat_le (page_count network) 4096) e in
     leb-true (length network.links) 128 (and_parts (nat_le 1 (length network.links)) (nat_le (length network.links) 128) links).1
 
+-- at most 256 rings, and at each of them at most 8 times the words of all scripts and one more
 pub moves_are_small : (network : Network) → IsAccepted network → network_moves network < 2 ^ 32 - 1
 moves_are_small network accepted =
     let most : ℕ = 2 * (4 * 262145) in

@@ -1,9 +1,8 @@
 -- What a node did at its ports and rings: none of it is taken back, and a turn that moved adds to it.
-use Rattle.std.proofs.Common.{◌≡◌, ◌≤◌, ◌<◌, ℕ, ◌+◌, List, [], ◌∷◌, ◌++◌, length, refl, sym, ap, ◌∙◌, subst, arith, length-append}
-use Rattle.std.specs.Prelude.{map, sum_by}
+use Rattle.std.proofs.Common.{◌≡◌, ◌<◌, ℕ, List, ◌++◌, length, arith}
+use Rattle.std.specs.Prelude.{map}
 use Rattle.std.proofs.lemmas.List.Sums.{sum_by-append}
 use Rattle.sb_link.specs.declared.answers.Turn.TheVariants.{Moved}
-use Rattle.sb_node.specs.Kept.{IsKeptPort}
 use Rattle.sb_node.specs.Sides.{port_moves}
 use Rattle.sb_node.proofs.Answering.{moves_kept, prefix_length}
 use Rattle.sb_router.specs.Kept.{IsKeptLane}
@@ -14,7 +13,7 @@ use Rattle.sb_member.specs.Ends.{ports_of}
 use Rattle.sb_member.specs.Members.{IsKeptMember, IsMemberTurn}
 use Rattle.sb_member.specs.declared.member.Member.{Member}
 use Rattle.sb_member.specs.declared.member.Member.TheVariants.{Host, Router, Device}
-use Rattle.sb_member.proofs.Turned.{AreKept, ports_kept}
+use Rattle.sb_member.proofs.Turned.{ports_kept}
 use Rattle.sb_net.specs.Spent.{node_receipts}
 use Rattle.sb_net.proofs.GrownSums.{NoLess, both_grow, map_grows, one_grows, total, total_map}
 

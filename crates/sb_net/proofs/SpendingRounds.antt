@@ -1,7 +1,7 @@
 -- A round spends no less than was spent, and more where a node moved.
-use Rattle.std.proofs.Common.{◌≡◌, ◌≤◌, ◌<◌, ◌⊎◌, inl, inr, ℕ, ◌+◌, Bool, true, List, [], ◌++◌, length, map, refl, sym, ap, ◌∙◌, subst, arith, length-append}
+use Rattle.std.proofs.Common.{◌≡◌, ◌≤◌, ◌<◌, inl, inr, ℕ, ◌+◌, Bool, true, List, length, map, refl, sym, ap, ◌∙◌, subst, arith, length-append}
 use Rattle.std.proofs.lemmas.List.{length-map}
-use Rattle.std.specs.Prelude.{nat_lt, slice_index_or, if◌then◌else◌, get_or}
+use Rattle.std.specs.Prelude.{slice_index_or, if◌then◌else◌}
 use Rattle.std.proofs.Math.ListN.{get_or-map}
 use Rattle.std.proofs.lemmas.Bool.{cases_lt}
 use Rattle.std.proofs.lemmas.List.Sums.{sum_by-append}
@@ -12,16 +12,15 @@ use Rattle.sb_router.specs.Lanes.{no_port}
 use Rattle.sb_router.specs.Moves.{inlet_moves}
 use Rattle.sb_packet.specs.Networks.{Network}
 use Rattle.sb_member.specs.Ends.{port_at, ports_of, rings_of, ring_at}
-use Rattle.sb_member.specs.Joints.{IsJoined, joint_at, no_node, node_at, sender_of}
+use Rattle.sb_member.specs.Joints.{joint_at, no_node, node_at, sender_of}
 use Rattle.sb_member.specs.Members.{IsKeptMember, IsMemberTurn}
 use Rattle.sb_member.specs.declared.joint.Joint.{Joint}
 use Rattle.sb_member.specs.declared.member.Member.{Member}
 use Rattle.sb_member.specs.declared.member.Member.TheVariants.{Host, Router, Device}
 use Rattle.sb_member.proofs.Turned.{EachKept, each_kept}
 use Rattle.sb_net.specs.NetRounds.{IsNetRound}
-use Rattle.sb_net.specs.RingEnds.{port_here}
-use Rattle.sb_net.specs.Spent.{node_receipts, receipts_here, spent, spent_at}
-use Rattle.sb_net.specs.Standing.{IsCovered, StandsFor}
+use Rattle.sb_net.specs.Spent.{node_receipts, spent, spent_at}
+use Rattle.sb_net.specs.Standing.{StandsFor}
 use Rattle.sb_net.proofs.GrownSums.{GrewAt, NoLess, one_grew, range_grows, range_grows_more, total, total_grows}
 use Rattle.sb_net.proofs.SpendingNodes.{doings, doings_grow, moved_adds, node_sendings, receipts_grow, sendings_grow}
 use Rattle.sb_net.proofs.StandstillShown.{below_passes}
@@ -80,8 +79,8 @@ module _ {F T U : Type 0} (network : Network) (joints : List Joint) (before afte
       let j = joint_at joints r in
       let p = stands.joined.placed r at.ring in
       let here : slice_index_or (node_sendings (node_at before j.from)) j.out 0 < slice_index_or (node_sendings (node_at after j.from)) j.out 0
-          = subst (λ n. slice_index_or (node_sendings (node_at before n)) j.out 0 < slice_index_or (node_sendings (node_at after n)) j.out 0) (sym at.from)
-          (subst (λ n. slice_index_or (node_sendings (node_at before k)) n 0 < slice_index_or (node_sendings (node_at after k)) n 0) (sym at.out) more) in
+      = subst (λ n. slice_index_or (node_sendings (node_at before n)) j.out 0 < slice_index_or (node_sendings (node_at after n)) j.out 0) (sym at.from)
+      (subst (λ n. slice_index_or (node_sendings (node_at before k)) n 0 < slice_index_or (node_sendings (node_at after k)) n 0) (sym at.out) more) in
       let received = (receipts j.to p.to).each j.into in
       range_grows_more (spent_at joints before) (spent_at joints after) 0 (length joints) r in_row (omega arith) (let lt = at.ring in omega (arith, lt))
       (omega (arith, here, received, spent_is joints before r at.ring, spent_is joints after r at.ring))
@@ -94,8 +93,8 @@ module _ {F T U : Type 0} (network : Network) (joints : List Joint) (before afte
       let j = joint_at joints r in
       let p = stands.joined.placed r at.ring in
       let here : slice_index_or (node_receipts (node_at before j.to)) j.into 0 < slice_index_or (node_receipts (node_at after j.to)) j.into 0
-          = subst (λ n. slice_index_or (node_receipts (node_at before n)) j.into 0 < slice_index_or (node_receipts (node_at after n)) j.into 0) (sym at.to)
-          (subst (λ n. slice_index_or (node_receipts (node_at before k)) n 0 < slice_index_or (node_receipts (node_at after k)) n 0) (sym at.into) more) in
+      = subst (λ n. slice_index_or (node_receipts (node_at before n)) j.into 0 < slice_index_or (node_receipts (node_at after n)) j.into 0) (sym at.to)
+      (subst (λ n. slice_index_or (node_receipts (node_at before k)) n 0 < slice_index_or (node_receipts (node_at after k)) n 0) (sym at.into) more) in
       let sent = (sendings j.from p.from).each j.out in
       range_grows_more (spent_at joints before) (spent_at joints after) 0 (length joints) r in_row (omega arith) (let lt = at.ring in omega (arith, lt))
       (omega (arith, here, sent, spent_is joints before r at.ring, spent_is joints after r at.ring))
@@ -106,7 +105,7 @@ module _ {F T U : Type 0} (network : Network) (joints : List Joint) (before afte
     | inl lt ↦ let at : GrewAt (node_sendings x) (node_sendings y) = one_grew (node_sendings x) (node_sendings y) (sendings k inside) lt in
         at_port k at.place inside (let place = at.inside in omega (arith, place, length-map (ports_of x) port_moves)) at.more
     | inr le ↦ let at : GrewAt (node_receipts x) (node_receipts y) = one_grew (node_receipts x) (node_receipts y) (receipts k inside)
-          (omega (arith, more, le, sum_by-append (λ (n : ℕ). n) (node_sendings x) (node_receipts x), sum_by-append (λ (n : ℕ). n) (node_sendings y) (node_receipts y))) in
+        (omega (arith, more, le, sum_by-append (λ (n : ℕ). n) (node_sendings x) (node_receipts x), sum_by-append (λ (n : ℕ). n) (node_sendings y) (node_receipts y))) in
         at_ring k at.place inside (let place = at.inside in omega (arith, place, receipts_count x)) at.more
   ]
     where

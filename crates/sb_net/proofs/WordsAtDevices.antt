@@ -1,5 +1,5 @@
 -- The words of all scripts, counted by the ways of a network and by the devices at which they are.
-use Rattle.std.proofs.Common.{◌≡◌, ◌≤◌, ◌<◌, inl, inr, ℕ, zero, suc, ◌+◌, ◌*◌, ◌/◌, Bool, true, false, cond, List, [], ◌∷◌, ◌++◌, length, map, refl, sym, ap, ◌∙◌, subst, arith}
+use Rattle.std.proofs.Common.{◌≡◌, ◌≤◌, ◌<◌, ℕ, zero, suc, ◌+◌, ◌*◌, ◌/◌, Bool, true, false, cond, List, [], ◌∷◌, length, refl, sym, ap, ◌∙◌, arith}
 use Rattle.std.specs.Prelude.{◌&&◌, ◌==◌, nat_lt, All, Option, None, Some, filter, flat_map, get_or, sum_by, if◌then◌else◌}
 use Rattle.std.specs.List.{enumerate_from, range_with_len}
 use Rattle.std.specs.Option.{option_map_or}
@@ -9,7 +9,7 @@ use Rattle.std.proofs.lemmas.List.FromFn.{length-map-range_with_len}
 use Rattle.std.proofs.lemmas.List.Sums.{sum_by-append, sum_by-cons}
 use Rattle.std.proofs.lemmas.List.Elements.{All-head, All-tail}
 use Rattle.sb_packet.specs.Accesses.{Access, access_at}
-use Rattle.sb_packet.specs.Journals.{device_address, flow_part, is_at}
+use Rattle.sb_packet.specs.Journals.{device_address, is_at}
 use Rattle.sb_packet.specs.Networks.{NetHost, Network, device_at}
 use Rattle.sb_packet.specs.Rings.{counted_accesses, has_link, is_answered, is_upward, link_ways, ring_budget, ring_link, ring_ways, way_accesses}
 use Rattle.sb_packet.specs.Scripts.{script_accesses, transaction_accesses, transaction_message}
@@ -139,8 +139,13 @@ module _ (network : Network) where
   ways_from n (host ∷ hosts) =
       let rest = ways_from (n + 1) hosts in
       let here = host_words_le n host in
-      omega (arith, rest, here, sum_by-append way_words (host_ways network n host) (flat_map (λ (p : ℕ × NetHost). host_ways network p.0 p.1) (enumerate_from (n + 1) hosts)),
-        sum_by-cons (λ (h : NetHost). sum_by (λ t. t.count) h.script) host hosts)
+      omega (
+        arith,
+        rest,
+        here,
+        sum_by-append way_words (host_ways network n host) (flat_map (λ (p : ℕ × NetHost). host_ways network p.0 p.1) (enumerate_from (n + 1) hosts)),
+        sum_by-cons (λ (h : NetHost). sum_by (λ t. t.count) h.script) host hosts,
+      )
 
   -- the words of all ways are words of the scripts
   pub ways_le : sum_by way_words (network_ways network) ≤ word_count network
@@ -174,8 +179,8 @@ module _ (network : Network) where
         let half : 2 * k / 2 ≡ k = omega arith in
         let passes : nat_lt k (length network.links) ≡ true = grind (arith, nat_tests) in
         let link : ring_link network (request_ring k) ≡ Some k =
-            ap (λ (i : ℕ). if nat_lt i (length network.links) then Some i else (if i == length network.links then network.wire else None)) half
-            ∙ ap (λ b. if b then Some k else (if k == length network.links then network.wire else None)) passes in
+        ap (λ (i : ℕ). if nat_lt i (length network.links) then Some i else (if i == length network.links then network.wire else None)) half
+        ∙ ap (λ b. if b then Some k else (if k == length network.links then network.wire else None)) passes in
         let these : ring_ways network (request_ring k) ≡ link_ways network k = ap (λ (o : Option ℕ). option_map_or (link_ways network) o []) link in
         let budget = budget_le (request_ring k) in
         let words : sum_by way_words (ring_ways network (request_ring k)) ≡ sum_by way_words (link_ways network k) = ap (sum_by way_words) these in
@@ -194,16 +199,21 @@ module _ (network : Network) where
     way_once (way ∷ ws) all =
         let rest = way_once ws (All-tail (λ way. IsWayTo network way.device way.links) way ws all) in
         let here = taken_once (length network.devices) (λ d. has_link (link_into network d) way) (way_words way)
-            (one_device way (All-head (λ way. IsWayTo network way.device way.links) way ws all)) 0 (length network.devices) (omega arith) in
-        omega (arith, rest, here, sum_by-cons way_words way ws,
-          sum_by-cons (λ (way : NetWay). sum_by (λ d. where_true (has_link (link_into network d) way) (way_words way)) (range_with_len 0 (length network.devices))) way ws)
+        (one_device way (All-head (λ way. IsWayTo network way.device way.links) way ws all)) 0 (length network.devices) (omega arith) in
+        omega (
+          arith,
+          rest,
+          here,
+          sum_by-cons way_words way ws,
+          sum_by-cons (λ (way : NetWay). sum_by (λ d. where_true (has_link (link_into network d) way) (way_words way)) (range_with_len 0 (length network.devices))) way ws,
+        )
 
     -- the budgets of all rings into devices together are within the words of the scripts
     pub into_devices_le : sum_by (λ d. ring_budget network (request_ring (link_into network d))) (range_with_len 0 (length network.devices)) ≤ word_count network
     into_devices_le =
         let ds = range_with_len 0 (length network.devices) in
         let each = range_grows (λ d. ring_budget network (request_ring (link_into network d))) (λ d. sum_by (λ way. where_true (has_link (link_into network d) way) (way_words way)) (network_ways network))
-            0 (length network.devices) (λ d below. into_device_le d (omega (arith, below))) in
+        0 (length network.devices) (λ d below. into_device_le d (omega (arith, below))) in
         let swapped = sum_by_swap (λ d way. where_true (has_link (link_into network d) way) (way_words way)) ds (network_ways network) in
         let once = way_once (network_ways network) ways.ways in
         let all = ways_le in
