@@ -25,3 +25,10 @@ pub mod ExampleNetMoves
 pub mod ExampleNetLaws
 pub mod CollectedPlaces
 pub mod UnderWay
+pub mod GrownSums
+pub mod SpendingNodes
+pub mod SpendingRounds
+pub mod SpendingMeetings
+pub mod SpendingBounds
+pub mod WordsAtDevices
+pub mod JournalRoom

@@ -29,7 +29,7 @@ module _ {F T U : Type 0} where
     pub receivers : (i : ℕ) → i < length (rings_of m) → IsIdleReceiver stages e (ring_at m i).plan.ring
 
 -- a number below another passes the test
-below_passes : (r n : ℕ) → r < n → nat_lt r n ≡ true
+pub below_passes : (r n : ℕ) → r < n → nat_lt r n ≡ true
 below_passes r n below = grind (arith, nat_tests)
 
 module _ {F T U : Type 0} (joints : List Joint) (nodes : List (Member F T U)) where

@@ -44,7 +44,7 @@ use Rattle.sb_net.proofs.StandstillShown.{IsIdleNode, IsShown, is_shown, shows_r
 
 module _ {F T U : Type 0} where
   -- each port of a whole node is fit
-  fits : (m : Member F T U) (o : ℕ) → IsWholeMember m → o < length (ports_of m) → IsFit (port_at m o).plan (port_at m o).state
+  pub fits : (m : Member F T U) (o : ℕ) → IsWholeMember m → o < length (ports_of m) → IsFit (port_at m o).plan (port_at m o).state
   fits (Host h) o whole below = subst (λ k. IsFit (slice_index_or (h.requests ∷ []) k no_port).plan (slice_index_or (h.requests ∷ []) k no_port).state) (sym (below_one o below)) whole.fit
   fits (Device d) o whole below = subst (λ k. IsFit (slice_index_or (d.answers ∷ []) k no_port).plan (slice_index_or (d.answers ∷ []) k no_port).state) (sym (below_one o below)) whole.fit
   fits (Router r) o whole below = (All-get_or IsWholeOutlet (router_ports r) o no_port below (All-append IsWholeOutlet r.requests.lane.outlets r.answers.lane.outlets whole.requests.outlets whole.answers.outlets)).fit
