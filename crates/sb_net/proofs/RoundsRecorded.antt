@@ -1,5 +1,5 @@
 -- What the devices of a network serve in a round is recorded behind the journal.
-use Rattle.std.proofs.Common.{◌≡◌, ℕ, zero, suc, ◌<◌, Bool, false, List, [], ◌∷◌, ◌++◌, length, drop, set, refl, sym, ap, ◌∙◌, subst, arith}
+use Rattle.std.proofs.Common.{length-append, ◌≡◌, ℕ, zero, suc, ◌<◌, ◌≤◌, Bool, false, List, [], ◌∷◌, ◌++◌, length, drop, set, refl, sym, ap, ◌∙◌, subst, arith}
 use Rattle.std.specs.Prelude.{map, filter, All, IsTrue, slice_index_or}
 use Rattle.std.specs.List.{range_with_len}
 use Rattle.std.proofs.Math.Seq.{drop-append_seam, drop-length}
@@ -144,6 +144,13 @@ module _ {F T U : Type 0} where
     nothing_new still = none_collected given n (λ d lt. let k = device_number network d in
         let same : device_entries network after d ≡ device_entries network before d = entries_kept joints turned after met k ∙ rested_node (node_at before k) (node_at turned k) (h.rested still k no_node (inside d lt)) in
         ap (λ (i : ℕ). drop i (device_entries network after d)) (counted d lt) ∙ ap (drop (length (device_entries network before d))) same ∙ drop-length (device_entries network before d)) 0 n (omega arith)
+
+    -- each device has at least as many entries as before
+    pub served_more : (d : ℕ) → d < n → length (device_entries network before d) ≤ length (device_entries network after d)
+    served_more d lt =
+        let j = journalled d lt in
+        let size = ap (λ (list : List Entry). length list) (sym j.joined) ∙ length-append (device_entries network before d) j.added in
+        omega (arith, size)
 
   -- where no node moved, a journal that has what was served has it still
   pub recorded_still : (network : Network) (joints : List Joint) (round : ℕ) (before after : List (Member F T U)) (last : List Turn) (journal : List Entry)

@@ -31,7 +31,7 @@ use Rattle.sb_member.specs.declared.member.Member.TheVariants.{Host, Router, Dev
 use Rattle.sb_member.proofs.EndsChanged.{below_one}
 use Rattle.sb_net.specs.RingEnds.{AreLinked}
 use Rattle.sb_net.specs.Spent.{network_moves, node_receipts, spent, spent_at}
-use Rattle.sb_net.specs.Standing.{StandsFor}
+use Rattle.sb_net.specs.Standing.{StandsFor, node_count}
 use Rattle.sb_net.proofs.GrownSums.{range_grows}
 use Rattle.sb_net.proofs.SpendingRounds.{sending_at, spent_is}
 use Rattle.sb_net.proofs.Standstills.{fits}
@@ -104,22 +104,44 @@ module _ {F T U : Type 0} (network : Network) (joints : List Joint) (nodes : Lis
       subst (λ n. spent joints nodes ≤ move_bound (range_with_len 0 n) (ring_budget network)) stands.rings
       (range_grows (spent_at joints nodes) (λ r. 2 * (4 * (ring_budget network r + 1))) 0 (length joints) (λ r below. at_ring linked r (omega (arith, below))))
 
--- the fourth of nine tests that all pass
-fourth_of_nine : (a b c d e f g h i : Bool) → (a && b && c && d && e && f && g && h && i) ≡ true → d ≡ true
-fourth_of_nine a b c d e f g h i all =
+-- four of nine tests that all pass
+first_of_nine : (a b c d e f g h i : Bool) → (a && b && c && d && e && f && g && h && i) ≡ true → (a ≡ true) × (b ≡ true) × (c ≡ true) × (d ≡ true)
+first_of_nine a b c d e f g h i all =
     let eight = (and_parts (a && b && c && d && e && f && g && h) i all).0 in
     let seven = (and_parts (a && b && c && d && e && f && g) h eight).0 in
     let six = (and_parts (a && b && c && d && e && f) g seven).0 in
     let five = (and_parts (a && b && c && d && e) f six).0 in
     let four = (and_parts (a && b && c && d) e five).0 in
-    (and_parts (a && b && c) d four).1
+    let three = and_parts (a && b && c) d four in
+    let two = and_parts (a && b) c three.0 in
+    let one = and_parts a b two.0 in
+    (one.0, one.1, two.1, three.1)
 
-links_are_few : (network : Network) → is_limited network ≡ true → length network.links ≤ 128
-links_are_few network e =
-    let links = fourth_of_nine (is_from_to 1 32 (length network.hosts)) (is_from_to 1 32 (length network.routers)) (is_from_to 1 32 (length network.devices))
-    (is_from_to 1 128 (length network.links)) (list_all is_limited_host network.hosts) (list_all is_limited_router network.routers)
-    (list_all is_limited_device network.devices) (list_all is_limited_link network.links) (nat_le (page_count network) 4096) e in
-    leb-true (length network.links) 128 (and_parts (nat_le 1 (length network.links)) (nat_le (length network.links) 128) links).1
+-- a limited network has few hosts, routers, devices and links
+module _ (network : Network) (limited : is_limited network ≡ true) where
+  abbrev parts : (is_from_to 1 32 (length network.hosts) ≡ true) × (is_from_to 1 32 (length network.routers) ≡ true) × (is_from_to 1 32 (length network.devices) ≡ true) × (is_from_to 1 128 (length network.links) ≡ true)
+  parts = first_of_nine (is_from_to 1 32 (length network.hosts)) (is_from_to 1 32 (length network.routers)) (is_from_to 1 32 (length network.devices))
+      (is_from_to 1 128 (length network.links)) (list_all is_limited_host network.hosts) (list_all is_limited_router network.routers)
+      (list_all is_limited_device network.devices) (list_all is_limited_link network.links) (nat_le (page_count network) 4096) limited
+
+  at_most : (most n : ℕ) → is_from_to 1 most n ≡ true → n ≤ most
+  at_most most n within = leb-true n most (and_parts (nat_le 1 n) (nat_le n most) within).1
+
+  pub links_are_few : length network.links ≤ 128
+  links_are_few = at_most 128 (length network.links) parts.3
+
+  pub nodes_are_few : node_count network ≤ 96
+  nodes_are_few =
+      let hosts = at_most 32 (length network.hosts) parts.0 in
+      let routers = at_most 32 (length network.routers) parts.1 in
+      let devices = at_most 32 (length network.devices) parts.2 in
+      omega (arith, hosts, routers, devices)
+
+  at_least : (most n : ℕ) → is_from_to 1 most n ≡ true → 1 ≤ n
+  at_least most n within = leb-true 1 n (and_parts (nat_le 1 n) (nat_le n most) within).0
+
+  pub some_node : 0 < node_count network
+  some_node = let hosts = at_least 32 (length network.hosts) parts.0 in omega (arith, hosts)
 
 -- at most 256 rings, and at each of them at most 8 times the words of all scripts and one more
 pub moves_are_small : (network : Network) → IsAccepted network → network_moves network < 2 ^ 32 - 1

@@ -1,8 +1,10 @@
 -- A run under way: what holds before each round, and what follows of a round.
 use Rattle.std.proofs.Common.{◌≡◌, ◌≤◌, ◌<◌, ◌+◌, ◌-◌, ◌++◌, ℕ, Bool, true, false, List, [], length, refl, sym, ap, subst, ◌∙◌, arith}
-use Rattle.std.specs.Prelude.{All, IsTrue, slice_index_or}
+use Rattle.std.specs.Prelude.{◌^◌, ◌==◌, All, IsTrue, filter, flat_map, slice_index_or}
+use Rattle.std.specs.List.{range_with_len}
 use Rattle.std.proofs.lemmas.List.{length-append}
 use Rattle.std.proofs.lemmas.List.Elements.{All-append, All-nil, All-weaker}
+use Rattle.std.proofs.lemmas.List.FromFn.{get_or-map-range_with_len, length-map-range_with_len}
 use Rattle.sb_packet.specs.Journals.{is_in_round_order}
 use Rattle.sb_packet.specs.Ledger.{Ledger}
 use Rattle.sb_packet.specs.Networks.{Network}
@@ -10,23 +12,27 @@ use Rattle.sb_packet.specs.declared.entry.Entry.{Entry}
 use Rattle.sb_flow.specs.Accepted.{IsAccepted}
 use Rattle.sb_flow.specs.Limits.{word_count}
 use Rattle.sb_laws.specs.NetworkLayouts.{network_layout}
-use Rattle.sb_member.specs.Joints.{HaveAllMet, MeetAlong}
+use Rattle.sb_member.specs.Joints.{HaveAllMet, MeetAlong, node_at}
 use Rattle.sb_member.specs.Members.{IsWholeMember}
 use Rattle.sb_member.specs.declared.joint.Joint.{Joint}
 use Rattle.sb_member.specs.declared.member.Member.{Member}
-use Rattle.sb_net.specs.Collecting.{counts_from, entries_from}
+use Rattle.sb_net.specs.Collecting.{counts_from, entries_behind, entries_from}
 use Rattle.sb_net.specs.NetRounds.{IsNetRound}
-use Rattle.sb_net.specs.Recorded.{IsRecorded, entry_counts, new_entries}
+use Rattle.sb_net.specs.Recorded.{IsRecorded, device_entries, entry_counts, member_entries, new_entries}
 use Rattle.sb_net.specs.RingEnds.{AreLinked}
 use Rattle.sb_net.specs.Running.{HasGone, HasRun, IsBuilt, IsReady}
 use Rattle.sb_net.specs.Spent.{network_moves, spent}
 use Rattle.sb_net.specs.Standing.{StandsFor}
 use Rattle.sb_net.proofs.LaterNets.{linked, stands_all_met, stands_turned}
-use Rattle.sb_net.proofs.RoundsRecorded.{counts_kept, new_rounds, ordered_on, recorded_on, recorded_still}
+use Rattle.sb_net.proofs.RoundsRecorded.{counts_kept, new_rounds, ordered_on, recorded_on, recorded_still, served_more}
 use Rattle.sb_net.proofs.PromisesKept.{at_moment, has_entries}
 use Rattle.sb_net.proofs.StandstillEnds.{met_still}
 use Rattle.sb_net.proofs.Standstills.{whole_standstill}
 use Rattle.sb_net.proofs.EndingNodes.{ended_is_over}
+use Rattle.sb_net.proofs.SpendingBounds.{moves_are_small, nodes_are_few, spent_within}
+use Rattle.sb_net.proofs.SpendingMeetings.{meetings_do_nothing}
+use Rattle.sb_net.proofs.SpendingRounds.{round_adds}
+use Rattle.sb_net.proofs.JournalRoom.{journal_within}
 
 -- Before the round of a number: the nodes stand, the journal has what the devices served, and no more rounds were made than what was spent.
 pub record IsUnderWay {F T U : Type 0} (network : Network) (first start number : ℕ) (collected : List ℕ) (joints : List Joint) (nodes : List (Member F T U)) (journal : Ledger) : Type 0 where
@@ -95,7 +101,7 @@ module _ {F T U : Type 0} (network : Network) (first start number : ℕ) (collec
       absurd (omega (arith, late, rounds, bound, small))
 
   module _ (turned after : List (Member F T U)) (gone : HasGone number before turned true) (whole : All IsWholeMember turned) (meets : MeetAlong joints turned after) (met : HaveAllMet joints (length joints) after) where
-    fresh : List Entry
+    abbrev pub fresh : List Entry
     fresh = new_entries network (entry_counts network before) after
 
     stands_then : StandsFor network joints after
@@ -113,7 +119,7 @@ module _ {F T U : Type 0} (network : Network) (first start number : ℕ) (collec
         ∙ ap (λ list. new_entries network list after) u.collected_is
 
     all_fit : length journal.entries + length fresh ≤ word_count network
-    all_fit = let few = journal_within network joints (journal.entries ++ fresh) after u.accepted stands_then (linked joints after met) recorded_then in
+    all_fit = let few = journal_within network joints after stands_then (linked joints after met) u.accepted (journal.entries ++ fresh) recorded_then in
         let sizes = length-append journal.entries fresh in omega (arith, few, sizes)
 
     -- the journal has room for them
@@ -134,8 +140,8 @@ module _ {F T U : Type 0} (network : Network) (first start number : ℕ) (collec
         let same = ap (λ (list : List Entry). length list) collects in
         let room = u.room in
         let rounds = u.rounds in
-        let more = round_adds network joints before turned number gone.last true u.stands gone.went refl in
-        let met_same = meetings_spend_nothing network joints turned after (stands_turned network joints number before turned gone.last true u.stands gone.went whole) meets in
+        let more = round_adds network joints before turned number gone.last u.stands gone.went in
+        let met_same = meetings_do_nothing joints turned after (stands_turned network joints number before turned gone.last true u.stands gone.went whole).joined meets in
         record {
           accepted = u.accepted;
           stands = stands_then;
@@ -152,3 +158,21 @@ module _ {F T U : Type 0} (network : Network) (first start number : ℕ) (collec
           room = omega (arith, size, same, spare, room);
           enough = u.enough;
         }
+
+    -- what collecting asks: the devices are among the nodes, and no device has fewer entries than were collected
+    pub device_range : first + length collected ≤ length after
+    device_range =
+        let count : length collected ≡ length network.devices = ap (λ (list : List ℕ). length list) u.collected_is ∙ length-map-range_with_len (λ d. length (device_entries network before d)) 0 (length network.devices) in
+        let all = stands_then.nodes_count in let at = u.first_device in omega (arith, count, all, at)
+
+    pub none_fewer : (d : ℕ) → d < length collected → slice_index_or collected d 0 ≤ length (member_entries (node_at after (first + d)))
+    none_fewer d lt =
+        let count : length collected ≡ length network.devices = ap (λ (list : List ℕ). length list) u.collected_is ∙ length-map-range_with_len (λ d. length (device_entries network before d)) 0 (length network.devices) in
+        let inside : d < length network.devices = omega (arith, lt, count) in
+        let had = ap (λ (list : List ℕ). slice_index_or list d 0) u.collected_is ∙ get_or-map-range_with_len (λ d. length (device_entries network before d)) 0 (length network.devices) d d 0 inside (omega arith) in
+        let more = served_more network joints number before turned after gone.last true u.stands gone.went meets d inside in
+        let same = ap (λ n. length (member_entries (node_at after (n + d)))) u.first_device in
+        omega (arith, had, more, same)
+
+    pub nodes_fit : length after < 2 ^ 64
+    nodes_fit = let all = stands_then.nodes_count in let few = nodes_are_few network u.accepted.limits in omega (arith, all, few)
