@@ -22,7 +22,7 @@ use Rattle.sb_node.specs.Sides.{received_words, has_ended}
 use Rattle.sb_node.specs.Steps.{IsOffered, IsDropped}
 use Rattle.sb_node.proofs.Items.{item_more, packet_behind}
 use Rattle.sb_device.specs.Sides.{DeviceSide, held_bytes}
-use Rattle.sb_device.specs.Plans.{IsPlannedFor, IsInOrder}
+use Rattle.sb_device.specs.Plans.{IsPlannedFor, IsDeviceInOrder}
 use Rattle.sb_device.specs.Served.{entry_accesses, entry_packets, item_packets, with_entry, answers_to, AreSound, HasServed}
 use Rattle.sb_device.specs.Requests.{IsUnanswered, IsReplied, ServesNone, ServesRequest}
 use Rattle.sb_device.proofs.SoundAnswers.{sound_answer}
@@ -55,7 +55,7 @@ still_planned number m n requests answers requests_then answers_then base size a
       range = made.range ∙ ap (λ b. Some (record { base = b; bytes = length m.bytes })) (sym base) ∙ ap (λ s. Some (record { base = n.base; bytes = s })) (sym size);
     }))
 
-module _ (x y : DeviceSide) (o : IsInOrder x) (number : y.number ≡ x.number)
+module _ (x y : DeviceSide) (o : IsDeviceInOrder x) (number : y.number ≡ x.number)
     (base : y.memory.base ≡ x.memory.base) (size : held_bytes y.memory ≡ held_bytes x.memory)
     (ring_plan : y.requests.plan ≡ x.requests.plan) (port_plan : y.answers.plan ≡ x.answers.plan) where
   planned_then : IsPlannedFor y.number y.memory y.requests.plan y.answers.plan
@@ -64,8 +64,8 @@ module _ (x y : DeviceSide) (o : IsInOrder x) (number : y.number ≡ x.number)
 
   -- a request came in, and was journalled
   pub in_order_packet : (p : Packet) (e : Entry) → e.packet ≡ p → e.device ≡ x.number → y.journal ≡ with_entry x.journal e
-      → MayFollow x.requests.plan x.requests.received (items.Packet p) → y.requests.received ≡ x.requests.received ++ items.Packet p ∷ [] → y.answers.state.closing ≡ false
-      → IsInOrder y
+      → MayFollow x.requests.plan x.requests.received (items.Packet p) → y.requests.received ≡ x.requests.received ++ items.Packet p ∷ [] → y.answers.state.close_requested ≡ false
+      → IsDeviceInOrder y
   in_order_packet p e of_packet of_device added lawful came untold =
       let words : received_words y.requests ≡ received_words x.requests ++ accesses_of p = ap item_accesses came ∙ item_more x.requests.received (items.Packet p) in
       let entries : y.journal.entries ≡ x.journal.entries ++ e ∷ [] = ap (λ (j : Ledger). j.entries) added in
@@ -86,7 +86,7 @@ module _ (x y : DeviceSide) (o : IsInOrder x) (number : y.number ≡ x.number)
 
   -- no packet came in, and the port was told to close where its ring gave Close
   pub in_order_rest : y.journal ≡ x.journal → item_packets y.requests.received ≡ item_packets x.requests.received → received_words y.requests ≡ received_words x.requests
-      → y.answers.state.closing ≡ has_ended y.requests → IsInOrder y
+      → y.answers.state.close_requested ≡ has_ended y.requests → IsDeviceInOrder y
   in_order_rest same packets words closes =
       let longer = ap length words in
       let room = o.room in
@@ -128,7 +128,7 @@ words_of_device number (e ∷ journal) own =
     ∙ ap (λ ws. accesses_of e.packet ++ ws) (words_of_device number journal (All-tail (λ (e : Entry). e.device ≡ number) e journal own))
 
 -- a packet that may follow finds room in the journal
-pub room_for_entry : (d : DeviceSide) (p : Packet) → IsInOrder d → MayFollow d.requests.plan d.requests.received (items.Packet p) → 0 < d.journal.spare
+pub room_for_entry : (d : DeviceSide) (p : Packet) → IsDeviceInOrder d → MayFollow d.requests.plan d.requests.received (items.Packet p) → 0 < d.journal.spare
 room_for_entry d p o lawful = let some = some_accesses p in let room = o.room in let fits = lawful.room in omega (arith, some, room, fits)
 
 -- no request came in: nothing was served
@@ -145,7 +145,7 @@ served_none opening x y h none sound_before =
     }
 
 -- a request came in, and was served
-pub served_request : (opening : MemoryState) (round : ℕ) (x y : DeviceSide) → IsInOrder x → HasServed opening x → (s : ServesRequest round x y)
+pub served_request : (opening : MemoryState) (round : ℕ) (x y : DeviceSide) → IsDeviceInOrder x → HasServed opening x → (s : ServesRequest round x y)
     → MayFollow x.requests.plan x.requests.received (items.Packet s.request) → is_request s.request.cmd.op ≡ true → HasServed opening y
 served_request opening round x y o h s lawful asked =
     let p = s.request in

@@ -16,8 +16,8 @@ use Rattle.sb_packet.specs.Ways.{is_aimed_at, is_some_number, aims_at, host_ways
 use Rattle.sb_packet.specs.declared.transaction.Txn.{Txn}
 use Rattle.sb_packet.proofs.Lists.{All-made, All-joined, filter_none}
 use Rattle.sb_packet.proofs.ReplyAddresses.{word_within}
-use Rattle.sb_laws.specs.Flows.{is_of, is_same_flow, is_among_flows, asked_of}
-use Rattle.sb_laws.specs.NetworkLayouts.{flow_of, network_flows}
+use Rattle.sb_laws.specs.Flows.{is_of, is_same_flow, is_among_flows, asked_words}
+use Rattle.sb_laws.specs.NetworkLayouts.{way_flow, network_flows}
 use Rattle.sb_laws.specs.Routed.{IsRouted}
 use Rattle.sb_laws.proofs.FlowMembers.{and_parts, not_true, of_device, same_flow_from}
 use Rattle.sb_laws.proofs.ListPlaces.{All-enumerated, any_passing, any_joined}
@@ -108,11 +108,11 @@ module _ (network : Network) where
       let element : get_or (enumerate_from 0 network.hosts) h p ≡ (0 + h, host) = get_or-enumerate_from 0 network.hosts h p inside in
       let own : is_same_flow f (record { host = host.id; device = get_or (range_with_len 0 (length network.devices)) d d }) ≡ true = same_flow_from f (record { host = host.id; device = get_or (range_with_len 0 (length network.devices)) d d }) refl (let same = at in grind (arith, nat_tests)) in
       let passing = any_passing (λ e. is_same_flow f (record { host = host.id; device = e })) (aims_at network host) (range_with_len 0 (length network.devices)) d d counted (ap (aims_at network host) at ∙ aims) own in
-      let in_host : list_any (λ way. is_same_flow f (flow_of way)) (host_ways network (0 + h) host) ≡ true =
-      list_any-map (λ way. is_same_flow f (flow_of way)) (λ e. record { host = host; device = e; links = way_links network (0 + h) e }) (filter (aims_at network host) (range_with_len 0 (length network.devices))) ∙ passing in
-      list_any-map (is_same_flow f) flow_of (network_ways network)
-      ∙ any_joined (λ way. is_same_flow f (flow_of way)) (λ p. host_ways network p.0 p.1) (enumerate_from 0 network.hosts) h p numbered
-      (subst (λ (q : ℕ × NetHost). list_any (λ way. is_same_flow f (flow_of way)) (host_ways network q.0 q.1) ≡ true) (sym element) in_host)
+      let in_host : list_any (λ way. is_same_flow f (way_flow way)) (host_ways network (0 + h) host) ≡ true =
+      list_any-map (λ way. is_same_flow f (way_flow way)) (λ e. record { host = host; device = e; links = way_links network (0 + h) e }) (filter (aims_at network host) (range_with_len 0 (length network.devices))) ∙ passing in
+      list_any-map (is_same_flow f) way_flow (network_ways network)
+      ∙ any_joined (λ way. is_same_flow f (way_flow way)) (λ p. host_ways network p.0 p.1) (enumerate_from 0 network.hosts) h p numbered
+      (subst (λ (q : ℕ × NetHost). list_any (λ way. is_same_flow f (way_flow way)) (host_ways network q.0 q.1) ≡ true) (sym element) in_host)
 
   none_any : (p : Txn → Bool) (txns : List Txn) → list_any p txns ≡ false → All (λ t. p t ≡ false) txns
   none_any p [] e = All-nil (λ t. p t ≡ false)
@@ -129,7 +129,7 @@ module _ (network : Network) where
     is : get_or network.hosts place host ≡ host
     transactions : All IsTransaction host.script
 
-  pub all_ways_law : IsRouted network → (f : NetFlow) → is_among_flows f (network_flows network) ≡ false → asked_of network f ≡ []
+  pub all_ways_law : IsRouted network → (f : NetFlow) → is_among_flows f (network_flows network) ≡ false → asked_words network f ≡ []
   all_ways_law routed f none = by_found (find (λ h. h.id == f.host) network.hosts) refl
     where
       placed : All Placed network.hosts

@@ -23,7 +23,7 @@ use Rattle.sb_laws.specs.Moments.{Moment, arrived}
 use Rattle.sb_laws.specs.RoundSides.{HasPort, HasRing, ShowsPort, ShowsRing}
 use Rattle.sb_laws.specs.Runs.{IsDevice}
 use Rattle.sb_laws.specs.Stages.{Stages}
-use Rattle.sb_laws.specs.Standstills.{IsIdleReceiver, IsIdleSender, IsBlocked, RoundEnd}
+use Rattle.sb_laws.specs.Standstills.{IsIdleReceiver, IsIdleSender, IsReceiverBlocked, RoundEnd}
 use Rattle.sb_laws.proofs.SidePromises.{idle_port}
 
 pub device_promise : (network : Network) (layout : Layout) (journal : List Entry) (m : Moment) (f : NetFlow) (device : DeviceSide) →
@@ -58,12 +58,12 @@ idle_receiver stages s into back ring port got shows there stage holds none idle
   drained = λ unended. by_cause (All-head (λ r. has_ended r ≡ false → (is_drained r ≡ true) ⊎ IsBlockedPort port) ring [] idle.open_rings_are_drained (ap has_close (sym got.lists.received) ∙ unended));
 }
   where
-    by_cause : (is_drained ring ≡ true) ⊎ IsBlockedPort port → (s.empty into ≡ true) ⊎ (((p : ℕ) × (s.holds into ≡ Some p)) ⊎ IsBlocked stages s into)
+    by_cause : (is_drained ring ≡ true) ⊎ IsBlockedPort port → (s.empty into ≡ true) ⊎ (((p : ℕ) × (s.holds into ≡ Some p)) ⊎ IsReceiverBlocked stages s into)
     by_cause (inl empty) = inl (got.empty ∙ empty)
     by_cause (inr blocked) = inr (inr (record { by = back; is_ring = there; here = stage; full = shows.full ∙ blocked.full }))
 
 pub idle_sender : (stages : Stages) (s : RoundEnd) (into back : ℕ) (ring : RingSide) (port : PortSide) → ShowsRing s into ring → ShowsPort s back port →
-    into < stages.rings → stages.goes_out into ≡ false → stages.from back ≡ stages.to into → stages.leaves_host back ≡ false → IsFit port.plan port.state → port.state.closing ≡ has_ended ring →
+    into < stages.rings → stages.goes_out into ≡ false → stages.from back ≡ stages.to into → stages.leaves_host back ≡ false → IsFit port.plan port.state → port.state.close_requested ≡ has_ended ring →
     IsIdleAt (λ ring. IsBlockedPort port) (port ∷ []) (ring ∷ []) → IsIdleSender stages s back
 idle_sender stages s into back ring port got shows there inside stage no_host fit closes idle = record {
   port = idle_port s back port fit shows (All-head (λ p. has_rest p ≡ true → is_full p ≡ true) port [] idle.owing_ports_are_full);

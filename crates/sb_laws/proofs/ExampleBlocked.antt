@@ -38,7 +38,7 @@ blocked_port r first second = record {
   plan = narrow r;
   mark = record (small_mark r) { plan = narrow r };
   taken = 0;
-  state = record { sent = items.Packet first ∷ []; waiting = record { width = 32; owed = message_of second ∷ []; held = None }; closing = false; shut = false; claimed = 2 };
+  state = record { sent = items.Packet first ∷ []; waiting = record { width = 32; owed = message_of second ∷ []; held = None }; close_requested = false; close_sent = false; words_offered = 2 };
 }
 
 -- the host's has sent the write and owes the posted write, and the device's has sent the answer to the write and owes that to the read

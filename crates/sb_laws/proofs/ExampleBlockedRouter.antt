@@ -76,7 +76,7 @@ is_whole = record {
   routed = within;
 }
   where
-    silent : (o : ℕ) → o < 1 → (outlet_at blocked.lane o).state.closing ≡ true → All IsSilent (holding ∷ [])
+    silent : (o : ℕ) → o < 1 → (outlet_at blocked.lane o).state.close_requested ≡ true → All IsSilent (holding ∷ [])
     silent zero inside told = absurd (cc)
     silent (suc o) inside told = absurd (omega arith)
 

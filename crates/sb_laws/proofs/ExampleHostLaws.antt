@@ -15,7 +15,7 @@ use Rattle.sb_host.specs.Outcomes.{outcomes_so_far}
 use Rattle.sb_host.specs.Rows.{IsTable}
 use Rattle.sb_host.specs.Steps.{IsIdleHost}
 use Rattle.sb_host.proofs.Offering.{closes_behind_all, offers_in_order}
-use Rattle.sb_host.specs.declared.row.Row.{Row}
+use Rattle.sb_host.specs.declared.answer_row.AnswerRow.{AnswerRow}
 use Rattle.sb_laws.specs.Flows.{aimed_script}
 use Rattle.sb_laws.specs.HostSides.{IsHostAt, IsHostBuiltFor, IsHostOf}
 use Rattle.sb_laws.specs.Moments.{Moment}
@@ -42,7 +42,7 @@ pub hosts_keep_their_promise_script : asked_accesses (asked_by small cpu) ≡ ai
 hosts_keep_their_promise_script = asked_script small cpu scripts_of_small small_is_routed.pages (0, lit< tt, refl)
 
 -- the host in that state, at a moment at which its port and ring are as they stand there
-module _ (m : Moment) (settled : IsSettled m) (rows : List Row) (next : ℕ) (whole : IsWholeHost (host_in m rows next)) where
+module _ (m : Moment) (settled : IsSettled m) (rows : List AnswerRow) (next : ℕ) (whole : IsWholeHost (host_in m rows next)) where
   promise_at : All (λ f. f.host ≡ 0 → IsHost small small_layout m f) small_layout.requests.flows
   promise_at = host_promise offers_in_order closes_behind_all small small_layout m cpu (host_in m rows next) scripts_of_small small_is_routed.pages (host_of_small m rows next) whole (has_port m settled 0)
 

@@ -5,7 +5,7 @@ use Rattle.std.proofs.lemmas.List.Elements.{All-nil, All-from_recursion}
 use Rattle.sb_packet.specs.Scripts.{IsTransaction}
 use Rattle.sb_packet.specs.Plans.{NetFlow}
 use Rattle.sb_packet.proofs.FoundAnswers.{eq_below}
-use Rattle.sb_laws.specs.Flows.{is_among_flows, asked_of, answered_of}
+use Rattle.sb_laws.specs.Flows.{is_among_flows, asked_words, answered_of}
 use Rattle.sb_laws.specs.Courses.{Course, IsOneWay, goes_over, flows_over}
 use Rattle.sb_laws.specs.Layouts.{Layout, HasScripts, IsLayout, ring_home}
 use Rattle.sb_laws.proofs.ExampleNetwork.{cpu, small}
@@ -68,7 +68,7 @@ scripts_of_small = record {
 }
 
 -- a host or a device that there isn't asks for nothing, or is asked for nothing
-nothing_else : (h d : ℕ) → (let f : NetFlow = record { host = h; device = d } in is_among_flows f (the_flow ∷ []) ≡ false → asked_of small f ≡ [])
+nothing_else : (h d : ℕ) → (let f : NetFlow = record { host = h; device = d } in is_among_flows f (the_flow ∷ []) ≡ false → asked_words small f ≡ [])
 nothing_else zero zero e = absurd (cc)
 nothing_else zero (suc d) e = rw (eq_below 0 (suc d) (omega arith)) refl
 nothing_else (suc h) d e = rw (eq_below 0 (suc h) (omega arith)) refl
@@ -112,7 +112,7 @@ small_is_laid_out = record {
   hosts = of_one (λ f. Contains (0 ∷ []) f.host) the_flow (0, lit< tt, refl);
   devices = of_one (λ f. f.device < 1) the_flow (lit< tt);
   all_flows = λ f e. nothing_else f.host f.device e;
-  asked = of_one (λ f. length (asked_of small f) ≤ 3) the_flow (lit≤ tt);
+  asked = of_one (λ f. length (asked_words small f) ≤ 3) the_flow (lit≤ tt);
   answered = of_one (λ f. length (answered_of small f) ≤ 2) the_flow (lit≤ tt);
   one_way = one_way;
   one_way_back = one_way_back;

@@ -2,7 +2,7 @@
 use Rattle.std.proofs.Common.{◌≡◌, lit≤, lit<, ℕ, true, false, refl, List, [], ◌∷◌}
 use Rattle.std.specs.Prelude.{All}
 use Rattle.std.proofs.lemmas.List.Elements.{All-from_recursion}
-use Rattle.sb_laws.specs.Moves.{RingUse, IsKept, HasMoved, offers, sends, pops, sends_close, pops_close, IsWithinBudget, IsMovingRound, AreMovingRounds, move_bound}
+use Rattle.sb_laws.specs.Moves.{RingUse, IsKept, IsMoveAtRing, offers, sends, pops, sends_close, pops_close, IsWithinBudget, IsMovingRound, AreMovingRounds, move_bound}
 use Rattle.sb_laws.proofs.ExampleLayout.{of_one}
 
 abbrev pub unused : RingUse
@@ -27,7 +27,7 @@ after_end = record after_close { ended = true }
 abbrev pub five_rounds : List (ℕ → RingUse)
 five_rounds = (λ r. after_offer) ∷ (λ r. after_send) ∷ (λ r. after_pop) ∷ (λ r. after_close) ∷ (λ r. after_end) ∷ []
 
-one_round : (a b : RingUse) → IsKept a b → HasMoved a b → IsMovingRound (0 ∷ []) (λ r. a) (λ r. b)
+one_round : (a b : RingUse) → IsKept a b → IsMoveAtRing a b → IsMovingRound (0 ∷ []) (λ r. a) (λ r. b)
 one_round a b kept moved = record { kept = of_one (λ r. IsKept a b) 0 kept; moved = (0, 0, lit< tt, refl, moved) }
 
 pub five_moving_rounds : AreMovingRounds (0 ∷ []) (λ r. unused) five_rounds

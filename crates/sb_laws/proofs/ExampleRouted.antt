@@ -9,7 +9,7 @@ use Rattle.sb_laws.specs.NetworkLayouts.{network_flows, network_requests, networ
 use Rattle.sb_laws.specs.NetworkStages.{network_stages}
 use Rattle.sb_laws.specs.NetworkWays.{is_link_to}
 use Rattle.sb_laws.specs.Routed.{IsFirstLink, IsRoute, IsRouted}
-use Rattle.sb_laws.specs.Courses.{way_of}
+use Rattle.sb_laws.specs.Courses.{way_rings}
 use Rattle.sb_laws.specs.RouterLayouts.{request_ins, request_outs, answer_ins, answer_outs}
 use Rattle.sb_laws.proofs.ExampleNetwork.{small}
 use Rattle.sb_laws.proofs.ExampleLayout.{the_flow, of_one, scripts_of_small}
@@ -79,10 +79,10 @@ small_is_routed = record {
 pub flow_of_small : network_flows small ≡ the_flow ∷ []
 flow_of_small = refl
 
-pub way_of_small : way_of (network_requests small) the_flow ≡ 0 ∷ 2 ∷ []
+pub way_of_small : way_rings (network_requests small) the_flow ≡ 0 ∷ 2 ∷ []
 way_of_small = refl
 
-pub way_back_of_small : way_of (network_answers small) the_flow ≡ 3 ∷ 1 ∷ []
+pub way_back_of_small : way_rings (network_answers small) the_flow ≡ 3 ∷ 1 ∷ []
 way_back_of_small = refl
 
 -- To its router requests come by ring 0, and go on by ring 2 to the device; answers come by ring 3, and go on by ring 1.

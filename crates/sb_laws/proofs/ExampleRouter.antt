@@ -16,7 +16,7 @@ use Rattle.sb_port.specs.Ports.{offered_words}
 use Rattle.sb_node.specs.Sides.{received_words}
 use Rattle.sb_node.proofs.Subsequences.{same_subsequence}
 use Rattle.sb_router.specs.Forwarding.{Forwards, Passes, Words, held_for, part, popped_for}
-use Rattle.sb_router.specs.Lanes.{InletState, came_at, held_at, held_words, offered_at, outlet_at}
+use Rattle.sb_router.specs.Lanes.{InletState, came_at, held_words_at, held_words, offered_at, outlet_at}
 use Rattle.sb_router.specs.RouteOf.{route_of}
 use Rattle.sb_router.specs.Routers.{DirectionSide, IsWholeDirection}
 use Rattle.sb_router.specs.Steps.{IsSilent}
@@ -139,7 +139,7 @@ module _ (m : Moment) (settled : IsSettled m) (r q : ℕ) (held : Option Packet)
     routed = within;
   }
     where
-      silent : (o : ℕ) → o < 1 → (outlet_at (direction_in m r q held).lane o).state.closing ≡ true → All IsSilent (inlet_in m r held ∷ [])
+      silent : (o : ℕ) → o < 1 → (outlet_at (direction_in m r q held).lane o).state.close_requested ≡ true → All IsSilent (inlet_in m r held ∷ [])
       silent zero inside told = of_one IsSilent (inlet_in m r held) (passed.closed told)
       silent (suc o) inside told = absurd (omega arith)
 
@@ -151,7 +151,7 @@ module _ (m : Moment) (settled : IsSettled m) (r q : ℕ) (held : Option Packet)
 
   -- of each flow all is there, whichever words are the flow's
   pub all_parts : (words : Words) (f : NetFlow) (i o : ℕ) → Passes (route_of small_rows) (direction_in m r q held).lane f i o
-      → part words f (came_at (direction_in m r q held).lane i) ≡ part words f (offered_at (direction_in m r q held).lane o) ++ part words f (held_at (direction_in m r q held).lane i)
+      → part words f (came_at (direction_in m r q held).lane i) ≡ part words f (offered_at (direction_in m r q held).lane o) ++ part words f (held_words_at (direction_in m r q held).lane i)
   all_parts words f zero zero passes = ap (part words f) passed.all ∙ filter-append (words.is_of f) (offered_words (port_in m q)) (held_words held)
   all_parts words f zero (suc o) passes = absurd (let inside = passes.outlet in omega arith)
   all_parts words f (suc i) o passes = absurd (let inside = passes.inlet in omega arith)

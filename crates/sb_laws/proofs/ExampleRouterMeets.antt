@@ -8,7 +8,7 @@ use Rattle.sb_packet.specs.Rings.{ring_plan}
 use Rattle.sb_port.specs.Ports.{PortSide}
 use Rattle.sb_node.proofs.Subsequences.{same_subsequence}
 use Rattle.sb_router.specs.Forwarding.{Passes, held_for, part, popped_for}
-use Rattle.sb_router.specs.Lanes.{InletState, came_at, held_at, inlet_at, offered_at, outlet_at}
+use Rattle.sb_router.specs.Lanes.{InletState, came_at, held_words_at, inlet_at, offered_at, outlet_at}
 use Rattle.sb_router.specs.RouteOf.{route_of}
 use Rattle.sb_router.specs.Routers.{DirectionSide, ForwardsAll, IsWholeDirection}
 use Rattle.sb_router.specs.Steps.{IsSilent}
@@ -59,7 +59,7 @@ early_is_whole = record {
   routed = within;
 }
   where
-    silent : (o : ℕ) → o < 1 → (outlet_at early.lane o).state.closing ≡ true → All IsSilent (early_inlet ∷ [])
+    silent : (o : ℕ) → o < 1 → (outlet_at early.lane o).state.close_requested ≡ true → All IsSilent (early_inlet ∷ [])
     silent zero inside told = absurd (cc)
     silent (suc o) inside told = absurd (omega arith)
 
@@ -99,7 +99,7 @@ early_forwards = record {
     few (suc o) = lit≤ tt
 
     all : (f : NetFlow) (i o : ℕ) → Passes (route_of small_rows) early.lane f i o
-        → part request_words f (came_at early.lane i) ≡ part request_words f (offered_at early.lane o) ++ part request_words f (held_at early.lane i)
+        → part request_words f (came_at early.lane i) ≡ part request_words f (offered_at early.lane o) ++ part request_words f (held_words_at early.lane i)
     all f zero zero passes = all_parts halfway halfway_is_settled 0 2 (Some posted) halfway_requests request_words f 0 0 (record { inlet = lit< tt; outlet = lit< tt; through = passes.through; route_to = passes.route_to })
     all f zero (suc o) passes = absurd (let inside = passes.outlet in omega arith)
     all f (suc i) o passes = absurd (let inside = passes.inlet in omega arith)

@@ -7,7 +7,7 @@ use Rattle.sb_packet.specs.declared.item.Item.{Item}
 use Rattle.sb_packet.specs.declared.item.Item.TheVariants as items
 use Rattle.sb_laws.specs.Stages.{Stages}
 use Rattle.sb_laws.specs.Standstills.{RoundEnd, IsStandstill}
-use Rattle.sb_laws.specs.Endings.{HasLearnt, IsFinished, IsWaiting, IsWithin, IsWholeStandstill}
+use Rattle.sb_laws.specs.Endings.{HasLearnt, IsFinished, IsHostWaiting, IsWithin, IsWholeStandstill}
 use Rattle.sb_laws.proofs.ExampleNetwork.{small, steps, read}
 use Rattle.sb_laws.proofs.ExampleLayout.{the_flow, small_layout, of_one}
 use Rattle.sb_laws.proofs.ExampleRun.{all_items, the_end, end_of_small}
@@ -117,7 +117,7 @@ waiting_is_a_standstill = record {
     not_open (suc n) here o e = cc
 
 -- So the host waits, and its ring is not done.
-pub waiting_waits : IsWaiting side_stages waiting
+pub waiting_waits : IsHostWaiting side_stages waiting
 waiting_waits = record { at = 0; is_ring = lit< tt; waits = refl }
 
 pub waiting_is_not_finished : IsFinished side_stages waiting 0 → ⊥

@@ -23,12 +23,12 @@ use Rattle.sb_packet.specs.declared.transaction.Kind.{Kind}
 use Rattle.sb_packet.specs.declared.transaction.Kind.TheVariants.{Read, Write, Posted, Atomic}
 use Rattle.sb_packet.specs.declared.transaction.Txn.{Txn}
 use Rattle.sb_packet.proofs.Lists.{All-kept, All-made, All-pieces}
-use Rattle.sb_host.specs.declared.line.Line.{Line}
+use Rattle.sb_host.specs.declared.transaction_plan.TransactionPlan.{TransactionPlan}
 use Rattle.sb_host.specs.Asked.{Asked, asked_by, line_in}
 use Rattle.sb_host.specs.Hosts.{HostSide, IsWholeHost}
 use Rattle.sb_host.specs.Outcomes.{answer_so_far, first_answer, is_answer_to, line_outcome, outcome_so_far, outcomes_so_far}
 use Rattle.sb_node.specs.Sides.{received_words}
-use Rattle.sb_laws.specs.Flows.{asked_of, is_among_flows, is_of}
+use Rattle.sb_laws.specs.Flows.{asked_words, is_among_flows, is_of}
 use Rattle.sb_laws.specs.HostSides.{IsHostOf}
 use Rattle.sb_laws.specs.Layouts.{IsLayout, Layout, ring_home}
 use Rattle.sb_laws.specs.Moments.{Moment, arrived}
@@ -80,7 +80,7 @@ same_outcome Posted known answers all = refl
 same_outcome (Atomic type) known answers all = let told = all refl in rw (told.0, told.1) refl
 
 -- line by line
-same_lines : (network : Network) (of_line : ℕ → Line → Outcome) (of_pair : ℕ × Txn → Outcome) (n : ℕ) (txns : List Txn) → All (λ p. of_line p.0 (line_in network p.1) ≡ of_pair p) (enumerate_from n txns) →
+same_lines : (network : Network) (of_line : ℕ → TransactionPlan → Outcome) (of_pair : ℕ × Txn → Outcome) (n : ℕ) (txns : List Txn) → All (λ p. of_line p.0 (line_in network p.1) ≡ of_pair p) (enumerate_from n txns) →
     map (λ p. of_line p.0 p.1) (enumerate_from n (map (line_in network) txns)) ≡ map of_pair (enumerate_from n txns)
 same_lines network of_line of_pair n [] same = refl
 same_lines network of_line of_pair n (t ∷ txns) same =
@@ -103,9 +103,9 @@ module _ (network : Network) (layout : Layout) (journal : List Entry) (m : Momen
     pub memory : MemoryState
     pub given : access_reply network journal a ≡ access_answer memory a
 
-  flow_found : (f : NetFlow) → f.host ≡ host.id → is_among_flows f layout.requests.flows ≡ true → All IsFound (asked_of network f)
+  flow_found : (f : NetFlow) → f.host ≡ host.id → is_among_flows f layout.requests.flows ≡ true → All IsFound (asked_words network f)
   flow_found f mine among i d below =
-      let word = get_or (asked_of network f) i d in
+      let word = get_or (asked_words network f) i d in
       let there = at_flow (λ g. g.device < length network.devices) f layout.requests.flows laid.devices among in
       let opening = opening_memory network f.device in
       let words = journal_accesses journal f.device in
@@ -124,10 +124,10 @@ module _ (network : Network) (layout : Layout) (journal : List Entry) (m : Momen
   abbrev flow_to : ℕ → NetFlow
   flow_to d = record { host = host.id; device = d }
 
-  device_found : (d : ℕ) → All IsFound (asked_of network (flow_to d))
+  device_found : (d : ℕ) → All IsFound (asked_words network (flow_to d))
   device_found d = by_test (is_among_flows (flow_to d) layout.requests.flows) refl
     where
-      by_test : (b : Bool) → is_among_flows (flow_to d) layout.requests.flows ≡ b → All IsFound (asked_of network (flow_to d))
+      by_test : (b : Bool) → is_among_flows (flow_to d) layout.requests.flows ≡ b → All IsFound (asked_words network (flow_to d))
       by_test true e = flow_found (flow_to d) refl e
       by_test false e = subst (All IsFound) (sym (laid.all_flows (flow_to d) e)) (All-nil IsFound)
 
@@ -189,7 +189,7 @@ module _ (network : Network) (layout : Layout) (journal : List Entry) (m : Momen
 -- So does a host that told its port to close, by the words that came to it.
 pub outcomes_found : (network : Network) (layout : Layout) (journal : List Entry) (m : Moment) (host : NetHost) (h : HostSide) →
     IsLayout network layout → All (λ d. d.base % 4096 ≡ 0) network.devices → IsMomentOf network layout journal m → HasAllEnded layout m → IsHostOf network layout host h → IsWholeHost h →
-    h.requests.state.closing ≡ true → HasRing m h.answers.plan.ring h.answers → outcomes_so_far h.transactions.asked (received_words h.answers) h.transactions.next ≡ host_outcomes network journal host
+    h.requests.state.close_requested ≡ true → HasRing m h.answers.plan.ring h.answers → outcomes_so_far h.transactions.asked (received_words h.answers) h.transactions.next ≡ host_outcomes network journal host
 outcomes_found network layout journal m host h laid pages now ended of whole told got =
     let t = h.transactions in
     let ring = h.answers.plan.ring in

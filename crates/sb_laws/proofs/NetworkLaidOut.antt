@@ -10,9 +10,9 @@ use Rattle.sb_packet.specs.Networks.{NetHost, Network}
 use Rattle.sb_packet.specs.Plans.{NetFlow}
 use Rattle.sb_packet.specs.Ways.{network_ways, flow_links, is_some_number, router_before, router_after}
 use Rattle.sb_packet.specs.Rings.{is_upward}
-use Rattle.sb_laws.specs.Courses.{way_of, goes_over, flows_over, IsOneWay, last_of}
+use Rattle.sb_laws.specs.Courses.{way_rings, goes_over, flows_over, IsOneWay, last_of}
 use Rattle.sb_laws.specs.Layouts.{IsLayout, ring_home}
-use Rattle.sb_laws.specs.NetworkLayouts.{flow_of, network_flows, request_ring, answer_ring, first_ring, links_into, links_out_of, network_requests, network_answers, link_into, network_layout}
+use Rattle.sb_laws.specs.NetworkLayouts.{way_flow, network_flows, request_ring, answer_ring, first_ring, links_into, links_out_of, network_requests, network_answers, link_into, network_layout}
 use Rattle.sb_laws.specs.NetworkWays.{IsWayTo, HasWays}
 use Rattle.sb_laws.proofs.Ways.{at_last}
 use Rattle.sb_laws.proofs.LinksOfWays.{is_in, links_there, last_leads, only_to_device, one_into, one_out_of}
@@ -46,13 +46,13 @@ module _ (network : Network) where
   flow_way f (k ∷ js) is way start = record { head = k; tail = js; links = is; way = way; start = start }
 
   -- by the rings of requests a flow takes its links, and by the rings of answers the same
-  pub requests_way : (f : NetFlow) (w : FlowWay network f) → way_of (network_requests network) f ≡ map request_ring (w.head ∷ w.tail)
+  pub requests_way : (f : NetFlow) (w : FlowWay network f) → way_rings (network_requests network) f ≡ map request_ring (w.head ∷ w.tail)
   requests_way f w = ap (λ (l : List ℕ). first_ring l ∷ drop 1 l) (ring_by_ring network f ∙ ap (map request_ring) w.links)
 
   back_links : (f : NetFlow) (w : FlowWay network f) → reverse (flow_links network f) ≡ last_of w.head w.tail ∷ (reversed w.head w.tail).rest
   back_links f w = ap reverse w.links ∙ (reversed w.head w.tail).is
 
-  pub answers_way : (f : NetFlow) (w : FlowWay network f) → way_of (network_answers network) f ≡ map answer_ring (reverse (w.head ∷ w.tail))
+  pub answers_way : (f : NetFlow) (w : FlowWay network f) → way_rings (network_answers network) f ≡ map answer_ring (reverse (w.head ∷ w.tail))
   answers_way f w =
       ap (λ (l : List ℕ). first_ring l ∷ drop 1 l) (ring_by_ring_back network f ∙ ap (map answer_ring) (back_links f w))
       ∙ ap (map answer_ring) (sym (reversed w.head w.tail).is)
@@ -108,13 +108,13 @@ module _ (network : Network) where
   none_once goes i j d below inside = absurd (omega arith)
 
   module _ (ways : HasWays network) where
-    pub way_flows : All (λ way. FlowWay network (flow_of way)) (network_ways network)
+    pub way_flows : All (λ way. FlowWay network (way_flow way)) (network_ways network)
     way_flows k w below =
         let way = get_or (network_ways network) k w in
-        flow_way (flow_of way) way.links (ways.found k w below) (ways.ways k w below) (ways.starts k w below)
+        flow_way (way_flow way) way.links (ways.found k w below) (ways.ways k w below) (ways.starts k w below)
 
     pub flow_ways : All (FlowWay network) (network_flows network)
-    flow_ways = All-map (FlowWay network) flow_of (network_ways network) way_flows
+    flow_ways = All-map (FlowWay network) way_flow (network_ways network) way_flows
 
     one_way : (r : ℕ) → IsOneWay (network_requests network) r
     one_way r = record {
@@ -147,7 +147,7 @@ module _ (network : Network) where
     last_link f w there = ways.one_link f.device (last_of w.head w.tail) (link_into network f.device) (last_leads network f.device w.head w.tail w.way) (link_into_leads network ways f.device there).leads
 
     flow_devices : All (λ f. f.device < length network.devices) (network_flows network)
-    flow_devices = All-map (λ f. f.device < length network.devices) flow_of (network_ways network) ways.devices
+    flow_devices = All-map (λ f. f.device < length network.devices) way_flow (network_ways network) ways.devices
 
     into_flows : (d : ℕ) → d < length network.devices → All (λ f. f.device ≡ d) (flows_over (network_requests network) (request_ring (link_into network d)))
     into_flows d there k f below =
@@ -189,7 +189,7 @@ module _ (network : Network) where
     laid_out = record {
       scripts = ways.scripts;
       same_flows = refl;
-      hosts = All-map (λ f. Contains (map (λ h. h.id) network.hosts) f.host) flow_of (network_ways network) (λ k way below. Contains-map (λ h. h.id) network.hosts (get_or (network_ways network) k way).host (ways.hosts k way below));
+      hosts = All-map (λ f. Contains (map (λ h. h.id) network.hosts) f.host) way_flow (network_ways network) (λ k way below. Contains-map (λ h. h.id) network.hosts (get_or (network_ways network) k way).host (ways.hosts k way below));
       devices = flow_devices;
       all_flows = ways.all_ways;
       asked = λ k f below. omega arith;

@@ -68,7 +68,7 @@ module _ (plan : RingPlan) (s : PortState) (fit : IsFit plan s) where
       sym (append-nil (item_accesses s.sent)) ∙ ap (λ (l : List Message). item_accesses s.sent ++ flat_map message_accesses l) (sym nothing) ∙ sym split_words
 
   pub closed_all_sent : has_close s.sent ≡ true → item_accesses s.sent ≡ port_accesses s
-  closed_all_sent closed = let shut : s.shut ≡ true = fit.close ∙ closed in all_sent (fit.none_owed shut) (fit.none_held shut)
+  closed_all_sent closed = let close_sent : s.close_sent ≡ true = fit.close ∙ closed in all_sent (fit.none_owed close_sent) (fit.none_held close_sent)
 
   pub moves_are_few : AreInTurn plan s.sent → length (port_accesses s) + length (let_go s) + length s.sent ≤ 3 * plan.budget + 1
   moves_are_few turn =

@@ -15,7 +15,7 @@ use Rattle.sb_packet.specs.declared.transaction.Kind.{Kind}
 use Rattle.sb_packet.specs.declared.transaction.Kind.TheVariants.{Read, Write, Posted, Atomic}
 use Rattle.sb_packet.proofs.Lists.{All-made, All-joined, AllPairs-head, AllPairs-tail}
 use Rattle.sb_packet.proofs.ReplyAddresses.{reply_addresses_rise, reply_addresses_tell}
-use Rattle.sb_laws.specs.Flows.{is_of, words_of, script_of, asked_of}
+use Rattle.sb_laws.specs.Flows.{is_of, words_of_flow, words_of_script, asked_words}
 use Rattle.sb_laws.specs.Layouts.{HasScripts}
 
 -- what is found passes the test, and is one of the list
@@ -55,7 +55,7 @@ found_by_id (host ∷ hosts) apart (suc k) d below =
 
 module _ (network : Network) (scripts : HasScripts network) where
   -- what holds of each host's script holds of the script of any id, which may be none
-  script_fact : (P : ℕ → List Access → Type 0) → ((id : ℕ) → P id []) → All (λ host. P host.id (script_accesses host)) network.hosts → (id : ℕ) → P id (script_of network id)
+  script_fact : (P : ℕ → List Access → Type 0) → ((id : ℕ) → P id []) → All (λ host. P host.id (script_accesses host)) network.hosts → (id : ℕ) → P id (words_of_script network id)
   script_fact P none each id = by_found (find (λ h. h.id == id) network.hosts) refl
     where
       by_found : (o : Option NetHost) → find (λ h. h.id == id) network.hosts ≡ o → P id (option_map_or script_accesses o [])
@@ -66,28 +66,28 @@ module _ (network : Network) (scripts : HasScripts network) where
           let same : host.id ≡ id = grind (arith, nat_tests) in
           subst (λ (n : ℕ). P n (script_accesses host)) same is.1
 
-  pub script_asks : (id : ℕ) → All (λ a. is_request a.op ≡ true) (script_of network id)
+  pub script_asks : (id : ℕ) → All (λ a. is_request a.op ≡ true) (words_of_script network id)
   script_asks = script_fact (λ id list. All (λ a. is_request a.op ≡ true) list) (λ id. All-nil (λ (a : Access). is_request a.op ≡ true)) (λ k d below. script_words_ask (get_or network.hosts k d))
 
-  pub script_rises : (id : ℕ) → AllPairs (λ a b. a.src < b.src) (script_of network id)
+  pub script_rises : (id : ℕ) → AllPairs (λ a b. a.src < b.src) (words_of_script network id)
   script_rises = script_fact (λ id list. AllPairs (λ a b. a.src < b.src) list) (λ id i j d below inside. absurd (omega arith)) (λ k d below. reply_addresses_rise (get_or network.hosts k d) (scripts.transactions k d below))
 
-  pub script_told : (id : ℕ) → All (λ a. a.src / 2 ^ 40 ≡ id) (script_of network id)
+  pub script_told : (id : ℕ) → All (λ a. a.src / 2 ^ 40 ≡ id) (words_of_script network id)
   script_told = script_fact (λ id list. All (λ a. a.src / 2 ^ 40 ≡ id) list) (λ id. All-nil (λ (a : Access). a.src / 2 ^ 40 ≡ id)) (λ k d below. reply_addresses_tell (get_or network.hosts k d) (scripts.transactions k d below) (scripts.few k d below))
 
   -- so of what a flow asks for
-  pub asked_asks : (f : NetFlow) → All (λ a. is_request a.op ≡ true) (asked_of network f)
-  asked_asks f = All-filter (is_of network f) (λ a. is_request a.op ≡ true) (script_of network f.host) (script_asks f.host)
+  pub asked_asks : (f : NetFlow) → All (λ a. is_request a.op ≡ true) (asked_words network f)
+  asked_asks f = All-filter (is_of network f) (λ a. is_request a.op ≡ true) (words_of_script network f.host) (script_asks f.host)
 
-  pub asked_rises : (f : NetFlow) → AllPairs (λ a b. a.src < b.src) (asked_of network f)
-  asked_rises f = AllPairs-filter (λ a b. a.src < b.src) (is_of network f) (script_of network f.host) (script_rises f.host)
+  pub asked_rises : (f : NetFlow) → AllPairs (λ a b. a.src < b.src) (asked_words network f)
+  asked_rises f = AllPairs-filter (λ a b. a.src < b.src) (is_of network f) (words_of_script network f.host) (script_rises f.host)
 
-  pub asked_told : (f : NetFlow) → All (λ a. a.src / 2 ^ 40 ≡ f.host) (asked_of network f)
-  asked_told f = All-filter (is_of network f) (λ a. a.src / 2 ^ 40 ≡ f.host) (script_of network f.host) (script_told f.host)
+  pub asked_told : (f : NetFlow) → All (λ a. a.src / 2 ^ 40 ≡ f.host) (asked_words network f)
+  asked_told f = All-filter (is_of network f) (λ a. a.src / 2 ^ 40 ≡ f.host) (words_of_script network f.host) (script_told f.host)
 
   -- what a host's script has for a device is what the flow asks for
-  pub own_script : All (λ host. (d : ℕ) → (let f : NetFlow = record { host = host.id; device = d } in flow_part network host d (script_accesses host) ≡ asked_of network f)) network.hosts
+  pub own_script : All (λ host. (d : ℕ) → (let f : NetFlow = record { host = host.id; device = d } in flow_part network host d (script_accesses host) ≡ asked_words network f)) network.hosts
   own_script k h below d =
       let host = get_or network.hosts k h in
       let f : NetFlow = record { host = host.id; device = d } in
-      ap (λ (o : Option NetHost). words_of network f (option_map_or script_accesses o [])) (sym (found_by_id network.hosts scripts.ids k h below))
+      ap (λ (o : Option NetHost). words_of_flow network f (option_map_or script_accesses o [])) (sym (found_by_id network.hosts scripts.ids k h below))

@@ -22,7 +22,7 @@ pub port_promise : (m : Moment) (r : ℕ) (port : PortSide) → IsFit port.plan 
 port_promise m r port fit has = record {
   in_order = subst (λ (list : List Item). IsPrefix (item_accesses list) (m.offered r)) (sym has.sent) (rw has.offered (sent_in_order port.plan port.state fit));
   sound = subst (λ (list : List Item). All IsSound (item_messages list)) (sym has.sent) fit.sound;
-  closed = λ shut. ap item_accesses has.sent ∙ closed_all_sent port.plan port.state fit (ap has_close (sym has.sent) ∙ shut) ∙ sym has.offered;
+  closed = λ close_sent. ap item_accesses has.sent ∙ closed_all_sent port.plan port.state fit (ap has_close (sym has.sent) ∙ close_sent) ∙ sym has.offered;
 }
 
 pub link_promise : (m : Moment) (r : ℕ) (port : PortSide) (ring : RingSide) → HasPort m r port → HasRing m r ring → AreInTurn port.plan port.state.sent → IsPrefix ring.received port.state.sent → IsLink m r
@@ -56,19 +56,19 @@ nothing_owed s e = by_list s.waiting.owed refl
     by_list [] is = is
     by_list (m ∷ rest) is = absurd (let never = rw is at e in cc)
 
-told_and_shut : (told shut : Bool) → (told && not shut) ≡ false → told ≡ true → shut ≡ true
+told_and_shut : (told close_sent : Bool) → (told && not close_sent) ≡ false → told ≡ true → close_sent ≡ true
 told_and_shut true true e t = refl
 told_and_shut true false e t = absurd (cc)
-told_and_shut false shut e t = absurd (cc)
+told_and_shut false close_sent e t = absurd (cc)
 
 pub idle_port : (s : RoundEnd) (r : ℕ) (port : PortSide) → IsFit port.plan port.state → ShowsPort s r port → (has_rest port ≡ true → is_full port ≡ true) → IsIdlePort s r
 idle_port s r port fit shows full = record {
   owes = λ e. shows.full ∙ full (left_true (owes port.state) (is_some port.state.waiting.held) (sym shows.owes ∙ e));
   merges = λ e. shows.full ∙ full (right_true (owes port.state) (is_some port.state.waiting.held) (sym shows.merges ∙ e));
   settled = λ owes_none merges_none. ap item_accesses shows.lists.sent
-      ∙ all_sent port.plan port.state fit (nothing_owed port.state (both_false (some_owed port.state.waiting) (port.state.closing && not port.state.shut) (sym shows.owes ∙ owes_none)).0) (none_held port.state.waiting.held (sym shows.merges ∙ merges_none)) ∙ sym shows.lists.offered;
+      ∙ all_sent port.plan port.state fit (nothing_owed port.state (both_false (some_owed port.state.waiting) (port.state.close_requested && not port.state.close_sent) (sym shows.owes ∙ owes_none)).0) (none_held port.state.waiting.held (sym shows.merges ∙ merges_none)) ∙ sym shows.lists.offered;
   closed = λ told owes_none merges_none. ap has_close shows.lists.sent ∙ sym fit.close
-      ∙ told_and_shut port.state.closing port.state.shut (both_false (some_owed port.state.waiting) (port.state.closing && not port.state.shut) (sym shows.owes ∙ owes_none)).1 (sym shows.told ∙ told);
+      ∙ told_and_shut port.state.close_requested port.state.close_sent (both_false (some_owed port.state.waiting) (port.state.close_requested && not port.state.close_sent) (sym shows.owes ∙ owes_none)).1 (sym shows.told ∙ told);
 }
 
 pub true_ring : (s : RoundEnd) (r : ℕ) (port : PortSide) (ring : RingSide) → ShowsPort s r port → ShowsRing s r ring → AreInTurn port.plan port.state.sent → 0 < port.plan.capacity →

@@ -16,7 +16,7 @@ use Rattle.sb_router.specs.Causes.{found_in_both, lower, lowest}
 use Rattle.sb_router.specs.Rested.{IsRestedLane, rested_lane_then}
 use Rattle.sb_router.specs.Awaiting.{AwaitsFullPort, HeldAwaitsBusy, WasBusy, WasOffered}
 use Rattle.sb_router.specs.Moves.{IsToldMoved}
-use Rattle.sb_router.specs.Turning.{HasClosed, HasHanded, HasPopped, HasTurned, IsIdleLane, IsLaneTurn, IsSeen, IsServed, SendsNothing, pop_cause}
+use Rattle.sb_router.specs.Turning.{HasClosed, HasHanded, HasPoppedEach, HasTurned, IsIdleLane, IsLaneTurn, IsSeen, IsServed, SendsNothing, pop_cause}
 use Rattle.sb_router.specs.Whole.{IsWholeInlet, IsWholeLane}
 use Rattle.sb_router.proofs.Cases.{or_false}
 use Rattle.sb_router.specs.Steps.{steps_then}
@@ -41,7 +41,7 @@ same_causes [] w free = refl
 same_causes (x ∷ xs) w free = ap (λ (c : Option Cause). c ∷ map pop_cause xs) (same_cause x w.0 free.0) ∙ ap (λ (l : List (Option Cause)). empty_cause x.ring ∷ l) (same_causes xs w.1 free.1)
 
 module _ {route : Route} {s a b d t : LaneState} {popped turned : Findings} {handed : Bool} (whole : IsWholeLane route s)
-    (pops : HasPopped route s a popped) (hands : HasHanded route a b handed) (closes : HasClosed route b d) (turns : HasTurned (popped.moved || handed) d t turned) where
+    (pops : HasPoppedEach route s a popped) (hands : HasHanded route a b handed) (closes : HasClosed route b d) (turns : HasTurned (popped.moved || handed) d t turned) where
   all_steps : Steps route s t
   all_steps = steps_then (steps_then (steps_then pops.steps hands.steps) closes.steps) (turns.steps route)
 

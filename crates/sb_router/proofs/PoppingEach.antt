@@ -11,7 +11,7 @@ use Rattle.sb_router.specs.Rested.{IsRestedInlet, IsRestedLane, rested_lane_same
 use Rattle.sb_router.specs.Moves.{IsToldMoved}
 use Rattle.sb_router.specs.Popping.{IsPopped, IsPoppedAt}
 use Rattle.sb_node.specs.Sides.{RingSide}
-use Rattle.sb_router.specs.Turning.{HasPopped, IsSeen, FewItemsEach, pop_cause, IsServed}
+use Rattle.sb_router.specs.Turning.{HasPoppedEach, IsSeen, FewItemsEach, pop_cause, IsServed}
 use Rattle.sb_router.proofs.Cases.{or_false}
 use Rattle.sb_router.proofs.RestedSteps.{rested_inlets, rested_unmoved}
 use Rattle.sb_router.proofs.Shapes.{steps_shape}
@@ -161,7 +161,7 @@ pops_more {route} {s} {now} {then} {found} {found_then} {place} h lt more =
       waits = neither_found h.waits popped.waits;
     }
 
-pub pops_all : {route : Route} {s now : LaneState} {found : Findings} {place : ℕ} → PopsSoFar route s now found place → length now.inlets ≤ place → HasPopped route s now found
+pub pops_all : {route : Route} {s now : LaneState} {found : Findings} {place : ℕ} → PopsSoFar route s now found place → length now.inlets ≤ place → HasPoppedEach route s now found
 pops_all {route} {s} {now} {found} {place} h over = record {
   steps = h.steps;
   rests = h.rests;

@@ -76,7 +76,7 @@ pub record TurnsSoFar (more : Bool) (s now : LaneState) (place : ℕ) (found : F
   pub rests : found.moved ≡ false → IsRestedLane s now
   pub inlets : now.inlets ≡ s.inlets
   pub moved : IsToldMoved s now found.moved
-  pub told : (o : ℕ) → (outlet_at now o).state.closing ≡ (outlet_at s o).state.closing
+  pub told : (o : ℕ) → (outlet_at now o).state.close_requested ≡ (outlet_at s o).state.close_requested
   pub words : OffersNothing s now
   pub served : (o : ℕ) → o < place → IsPortServed (outlet_at s o) (outlet_at now o)
   pub ahead : (o : ℕ) → place ≤ o → outlet_at now o ≡ outlet_at s o
@@ -113,7 +113,7 @@ module _ {more : Bool} {s now : LaneState} {place : ℕ} (y : PortSide) (lt : pl
     rests = λ e. let two = or_false all.moved one.moved e in rested_lane_then (h.rests two.0) (rested_outlets now place y lt (turned.rests two.1));
     inlets = h.inlets;
     moved = moved_then all.moved one.moved h.moved turned.moved;
-    told = at_each now.outlets place y no_port lt (λ o z. z.state.closing ≡ (outlet_at s o).state.closing) (at.turned.told ∙ h.told place) h.told;
+    told = at_each now.outlets place y no_port lt (λ o z. z.state.close_requested ≡ (outlet_at s o).state.close_requested) (at.turned.told ∙ h.told place) h.told;
     words = at_each now.outlets place y no_port lt (λ o z. offered_words z ≡ offered_words (outlet_at s o)) (at.turned.words ∙ h.words place) h.words;
     served = so_far now.outlets place y no_port lt (λ o z. IsPortServed (outlet_at s o) z)
         (subst (λ (z : PortSide). IsPortServed z y) (h.ahead place (omega arith)) at.served) h.served;
