@@ -7,9 +7,9 @@ use Rattle.sb_packet.specs.Traffic.{MayFollow, has_close, item_accesses}
 use Rattle.sb_packet.specs.declared.entry.Entry.{Entry}
 use Rattle.sb_packet.specs.declared.item.Item.TheVariants as items
 use Rattle.sb_port.specs.Ports.{PortSide, IsFit, let_go, offered_words}
+use Rattle.sb_port.proofs.Items.{has_close-close}
 use Rattle.sb_node.specs.Sides.{RingSide}
 use Rattle.sb_node.specs.Kept.{IsKeptPort, IsKeptRing, begins_itself, kept_port_same, kept_ring_same}
-use Rattle.sb_node.proofs.Items.{close_behind}
 use Rattle.sb_device.specs.Sides.{DeviceSide, held_bytes}
 use Rattle.sb_device.specs.Served.{AreSound, item_packets}
 use Rattle.sb_device.specs.Requests.{ServesNone, ServesRequest, serves, serves_none, no_step, then_step}
@@ -109,5 +109,5 @@ module _ (x : DeviceSide) (ring : RingSide) (port : PortSide) (came : ring.recei
   whole_by_close whole kept fit = record {
     fit = fit;
     in_order = in_order_rest x closed_then whole.in_order refl refl refl kept.plan (ap (λ (p : PortSide). p.plan) told) refl packets (ap item_accesses came ∙ close_words x.requests.received)
-        (ap (λ (p : PortSide). p.state.close_requested) told ∙ sym (close_behind x.requests.received) ∙ sym (ap has_close came));
+        (ap (λ (p : PortSide). p.state.close_requested) told ∙ sym (has_close-close x.requests.received) ∙ sym (ap has_close came));
   }

@@ -16,11 +16,12 @@ use Rattle.sb_packet.specs.declared.entry.Entry.{Entry}
 use Rattle.sb_packet.specs.declared.packet.Packet.{Packet}
 use Rattle.sb_packet.specs.declared.item.Item.{Item}
 use Rattle.sb_packet.specs.declared.item.Item.TheVariants as items
-use Rattle.sb_packet.proofs.Opcodes.{some_words}
+use Rattle.sb_link.proofs.InTurn.{some_accesses}
 use Rattle.sb_port.specs.Ports.{offered_words}
+use Rattle.sb_port.proofs.Items.{has_close-packet}
 use Rattle.sb_node.specs.Sides.{received_words, has_ended}
 use Rattle.sb_node.specs.Steps.{IsOffered, IsDropped}
-use Rattle.sb_node.proofs.Items.{item_more, packet_behind}
+use Rattle.sb_node.proofs.Items.{item_more}
 use Rattle.sb_device.specs.Sides.{DeviceSide, held_bytes}
 use Rattle.sb_device.specs.Plans.{IsPlannedFor, IsDeviceInOrder}
 use Rattle.sb_device.specs.Served.{entry_accesses, entry_packets, item_packets, with_entry, answers_to, AreSound, HasServed}
@@ -32,10 +33,6 @@ use Rattle.sb_device.proofs.Requests.{entry_more, served_and_offered, served_and
 -- as many words as a packet's command counts
 word_total : (p : Packet) → length (accesses_of p) ≡ (message_of p).count
 word_total p = length-map-range_with_len (access_at (message_of p)) 0 (message_of p).count
-
--- a packet has a word
-some_accesses : (p : Packet) → 0 < length (accesses_of p)
-some_accesses p = let some = some_words p.cmd.op p.cmd.len in let total = word_total p in omega (arith, some, total)
 
 -- the packets of two lists of items, one behind the other
 packets_joined : (xs ys : List Item) → item_packets (xs ++ ys) ≡ item_packets xs ++ item_packets ys
@@ -81,7 +78,7 @@ module _ (x y : DeviceSide) (o : IsDeviceInOrder x) (number : y.number ≡ x.num
         own_entries = subst (λ n. All (λ e. e.device ≡ n) y.journal.entries) (sym number) (subst (λ es. All (λ e. e.device ≡ x.number) es) (sym entries)
             (All-append (λ e. e.device ≡ x.number) x.journal.entries (e ∷ []) o.own_entries (All-cons (λ e. e.device ≡ x.number) e [] of_device (All-nil (λ e. e.device ≡ x.number)))));
         room = omega (arith, longer, some, room, spare, budget);
-        closes = untold ∙ sym lawful.unclosed ∙ sym (packet_behind x.requests.received p) ∙ sym (ap has_close came);
+        closes = untold ∙ sym lawful.unclosed ∙ sym (has_close-packet x.requests.received p) ∙ sym (ap has_close came);
       }
 
   -- no packet came in, and the port was told to close where its ring gave Close

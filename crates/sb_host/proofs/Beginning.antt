@@ -7,6 +7,7 @@ use Rattle.std.proofs.lemmas.Bool.Decides.{nat_tests}
 use Rattle.std.proofs.lemmas.Grind.{flat_map-append}
 use Rattle.std.proofs.lemmas.List.{get_or-map, length-map}
 use Rattle.std.proofs.lemmas.List.Elements.{All-nil, All-cons, All-head, All-tail}
+use Rattle.std.proofs.lemmas.Bool.{and_parts}
 use Rattle.sb_packet.specs.Accesses.{Access, message_accesses}
 use Rattle.sb_packet.specs.Cuts.{cut_parts}
 use Rattle.sb_packet.specs.Networks.{NetHost, Network}
@@ -32,7 +33,6 @@ use Rattle.sb_host.specs.Lines.{AreTransactions}
 use Rattle.sb_host.specs.Places.{AreIssuable, asked_of}
 use Rattle.sb_host.specs.Progress.{TransactionsSide}
 use Rattle.sb_host.specs.Rows.{IsTable}
-use Rattle.sb_host.proofs.TableSteps.{both_true}
 
 -- the words of a transaction's packets are its words
 words_of_line : (asked : Asked) (i : ℕ) (l : TransactionPlan) → flat_map message_accesses (sent_packets asked i l) ≡ sent_accesses asked i l
@@ -74,8 +74,8 @@ begins_in_order t port ring new issuable made state received table =
 -- what all pass one passes
 pub passes_at : {X : Type 0} (test : X → Bool) (xs : List X) (i : ℕ) (d : X) → list_all test xs ≡ true → i < length xs → test (get_or xs i d) ≡ true
 passes_at test [] i d all below = absurd (omega arith)
-passes_at test (x ∷ xs) zero d all below = (both_true (test x) (list_all test xs) all).0
-passes_at test (x ∷ xs) (suc i) d all below = passes_at test xs i d (both_true (test x) (list_all test xs) all).1 (omega arith)
+passes_at test (x ∷ xs) zero d all below = (and_parts (test x) (list_all test xs) all).0
+passes_at test (x ∷ xs) (suc i) d all below = passes_at test xs i d (and_parts (test x) (list_all test xs) all).1 (omega arith)
 
 pub host_limits : (network : Network) → is_limited network ≡ true → list_all is_limited_host network.hosts ≡ true
 host_limits network h = grind (arith, h)
@@ -89,9 +89,9 @@ pub record HasLimits (h : NetHost) : Type 0 where
 
 pub limits_of : (h : NetHost) → is_limited_host h ≡ true → HasLimits h
 limits_of h e =
-    let three = both_true (nat_le h.id 31 && nat_le h.qos 15 && nat_le h.prot 3) (nat_le (length h.script) 65536) e in
-    let two = both_true (nat_le h.id 31 && nat_le h.qos 15) (nat_le h.prot 3) three.0 in
-    let one = both_true (nat_le h.id 31) (nat_le h.qos 15) two.0 in
+    let three = and_parts (nat_le h.id 31 && nat_le h.qos 15 && nat_le h.prot 3) (nat_le (length h.script) 65536) e in
+    let two = and_parts (nat_le h.id 31 && nat_le h.qos 15) (nat_le h.prot 3) three.0 in
+    let one = and_parts (nat_le h.id 31) (nat_le h.qos 15) two.0 in
     let a = one.0 in
     let b = one.1 in
     let c = two.1 in

@@ -6,8 +6,9 @@ use Rattle.sb_packet.specs.declared.item.Item.{Item}
 use Rattle.sb_packet.specs.declared.item.Item.TheVariants as items
 use Rattle.sb_packet.specs.declared.packet.Packet.{Packet}
 use Rattle.sb_port.specs.Ports.{PortSide}
+use Rattle.sb_port.proofs.Items.{has_close-packet, has_close-close}
 use Rattle.sb_node.specs.Sides.{RingSide, received_words}
-use Rattle.sb_node.proofs.Items.{item_more, packet_behind, close_behind}
+use Rattle.sb_node.proofs.Items.{item_more}
 use Rattle.sb_host.specs.declared.answer_row.AnswerRow.{AnswerRow}
 use Rattle.sb_host.specs.Hosts.{IsHostInOrder}
 use Rattle.sb_host.specs.Progress.{TransactionsSide}
@@ -25,7 +26,7 @@ module _ (t : TransactionsSide) (port : PortSide) (ring ring_then : RingSide) wh
     offered = is.offered;
     closes = is.closes;
     table = subst (λ (words : List Access). IsTable t.asked words rows_then) (sym (ap item_accesses came ∙ item_more ring.received (items.Packet p))) (taken (received_words ring) is.table);
-    ends = is.ends ∙ sym (ap has_close came ∙ packet_behind ring.received p);
+    ends = is.ends ∙ sym (ap has_close came ∙ has_close-packet ring.received p);
   }
 
   -- the Close came
@@ -37,7 +38,7 @@ module _ (t : TransactionsSide) (port : PortSide) (ring ring_then : RingSide) wh
     offered = is.offered;
     closes = is.closes;
     table = subst (λ (words : List Access). IsTable t.asked words t.rows) (sym (ap item_accesses came ∙ item_more ring.received items.Close ∙ append-nil (received_words ring))) is.table;
-    ends = sym (ap has_close came ∙ close_behind ring.received);
+    ends = sym (ap has_close came ∙ has_close-close ring.received);
   }
 
   -- nothing came

@@ -9,6 +9,7 @@ use Rattle.std.proofs.lemmas.List.{length-set, get_or-set_same, get_or-set_other
 use Rattle.std.proofs.lemmas.Simd.{map-map}
 use Rattle.std.proofs.lemmas.List.Folds.{find-append}
 use Rattle.std.proofs.lemmas.List.FromFn.{get_or-map-range_with_len, length-map-range_with_len}
+use Rattle.std.proofs.lemmas.Bool.{and_parts}
 use Rattle.sb_packet.specs.Accesses.{Access, access_at}
 use Rattle.sb_packet.proofs.Ranges.{range_agrees}
 use Rattle.sb_host.specs.declared.transaction_plan.TransactionPlan.{TransactionPlan}
@@ -28,11 +29,6 @@ one_or_other j k P same other =
       | true ↦ λ e. same (grind (arith, nat_tests))
       | false ↦ λ e. other (λ h. grind (arith, nat_tests))
     ] refl
-
--- both tests hold
-pub both_true : (a b : Bool) → (a && b) ≡ true → (a ≡ true) × (b ≡ true)
-both_true true b h = (refl, h)
-both_true false b h = absurd (cc)
 
 -- a list that is made place by place, with one place changed
 pub one_changed : (f g : ℕ → Option Access) (n k : ℕ) (a : Access) → k < n → ((j : ℕ) → j < n → j ≢ k → g j ≡ f j) → g k ≡ option_or (f k) (Some a)
@@ -85,8 +81,8 @@ belongs : (asked : Asked) (a : Access) (i k : ℕ) (l : TransactionPlan) → l �
     → is_answer_to (access_at (line_message asked i l) k) a ≡ true → IsPlace asked a.op a.size a.dst i k l
 belongs asked a i k l at inside below aimed holds =
     let word = access_at (line_message asked i l) k in
-    let first = both_true ((a.dst == word.src) && (a.size == word.size)) (is_answered_by word.op a.op) holds in
-    let second = both_true (a.dst == word.src) (a.size == word.size) (first.0) in
+    let first = and_parts ((a.dst == word.src) && (a.size == word.size)) (is_answered_by word.op a.op) holds in
+    let second = and_parts (a.dst == word.src) (a.size == word.size) (first.0) in
     let place : (a.dst == word.src) ≡ true = second.0 in
     let size : (a.size == word.size) ≡ true = second.1 in
     let size_is : a.size ≡ word.size = grind (arith, nat_tests) in

@@ -9,18 +9,6 @@ use crate::answer_row::AnswerRow;
 use crate::transaction_plan::TransactionPlan;
 use sb_packet::{Code, Kind, TxnState};
 
-// the code with a number
-fn code_of(number: u8) -> Code
-    ensures { result ≡ code_numbered number }
-{
-    match number {
-        0 => Code::Ok,
-        1 => Code::ExOk,
-        2 => Code::DevErr,
-        _ => Code::NetErr,
-    }
-}
-
 // a transaction is answered: all its words are, or no device has its address, and the host has passed over it
 fn settled(aimed: bool, row: &AnswerRow, passed: bool) -> bool
     ensures { result ≡ is_settled aimed passed row.now }
@@ -33,7 +21,7 @@ fn code(aimed: bool, row: &AnswerRow) -> Code
     ensures { result ≡ code_numbered (settled_code aimed row.now) }
 {
     if aimed {
-        code_of(row.code)
+        Code::numbered(row.code)
     } else {
         Code::NetErr
     }

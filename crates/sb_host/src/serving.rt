@@ -51,7 +51,8 @@ fn offer_next<T: TxEnd>(transactions: &mut Transactions, requests: &mut OutPort<
     ensures sent { requests.new.state.sent ≡ requests.old.state.sent }
     ensures onward { transactions.old.next ≤ transactions.new.next }
     ensures rest { transactions.new ≡ record transactions.old { next = transactions.new.next; part = transactions.new.part } }
-    ensures in_order { (ring : RingSide) → IsHostInOrder transactions.old requests.old ring → IsHostInOrder transactions.new requests.new ring }
+    ensures in_order { (ring : RingSide) → IsHostInOrder transactions.old requests.old ring
+        → IsHostInOrder transactions.new requests.new ring }
     ensures told { requests.new.state.close_requested ≡ false }
     ensures fit { IsFit requests.new.plan requests.new.state }
 {
@@ -75,7 +76,8 @@ pub(crate) fn issue_next<T: TxEnd>(
     ensures onward { transactions.old.next ≤ transactions.new.next }
     ensures rest { transactions.new ≡ record transactions.old { next = transactions.new.next; part = transactions.new.part } }
     ensures left { result ≡ false → left_of transactions.new ≡ left_of transactions.old }
-    ensures in_order { (ring : RingSide) → IsHostInOrder transactions.old requests.old ring → IsHostInOrder transactions.new requests.new ring }
+    ensures in_order { (ring : RingSide) → IsHostInOrder transactions.old requests.old ring
+        → IsHostInOrder transactions.new requests.new ring }
     ensures aimed { IsNextAimed transactions.new }
     ensures closes_when_due { transactions.new.next ≡ length transactions.new.asked.lines → requests.new.state.close_requested ≡ true }
     ensures fit { IsFit requests.new.plan requests.new.state }

@@ -1,6 +1,6 @@
 -- What the rings of a network carry, and how much they may, by its ways.
 use Rattle.std.proofs.Common.{◌≡◌, ◌≢◌, ◌<◌, ℕ, ◌+◌, ◌*◌, ◌/◌, ◌%◌, Bool, true, false, cond, List, [], ◌∷◌, length, refl, sym, ap, ◌∙◌, arith, subst}
-use Rattle.std.specs.Prelude.{◌==◌, ◌||◌, nat_lt, map, filter, filter_map, sum_by, All, Contains, IsTrue, get_or}
+use Rattle.std.specs.Prelude.{◌==◌, nat_lt, map, filter, filter_map, sum_by, All, Contains, IsTrue, get_or}
 use Rattle.std.specs.List.{list_any}
 use Rattle.std.proofs.lemmas.Bool.Decides.{nat_tests}
 use Rattle.std.proofs.lemmas.List.{get_or-map, length-map}
@@ -15,6 +15,7 @@ use Rattle.sb_packet.specs.Plans.{NetFlow}
 use Rattle.sb_packet.specs.Ways.{NetWay, network_ways}
 use Rattle.sb_packet.specs.Rings.{is_upward, has_link, link_ways, ring_ways, way_accesses, counted_accesses, ring_budget, is_answered, carried_accesses, is_on_way, IsCarried}
 use Rattle.sb_packet.specs.declared.entry.Entry.{Entry}
+use Rattle.sb_flow.proofs.LinkMarks.{list_any-map}
 use Rattle.sb_laws.specs.Flows.{is_of, words_of_flow, asked_words, answered_of, replies_to}
 use Rattle.sb_laws.specs.Moments.{Moment, arrived}
 use Rattle.sb_laws.specs.Courses.{goes_over, flows_over, budget_over}
@@ -35,10 +36,6 @@ filter-map {X} {Y} p q f (x ∷ xs) same = rw (All-head (λ x. p (f x) ≡ q x) 
     by_test : (b : Bool) → filter p (map f xs) ≡ map f (filter q xs) → cond b (f x ∷ filter p (map f xs)) (filter p (map f xs)) ≡ map f (cond b (x ∷ filter q xs) (filter q xs))
     by_test true rest = ap (λ (l : List Y). f x ∷ l) rest
     by_test false rest = rest
-
-pub list_any-map : {X Y : Type 0} (p : Y → Bool) (f : X → Y) (xs : List X) → list_any p (map f xs) ≡ list_any (λ x. p (f x)) xs
-list_any-map p f [] = refl
-list_any-map p f (x ∷ xs) = ap (λ (b : Bool). p (f x) || b) (list_any-map p f xs)
 
 sum_by-map : {X Y : Type 0} (g : Y → ℕ) (h : X → ℕ) (f : X → Y) (xs : List X) → All (λ x. g (f x) ≡ h x) xs → sum_by g (map f xs) ≡ sum_by h xs
 sum_by-map g h f [] same = refl

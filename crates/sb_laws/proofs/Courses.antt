@@ -5,7 +5,6 @@ use Rattle.std.proofs.lemmas.List.{append-nil}
 use Rattle.std.proofs.lemmas.List.Elements.{All-nil, All-cons, All-head, All-tail, All-weaker}
 use Rattle.std.proofs.lemmas.List.Concat.{flat_map-append}
 use Rattle.sb_packet.specs.Accesses.{Access, accesses_of_item}
-use Rattle.sb_packet.specs.Messages.{Message, message_of}
 use Rattle.sb_packet.specs.Networks.{Network}
 use Rattle.sb_packet.specs.Soundness.{IsSound}
 use Rattle.sb_packet.specs.Plans.{NetFlow}
@@ -13,6 +12,7 @@ use Rattle.sb_packet.specs.Traffic.{has_close, item_accesses, item_messages}
 use Rattle.sb_packet.specs.declared.item.Item.{Item}
 use Rattle.sb_packet.specs.declared.item.Item.TheVariants as items
 use Rattle.sb_packet.specs.Prefixes.{IsPrefix, IsSubsequence}
+use Rattle.sb_device.proofs.Requests.{messages_joined}
 use Rattle.sb_laws.specs.Flows.{is_of, words_of_flow}
 use Rattle.sb_device.specs.Served.{AreSound}
 use Rattle.sb_laws.specs.Moments.{Moment, arrived, ClosesLast}
@@ -26,16 +26,11 @@ use Rattle.sb_laws.proofs.Prefixes.{front_prefix, IsPrefix-filter, All-prefix, l
 use Rattle.sb_laws.proofs.Budgets.{IsModest, came_within}
 use Rattle.sb_laws.proofs.Ways.{at_number, All-at_ring}
 
-item_messages-append : (xs ys : List Item) → item_messages (xs ++ ys) ≡ item_messages xs ++ item_messages ys
-item_messages-append [] ys = refl
-item_messages-append (items.Packet p ∷ xs) ys = ap (λ (l : List Message). message_of p ∷ l) (item_messages-append xs ys)
-item_messages-append (items.Close ∷ xs) ys = item_messages-append xs ys
-
 pub IsPrefix-item_accesses : {xs ys : List Item} → IsPrefix xs ys → IsPrefix (item_accesses xs) (item_accesses ys)
 IsPrefix-item_accesses {xs} {ys} p = record { rest = item_accesses p.rest; joined = sym (flat_map-append accesses_of_item xs p.rest) ∙ ap item_accesses p.joined }
 
 IsPrefix-item_messages : {xs ys : List Item} → IsPrefix xs ys → IsPrefix (item_messages xs) (item_messages ys)
-IsPrefix-item_messages {xs} {ys} p = record { rest = item_messages p.rest; joined = sym (item_messages-append xs p.rest) ∙ ap item_messages p.joined }
+IsPrefix-item_messages {xs} {ys} p = record { rest = item_messages p.rest; joined = sym (messages_joined xs p.rest) ∙ ap item_messages p.joined }
 
 -- what has had the Close has had all
 after_close : (xs rest : List Item) → has_close xs ≡ true → ClosesLast (xs ++ rest) → rest ≡ []

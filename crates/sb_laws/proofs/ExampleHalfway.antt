@@ -9,6 +9,7 @@ use Rattle.sb_packet.specs.declared.entry.Entry.{Entry}
 use Rattle.sb_packet.specs.declared.item.Item.{Item}
 use Rattle.sb_packet.specs.declared.item.Item.TheVariants as items
 use Rattle.sb_packet.specs.Prefixes.{IsPrefix, IsSubsequence, none, kept, left_out}
+use Rattle.sb_node.proofs.Answering.{one_of}
 use Rattle.sb_laws.specs.Flows.{words_of_flow, asked_words}
 use Rattle.sb_device.specs.Served.{AreSound}
 use Rattle.sb_laws.specs.Moments.{Moment}
@@ -20,7 +21,7 @@ use Rattle.sb_laws.proofs.ClosedLists.{EndsAtClose, closes_last}
 use Rattle.sb_node.proofs.Subsequences.{same_subsequence}
 use Rattle.sb_laws.proofs.Prefixes.{front_prefix, same_prefix}
 use Rattle.sb_laws.proofs.ExampleNetwork.{small, asking, write, posted, read, written}
-use Rattle.sb_laws.proofs.ExampleLayout.{the_flow, is_request_ring, is_answer_ring, small_layout, of_one}
+use Rattle.sb_laws.proofs.ExampleLayout.{the_flow, is_request_ring, is_answer_ring, small_layout}
 use Rattle.sb_laws.proofs.ExampleRun.{sound_write, sound_read, sound_written, sound_asking}
 
 -- The host has sent all. The router has taken two packets: one went on and was stepped, and the other is held. The first answer waits in its ring.
@@ -64,8 +65,8 @@ half_prefix (suc (suc (suc (suc n)))) = same_prefix refl
 half_sound : (r : ℕ) → AreSound (half_sent r)
 half_sound zero = sound_asking
 half_sound (suc zero) = All-nil IsSound
-half_sound (suc (suc zero)) = of_one IsSound (message_of write) sound_write
-half_sound (suc (suc (suc zero))) = of_one IsSound (message_of written) sound_written
+half_sound (suc (suc zero)) = one_of IsSound (message_of write) sound_write
+half_sound (suc (suc (suc zero))) = one_of IsSound (message_of written) sound_written
 half_sound (suc (suc (suc (suc n)))) = All-nil IsSound
 
 half_carried : (r : ℕ) → is_request_ring r ≡ true → CarriesItsFlows small small_layout.requests halfway r
@@ -88,11 +89,11 @@ half_of_small = record {
   carried = half_carried;
   carried_back = half_carried_back;
   recorded = λ d there. let first : d ≡ 0 = omega arith in rw first refl;
-  hosts = of_one (IsHost small small_layout halfway) the_flow (record { in_order = same_prefix refl; closed = λ e. refl });
-  devices = of_one (IsDevice small small_layout first_step halfway) the_flow (record { whole = λ sound few. refl });
-  routers = of_one (λ f. AlongWay (ForwardsFlow small small_layout.requests halfway f) 0 (2 ∷ [])) the_flow
+  hosts = one_of (IsHost small small_layout halfway) the_flow (record { in_order = same_prefix refl; closed = λ e. refl });
+  devices = one_of (IsDevice small small_layout first_step halfway) the_flow (record { whole = λ sound few. refl });
+  routers = one_of (λ f. AlongWay (ForwardsFlow small small_layout.requests halfway f) 0 (2 ∷ [])) the_flow
       (record { in_order = kept none; whole = λ sound few. refl; closed = λ e. absurd (cc) }, tt);
-  routers_back = of_one (λ f. AlongWay (ForwardsFlow small small_layout.answers halfway f) 3 (1 ∷ [])) the_flow
+  routers_back = one_of (λ f. AlongWay (ForwardsFlow small small_layout.answers halfway f) 3 (1 ∷ [])) the_flow
       (record { in_order = none; whole = λ sound few. refl; closed = λ e. refl }, tt);
 }
 
@@ -127,8 +128,8 @@ pub dropped_keeps_order : KeepsOrder small tight dropped (asked_words small)
 dropped_keeps_order = record {
   links = λ r. record { in_order = same_prefix refl; closes_last = closes_last (tight_items r) (tight_closes r) };
   ports = λ r. record { in_order = same_prefix refl; sound = tight_sound r; closed = λ e. refl };
-  sources = of_one (λ f. IsSubsequence (words_of_flow small f (item_accesses asking)) (asked_words small f)) the_flow (same_subsequence (item_accesses asking));
-  routers = of_one (λ f. AlongWay (ForwardsFlow small tight dropped f) 0 (2 ∷ [])) the_flow
+  sources = one_of (λ f. IsSubsequence (words_of_flow small f (item_accesses asking)) (asked_words small f)) the_flow (same_subsequence (item_accesses asking));
+  routers = one_of (λ f. AlongWay (ForwardsFlow small tight dropped f) 0 (2 ∷ [])) the_flow
       (record { in_order = kept (left_out (kept none)); whole = λ sound few. absurd (omega arith); closed = λ e. refl }, tt);
 }
 

@@ -6,6 +6,7 @@ use Rattle.std.proofs.lemmas.List.Elements.{All-from_recursion, All-map}
 use Rattle.sb_packet.specs.Rings.{ring_plan}
 use Rattle.sb_packet.specs.Scripts.{IsTransaction}
 use Rattle.sb_packet.specs.Traffic.{IsPlanned, has_close, item_accesses}
+use Rattle.sb_node.proofs.Answering.{one_of}
 use Rattle.sb_host.specs.Asked.{asked_by, asked_packets, line_in}
 use Rattle.sb_host.specs.Hosts.{HostSide, IsWholeHost}
 use Rattle.sb_host.specs.Issuing.{IsMadeFor}
@@ -18,7 +19,7 @@ use Rattle.sb_laws.specs.Layouts.{ring_home}
 use Rattle.sb_laws.specs.Moments.{Moment}
 use Rattle.sb_laws.specs.NetworkLayouts.{answer_ring, request_ring}
 use Rattle.sb_laws.proofs.ExampleNetwork.{small, cpu, one_to_eight, answering}
-use Rattle.sb_laws.proofs.ExampleLayout.{small_layout, the_flow, of_one, scripts_of_small}
+use Rattle.sb_laws.proofs.ExampleLayout.{small_layout, the_flow, scripts_of_small}
 use Rattle.sb_laws.proofs.ExampleRun.{the_end}
 use Rattle.sb_laws.proofs.ExampleHalfway.{halfway}
 use Rattle.sb_laws.proofs.ExampleNodes.{fresh, port_in, ring_in}
@@ -118,8 +119,8 @@ module _ (m : Moment) (rows : List AnswerRow) (next : ℕ) where
   host_of_small = record {
     listed = (0, lit< tt, refl);
     asked = refl;
-    asks = of_one (λ f. f.host ≡ 0 → small_layout.requests.first f ≡ 0) the_flow (λ own. refl);
-    answered = of_one (λ f. f.host ≡ 0 → ring_home small_layout f ≡ 1) the_flow (λ own. refl);
+    asks = one_of (λ f. f.host ≡ 0 → small_layout.requests.first f ≡ 0) the_flow (λ own. refl);
+    answered = one_of (λ f. f.host ≡ 0 → ring_home small_layout f ≡ 1) the_flow (λ own. refl);
   }
 
   pub host_is_built : IsHostBuiltFor small 0 (host_in m rows next)

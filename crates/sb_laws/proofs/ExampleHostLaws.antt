@@ -9,6 +9,7 @@ use Rattle.sb_packet.specs.Traffic.{IsPlanned, item_accesses}
 use Rattle.sb_packet.specs.declared.transaction.Kind.TheVariants.{Write}
 use Rattle.sb_packet.specs.declared.transaction.Txn.{Txn}
 use Rattle.sb_node.specs.Sides.{has_ended, has_rest, is_drained, is_full}
+use Rattle.sb_node.proofs.Answering.{one_of}
 use Rattle.sb_host.specs.Asked.{asked_accesses, asked_by}
 use Rattle.sb_host.specs.Hosts.{IsHostTurn, IsKeptHost, IsWholeHost}
 use Rattle.sb_host.specs.Outcomes.{outcomes_so_far}
@@ -28,7 +29,7 @@ use Rattle.sb_laws.proofs.HostRooms.{room_for_all}
 use Rattle.sb_laws.proofs.HostSides.{asked_script, host_promise, idle_host_receives, idle_host_sends, stays_built, table_of_ring, unmoved_receives, unmoved_sends}
 use Rattle.sb_laws.proofs.HostsInNetworks.{all_promises, belongs, first, link}
 use Rattle.sb_laws.proofs.ExampleNetwork.{small, cpu, steps, asking, answering, one_to_eight}
-use Rattle.sb_laws.proofs.ExampleLayout.{small_layout, small_is_laid_out, of_one, scripts_of_small}
+use Rattle.sb_laws.proofs.ExampleLayout.{small_layout, small_is_laid_out, scripts_of_small}
 use Rattle.sb_laws.proofs.ExampleRouted.{small_is_routed}
 use Rattle.sb_laws.proofs.ExampleRun.{the_end, end_of_small, small_has_ended}
 use Rattle.sb_laws.proofs.ExampleHalfway.{halfway}
@@ -60,8 +61,8 @@ module _ (m : Moment) (settled : IsSettled m) (rows : List AnswerRow) (next : �
 idle : IsIdleHost (port_in the_end 0) (ring_in the_end 1)
 idle = record {
   at_rest = record {
-    owing_ports_are_full = of_one (λ port. has_rest port ≡ true → is_full port ≡ true) (port_in the_end 0) (at_rest 0 (lit< tt));
-    open_rings_are_drained = of_one (λ ring. has_ended ring ≡ false → (is_drained ring ≡ true) ⊎ ⊥) (ring_in the_end 1) (λ unended. absurd (cc));
+    owing_ports_are_full = one_of (λ port. has_rest port ≡ true → is_full port ≡ true) (port_in the_end 0) (at_rest 0 (lit< tt));
+    open_rings_are_drained = one_of (λ ring. has_ended ring ≡ false → (is_drained ring ≡ true) ⊎ ⊥) (ring_in the_end 1) (λ unended. absurd (cc));
   };
   open_host_is_blocked = λ untold. absurd (cc);
 }

@@ -2,6 +2,7 @@
 use Rattle.std.proofs.Common.{◌≤◌, ◌<◌, ◌+◌, lit≤, lit<, ℕ, zero, suc, length, refl, arith, Some, None}
 use Rattle.std.specs.Prelude.{All, Option, sum_by}
 use Rattle.sb_packet.specs.declared.packet.Packet.{Packet}
+use Rattle.sb_node.proofs.Answering.{one_of}
 use Rattle.sb_flow.proofs.AcceptedExample.{wide, wide_is_accepted}
 use Rattle.sb_router.specs.Forwarding.{IsLaid, Passes, Words, held_for, popped_for}
 use Rattle.sb_router.specs.Lanes.{offered_at}
@@ -18,7 +19,7 @@ use Rattle.sb_laws.proofs.NetworkRouters.{answers_laid, answers_router, requests
 use Rattle.sb_laws.proofs.RouterSides.{router_promise}
 use Rattle.sb_laws.proofs.RoutersAlongWays.{answers_along, requests_along}
 use Rattle.sb_laws.proofs.ExampleNetwork.{small, cpu, posted}
-use Rattle.sb_laws.proofs.ExampleLayout.{of_one, the_flow}
+use Rattle.sb_laws.proofs.ExampleLayout.{the_flow}
 use Rattle.sb_laws.proofs.ExampleRouted.{small_is_routed}
 use Rattle.sb_laws.proofs.ExampleRun.{the_end}
 use Rattle.sb_laws.proofs.ExampleHalfway.{halfway}
@@ -62,7 +63,7 @@ end_few_back zero = lit≤ tt
 end_few_back (suc o) = lit≤ tt
 
 ids_are_low : All (λ host. host.id < 32) small.hosts
-ids_are_low = of_one (λ host. host.id < 32) cpu (lit< tt)
+ids_are_low = one_of (λ host. host.id < 32) cpu (lit< tt)
 
 -- each direction at a moment, with a packet that is held or none
 module _ (m : Moment) (settled : IsSettled m) (held : Option Packet) where

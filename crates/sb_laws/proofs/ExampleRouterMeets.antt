@@ -7,6 +7,7 @@ use Rattle.sb_packet.specs.Prefixes.{IsSubsequence}
 use Rattle.sb_packet.specs.Rings.{ring_plan}
 use Rattle.sb_port.specs.Ports.{PortSide}
 use Rattle.sb_node.proofs.Subsequences.{same_subsequence}
+use Rattle.sb_node.proofs.Answering.{one_of}
 use Rattle.sb_router.specs.Forwarding.{Passes, held_for, part, popped_for}
 use Rattle.sb_router.specs.Lanes.{InletState, came_at, held_words_at, inlet_at, offered_at, outlet_at}
 use Rattle.sb_router.specs.RouteOf.{route_of}
@@ -19,7 +20,6 @@ use Rattle.sb_node.specs.Kept.{IsPortMet}
 use Rattle.sb_laws.proofs.NetworkRouters.{requests_laid}
 use Rattle.sb_laws.proofs.RouterEnds.{met_direction, met_whole}
 use Rattle.sb_laws.proofs.ExampleNetwork.{small, posted}
-use Rattle.sb_laws.proofs.ExampleLayout.{of_one}
 use Rattle.sb_laws.proofs.ExampleRouted.{small_is_routed}
 use Rattle.sb_laws.proofs.ExampleHalfway.{halfway}
 use Rattle.sb_laws.proofs.ExampleNodes.{port_in, ring_in}
@@ -53,8 +53,8 @@ has_met = record { rows = refl; inlet_count = refl; outlet_count = refl; inlets 
 
 early_is_whole : IsWholeDirection early
 early_is_whole = record {
-  inlets = of_one IsWholeInlet early_inlet (record { ended = refl; last = halfway_requests.last; carriable = halfway_requests.carriable });
-  outlets = of_one IsWholeOutlet early_port (record { fit = is_fit halfway halfway_is_settled 2 (lit< tt) });
+  inlets = one_of IsWholeInlet early_inlet (record { ended = refl; last = halfway_requests.last; carriable = halfway_requests.carriable });
+  outlets = one_of IsWholeOutlet early_port (record { fit = is_fit halfway halfway_is_settled 2 (lit< tt) });
   silent = silent;
   routed = within;
 }
@@ -79,8 +79,8 @@ early_is_built : IsBuiltFor small (request_ins small 0) (request_outs small 0) e
 early_is_built = record {
   comes_by = refl;
   sends_by = refl;
-  in_plans = of_one (λ x. x.ring.plan ≡ ring_plan small x.ring.plan.ring) early_inlet refl;
-  out_plans = of_one (λ y. y.plan ≡ ring_plan small y.plan.ring) early_port refl;
+  in_plans = one_of (λ x. x.ring.plan ≡ ring_plan small x.ring.plan.ring) early_inlet refl;
+  out_plans = one_of (λ y. y.plan ≡ ring_plan small y.plan.ring) early_port refl;
   table = leads_early (requests_are_built halfway (Some posted)).table;
 }
 

@@ -6,6 +6,7 @@ use Rattle.std.specs.Option.{option_map_or}
 use Rattle.std.proofs.lemmas.Bool.Decides.{nat_tests}
 use Rattle.std.proofs.lemmas.List.Elements.{All-filter, All-head, All-map, All-nil, All-tail, filter_passes}
 use Rattle.std.proofs.lemmas.Option.{get_or_from_slice_get}
+use Rattle.std.proofs.lemmas.Bool.{and_from}
 use Rattle.sb_packet.specs.Accesses.{Access, access_at}
 use Rattle.sb_packet.specs.Journals.{is_at, is_request}
 use Rattle.sb_packet.specs.Networks.{NetHost, Network, device_at}
@@ -14,6 +15,7 @@ use Rattle.sb_packet.specs.Rings.{ring_budget}
 use Rattle.sb_packet.specs.Scripts.{script_accesses, transaction_accesses, transaction_message}
 use Rattle.sb_packet.specs.Ways.{network_ways}
 use Rattle.sb_packet.proofs.Lists.{All-joined, All-kept, All-made, filter_all, filter_none}
+use Rattle.sb_link.proofs.Truths.{same_number}
 use Rattle.sb_host.specs.Asked.{asked_accesses, asked_by}
 use Rattle.sb_laws.specs.Courses.{flows_over, goes_over}
 use Rattle.sb_laws.specs.Flows.{aimed_script, asked_words, is_among_flows, is_of, is_same_flow, words_of_script, words_of_flow}
@@ -29,15 +31,9 @@ use Rattle.sb_laws.proofs.ScriptFacts.{found_by_id, script_asks}
 use Rattle.sb_laws.proofs.Sums.{sum_by_le}
 use Rattle.sb_laws.proofs.WaysOfRouted.{ways_of_routed}
 
-both : (a b : Bool) → a ≡ true → b ≡ true → (a && b) ≡ true
-both a b e f = rw (e, f) refl
-
 or_right : (a b : Bool) → b ≡ true → (a || b) ≡ true
 or_right true b e = refl
 or_right false b e = e
-
-same_number : (n : ℕ) → (n == n) ≡ true
-same_number n = grind (arith, nat_tests)
 
 -- a word of a flow that is among others which pass a test is of one that passes
 some_passing : (network : Network) (q : NetFlow → Bool) (f : NetFlow) (a : Access) (fs : List NetFlow) → is_of network f a ≡ true → All (λ g. g.host ≡ f.host → q g ≡ true) fs → is_among_flows f fs ≡ true → is_of_some network (filter q fs) a ≡ true
@@ -111,7 +107,7 @@ module _ (network : Network) (routed : IsRouted network) (place : ℕ) (host : N
           asks = subst (All (λ x. is_request x.op ≡ true)) own_script (script_asks network routed.scripts host.id) i d below
 
           of_f : is_of network f a ≡ true
-          of_f = both (a.host == host.id) (is_at network k a) (ap (λ (n : ℕ). n == host.id) (own_words i d below) ∙ same_number host.id)
+          of_f = and_from (a.host == host.id) (is_at network k a) (ap (λ (n : ℕ). n == host.id) (own_words i d below) ∙ same_number host.id)
               (ap (λ (b : Bool). option_map_or (λ n. n == k) (device_at network (cond b a.dst a.src)) false) asks ∙ ap (λ (o : Option ℕ). option_map_or (λ n. n == k) o false) e ∙ same_number k)
 
           among : (b : Bool) → is_among_flows f (network_flows network) ≡ b → is_among_flows f (network_flows network) ≡ true

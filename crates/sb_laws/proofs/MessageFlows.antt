@@ -5,6 +5,7 @@ use Rattle.std.specs.List.{list_any, position_from}
 use Rattle.std.proofs.Math.Pow.{pow_pos}
 use Rattle.std.proofs.lemmas.Bool.Decides.{nat_tests}
 use Rattle.std.proofs.lemmas.List.{length-take}
+use Rattle.std.proofs.lemmas.Bool.{and_parts}
 use Rattle.sb_packet.specs.Accesses.{Access, access_at, message_accesses}
 use Rattle.sb_packet.specs.Messages.{Message, message_span}
 use Rattle.sb_packet.specs.Soundness.{device_place}
@@ -15,11 +16,11 @@ use Rattle.sb_packet.specs.Ways.{NetWay}
 use Rattle.sb_packet.specs.Rings.{network_ranges, ring_flows, ring_ways}
 use Rattle.sb_packet.proofs.Lists.{All-made}
 use Rattle.sb_packet.proofs.ReplyAddresses.{word_within}
+use Rattle.sb_flow.proofs.LinkMarks.{list_any-map}
 use Rattle.sb_laws.specs.Flows.{is_of, is_among_flows, is_same_flow}
 use Rattle.sb_laws.specs.NetworkLayouts.{way_flow}
 use Rattle.sb_laws.specs.Routed.{IsRouted}
-use Rattle.sb_laws.proofs.CarriedRings.{list_any-map}
-use Rattle.sb_laws.proofs.FlowMembers.{and_parts, same_flow}
+use Rattle.sb_laws.proofs.FlowMembers.{same_flow}
 use Rattle.sb_laws.proofs.LinksToDevices.{found_place}
 use Rattle.sb_laws.proofs.ListPlaces.{or_left, or_right}
 use Rattle.sb_laws.proofs.PlannedWords.{any_weaker, in_table, span_device, at_one_device}

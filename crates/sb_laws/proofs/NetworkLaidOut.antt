@@ -10,6 +10,7 @@ use Rattle.sb_packet.specs.Networks.{NetHost, Network}
 use Rattle.sb_packet.specs.Plans.{NetFlow}
 use Rattle.sb_packet.specs.Ways.{network_ways, flow_links, is_some_number, router_before, router_after}
 use Rattle.sb_packet.specs.Rings.{is_upward}
+use Rattle.sb_flow.proofs.WayCourses.{some_number-is}
 use Rattle.sb_laws.specs.Courses.{way_rings, goes_over, flows_over, IsOneWay, last_of}
 use Rattle.sb_laws.specs.Layouts.{IsLayout, ring_home}
 use Rattle.sb_laws.specs.NetworkLayouts.{way_flow, network_flows, request_ring, answer_ring, first_ring, links_into, links_out_of, network_requests, network_answers, link_into, network_layout}
@@ -26,10 +27,6 @@ pub record FlowWay (network : Network) (f : NetFlow) : Type 0 where
   pub links : flow_links network f ≡ head ∷ tail
   pub way : IsWayTo network f.device (head ∷ tail)
   pub start : router_before network head ≡ None
-
-pub named : (r : ℕ) (o : Option ℕ) → is_some_number r o ≡ true → o ≡ Some r
-named r None e = absurd (cc)
-named r (Some k) e = let same : k ≡ r = grind (arith, nat_tests) in ap Some same
 
 -- tests that agree at each element keep the same
 filter_same : (p q : NetFlow → Bool) (fs : List NetFlow) → All (λ f. p f ≡ q f) fs → filter p fs ≡ filter q fs
@@ -125,7 +122,7 @@ module _ (network : Network) where
       once = All-weaker (FlowWay network) (λ f. AllPairs (λ j k. goes_over (network_requests network) j f ≡ true → goes_over (network_requests network) k f ≡ false) ((network_requests network).ins r)) (λ f w.
           request_ins (λ ins. AllPairs (λ j k. goes_over (network_requests network) j f ≡ true → goes_over (network_requests network) k f ≡ false) ins) (none_once (λ j. goes_over (network_requests network) j f))
           (λ q. once_among (λ k. is_some_number q (router_after network k)) (λ j. goes_over (network_requests network) j f) request_ring (λ a b s t x y.
-          one_into network f.device q a b (w.head ∷ w.tail) w.way (sym (goes_there f w a) ∙ x) (sym (goes_there f w b) ∙ y) (named q (router_after network a) s) (named q (router_after network b) t)) 0 (length network.links)) r)
+          one_into network f.device q a b (w.head ∷ w.tail) w.way (sym (goes_there f w a) ∙ x) (sym (goes_there f w b) ∙ y) (some_number-is q (router_after network a) s) (some_number-is q (router_after network b) t)) 0 (length network.links)) r)
           (network_flows network) flow_ways;
     }
 
@@ -138,7 +135,7 @@ module _ (network : Network) where
       once = All-weaker (FlowWay network) (λ f. AllPairs (λ j k. goes_over (network_answers network) j f ≡ true → goes_over (network_answers network) k f ≡ false) ((network_answers network).ins r)) (λ f w.
           answer_ins (λ ins. AllPairs (λ j k. goes_over (network_answers network) j f ≡ true → goes_over (network_answers network) k f ≡ false) ins) (none_once (λ j. goes_over (network_answers network) j f))
           (λ q. once_among (λ k. is_some_number q (router_before network k)) (λ j. goes_over (network_answers network) j f) answer_ring (λ a b s t x y.
-          one_out_of network f.device q a b w.head w.tail w.way w.start (sym (goes_back f w a) ∙ x) (sym (goes_back f w b) ∙ y) (named q (router_before network a) s) (named q (router_before network b) t)) 0 (length network.links)) r)
+          one_out_of network f.device q a b w.head w.tail w.way w.start (sym (goes_back f w a) ∙ x) (sym (goes_back f w b) ∙ y) (some_number-is q (router_before network a) s) (some_number-is q (router_before network b) t)) 0 (length network.links)) r)
           (network_flows network) flow_ways;
     }
 

@@ -4,7 +4,7 @@ use Rattle.std.specs.Prelude.{◌==◌, ◌||◌, ◌&&◌, ◌⊎◌, nat_le, n
 use Rattle.std.specs.List.{list_any, position_from, range_with_len}
 use Rattle.std.specs.Option.{option_map_or}
 use Rattle.std.proofs.Math.Pow.{pow_pos}
-use Rattle.std.proofs.lemmas.Bool.{cases_lt}
+use Rattle.std.proofs.lemmas.Bool.{cases_lt, and_parts}
 use Rattle.std.proofs.lemmas.Bool.Decides.{nat_tests}
 use Rattle.std.proofs.lemmas.List.{get_or_past, get_or-take, length-take-le}
 use Rattle.std.proofs.lemmas.Option.{slice_get-get_or}
@@ -26,7 +26,6 @@ use Rattle.sb_packet.proofs.ReplyAddresses.{word_within}
 use Rattle.sb_laws.specs.Flows.{is_of}
 use Rattle.sb_laws.specs.NetworkLayouts.{way_flow}
 use Rattle.sb_laws.specs.Routed.{IsRouted}
-use Rattle.sb_laws.proofs.FlowMembers.{and_parts}
 use Rattle.sb_laws.proofs.ListPlaces.{or_left, or_right}
 use Rattle.sb_laws.proofs.LinksToDevices.{Passes, found_place, none_found}
 

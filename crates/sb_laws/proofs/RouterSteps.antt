@@ -5,10 +5,12 @@ use Rattle.std.specs.List.{list_any, range_with_len}
 use Rattle.std.proofs.lemmas.Bool.Decides.{nat_tests}
 use Rattle.std.proofs.lemmas.List.{get_or-map, length-map}
 use Rattle.std.proofs.lemmas.List.FromFn.{get_or-range_with_len, length-range_with_len}
+use Rattle.std.proofs.lemmas.Bool.{and_parts}
 use Rattle.sb_packet.specs.Networks.{Network}
 use Rattle.sb_packet.specs.Plans.{NetFlow, RingPlan, goes_through}
 use Rattle.sb_packet.specs.Rings.{flow_table, ring_flows, ring_plan, ring_ways}
 use Rattle.sb_packet.specs.Ways.{NetWay}
+use Rattle.sb_flow.proofs.LinkMarks.{list_any-map}
 use Rattle.sb_router.specs.Forwarding.{HasForwarded, Passes, Words}
 use Rattle.sb_port.specs.Ports.{PortSide}
 use Rattle.sb_router.specs.Lanes.{InletState, inlet_at, no_inlet, no_port, outlet_at}
@@ -21,8 +23,7 @@ use Rattle.sb_laws.specs.NetworkLayouts.{way_flow}
 use Rattle.sb_laws.specs.Promises.{ForwardsFlow}
 use Rattle.sb_laws.specs.RouterLayouts.{IsRouterAt}
 use Rattle.sb_laws.specs.RouterSides.{IsRouterOf}
-use Rattle.sb_laws.proofs.CarriedRings.{list_any-map}
-use Rattle.sb_laws.proofs.FlowMembers.{and_parts, same_flow_from}
+use Rattle.sb_laws.proofs.FlowMembers.{same_flow_from}
 use Rattle.sb_laws.proofs.LinksOfWays.{in_cases, is_in}
 use Rattle.sb_laws.proofs.ListPlaces.{any_passing}
 use Rattle.sb_laws.proofs.PlannedWords.{any_weaker, table_at}

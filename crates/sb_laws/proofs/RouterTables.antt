@@ -14,6 +14,7 @@ use Rattle.sb_packet.specs.Plans.{NetFlow, RingPlan, goes_through}
 use Rattle.sb_packet.specs.Rings.{has_link, link_ways, ring_plan, ring_ways}
 use Rattle.sb_packet.specs.Ways.{NetWay, flow_links, is_some_number, is_way_of, network_ways, router_after, router_before}
 use Rattle.sb_port.specs.Ports.{PortSide}
+use Rattle.sb_flow.proofs.WayCourses.{some_number-is}
 use Rattle.sb_router.specs.Lanes.{no_port, outlet_at}
 use Rattle.sb_router.specs.RouteOf.{route_of}
 use Rattle.sb_router.specs.Routers.{DirectionSide}
@@ -28,7 +29,7 @@ use Rattle.sb_laws.proofs.FlowMembers.{same_flow}
 use Rattle.sb_laws.proofs.LinksOfWays.{in_cases, is_in, one_into, one_out_of}
 use Rattle.sb_laws.proofs.LinksToDevices.{found_place, none_found}
 use Rattle.sb_laws.proofs.ListPlaces.{any_at, any_passing, range_rises}
-use Rattle.sb_laws.proofs.NetworkLaidOut.{FlowWay, counted, named, way_flows}
+use Rattle.sb_laws.proofs.NetworkLaidOut.{FlowWay, counted, way_flows}
 use Rattle.sb_laws.proofs.PlannedWords.{in_table}
 use Rattle.sb_laws.proofs.RouterSteps.{through_way}
 use Rattle.sb_laws.proofs.ScriptFacts.{found_fact}
@@ -198,7 +199,7 @@ module _ (network : Network) (r : ℕ) (d : DirectionSide) (routed : IsRouted ne
           let way = get_or (network_ways network) i w in
           let flow : FlowWay network (way_flow way) = way_flows network ways i w below in
           let links = same_links i w below in
-          one_out_of network way.device r a b flow.head flow.tail flow.way flow.start (ap (is_in a) (sym links) ∙ x) (ap (is_in b) (sym links) ∙ y) (named r (router_before network a) s) (named r (router_before network b) t)
+          one_out_of network way.device r a b flow.head flow.tail flow.way flow.start (ap (is_in a) (sym links) ∙ x) (ap (is_in b) (sym links) ∙ y) (some_number-is r (router_before network a) s) (some_number-is r (router_before network b) t)
 
   pub answer_tables : ring_outs d.lane ≡ answer_outs network r → All (λ y. y.plan ≡ ring_plan network y.plan.ring) d.lane.outlets → HasTable network true r (links_into network (Some r)) d → LeadsByPlans d
   answer_tables sends plans has = leads_by_plans network (λ k. is_some_number r (router_after network k)) answer_ring (answer_ways network ways) (way_facts (λ k. is_some_number r (router_after network k)) unique) d sends plans (λ f host device. has.table f host device) has.within
@@ -208,4 +209,4 @@ module _ (network : Network) (r : ℕ) (d : DirectionSide) (routed : IsRouted ne
           let way = get_or (network_ways network) i w in
           let flow : FlowWay network (way_flow way) = way_flows network ways i w below in
           let links = same_links i w below in
-          one_into network way.device r a b (flow.head ∷ flow.tail) flow.way (ap (is_in a) (sym links) ∙ x) (ap (is_in b) (sym links) ∙ y) (named r (router_after network a) s) (named r (router_after network b) t)
+          one_into network way.device r a b (flow.head ∷ flow.tail) flow.way (ap (is_in a) (sym links) ∙ x) (ap (is_in b) (sym links) ∙ y) (some_number-is r (router_after network a) s) (some_number-is r (router_after network b) t)

@@ -8,13 +8,13 @@ use Rattle.std.proofs.lemmas.List.Elements.{All-nil, All-head, All-tail, All-fil
 use Rattle.std.proofs.lemmas.List.Kept.{AllPairs-filter}
 use Rattle.sb_packet.specs.Accesses.{Access, access_at}
 use Rattle.sb_packet.specs.Networks.{NetHost, Network}
-use Rattle.sb_packet.specs.Scripts.{request_of, transaction_message, transaction_accesses, script_accesses}
+use Rattle.sb_packet.specs.Scripts.{transaction_message, transaction_accesses, script_accesses}
 use Rattle.sb_packet.specs.Journals.{is_request, flow_part}
 use Rattle.sb_packet.specs.Plans.{NetFlow}
-use Rattle.sb_packet.specs.declared.transaction.Kind.{Kind}
-use Rattle.sb_packet.specs.declared.transaction.Kind.TheVariants.{Read, Write, Posted, Atomic}
 use Rattle.sb_packet.proofs.Lists.{All-made, All-joined, AllPairs-head, AllPairs-tail}
 use Rattle.sb_packet.proofs.ReplyAddresses.{reply_addresses_rise, reply_addresses_tell}
+use Rattle.sb_link.proofs.Truths.{same_number}
+use Rattle.sb_flow.proofs.FlowWords.{request_asks}
 use Rattle.sb_laws.specs.Flows.{is_of, words_of_flow, words_of_script, asked_words}
 use Rattle.sb_laws.specs.Layouts.{HasScripts}
 
@@ -27,19 +27,10 @@ found_fact {A} P test (y ∷ ys) x e h = by_test (test y) refl e (λ later. foun
     by_test true t e later = let same : y ≡ x = cc in (subst (λ (z : A). test z ≡ true) same t, subst P same (All-head P y ys h))
     by_test false t e later = later e
 
-pub asks : (kind : Kind) → is_request (request_of kind) ≡ true
-asks Read = refl
-asks Write = refl
-asks Posted = refl
-asks (Atomic type) = refl
-
 -- all words of a script ask
 script_words_ask : (host : NetHost) → All (λ a. is_request a.op ≡ true) (script_accesses host)
 script_words_ask host = All-joined (λ a. is_request a.op ≡ true) (λ p. transaction_accesses host p.0 p.1) (enumerate_from 0 host.script)
-    (λ k p below. All-made (λ a. is_request a.op ≡ true) (access_at (transaction_message host (get_or (enumerate_from 0 host.script) k p).0 (get_or (enumerate_from 0 host.script) k p).1)) (get_or (enumerate_from 0 host.script) k p).1.count (λ j inside. asks (get_or (enumerate_from 0 host.script) k p).1.kind))
-
-same_number : (n : ℕ) → (n == n) ≡ true
-same_number n = grind (arith, nat_tests)
+    (λ k p below. All-made (λ a. is_request a.op ≡ true) (access_at (transaction_message host (get_or (enumerate_from 0 host.script) k p).0 (get_or (enumerate_from 0 host.script) k p).1)) (get_or (enumerate_from 0 host.script) k p).1.count (λ j inside. request_asks (get_or (enumerate_from 0 host.script) k p).1.kind))
 
 other_number : (m n : ℕ) → m ≢ n → (m == n) ≡ false
 other_number m n other = grind (arith, nat_tests)

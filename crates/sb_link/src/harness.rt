@@ -182,5 +182,8 @@ fn carries(plan: &LinkPlan, p: &Packet) -> bool
 fn is_answer(op: Op) -> bool
     ensures answer { result ≡ not (is_request op) }
 {
-    matches!(op, Op::RespRd | Op::RespWr)
+    match op {
+        Op::RespRd | Op::RespWr => true,
+        Op::ReqRd | Op::ReqWr | Op::ReqWrPosted | Op::ReqAtomic => false,
+    }
 }

@@ -83,7 +83,8 @@ impl Fabric for SerialFabric {
 
     ghost made = { λ fabric. plans_of fabric.registry.rows.items };
 
-    ghost carried = { λ fabric ring. option_map_or (λ (end : SerialRx). item_accesses end.received) (end_of fabric.registry.rows.items ring) [] };
+    ghost carried = { λ fabric ring. option_map_or (λ (end : SerialRx). item_accesses end.received)
+        (end_of fabric.registry.rows.items ring) [] };
 
     ghost settled = { λ fabric ring. is_some (end_of fabric.registry.rows.items ring) };
 

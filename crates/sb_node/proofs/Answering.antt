@@ -37,11 +37,6 @@ rest_unshut port fit rest = by_shut port.state.close_sent refl where
   by_shut true close_sent = absurd (true≢false (sym rest ∙ no_rest port.state.waiting port.state.close_requested port.state.close_sent (fit.none_owed close_sent) (fit.none_held close_sent) close_sent))
   by_shut false unshut = unshut
 
--- two tests that both fail
-neither : (a b : Bool) → (a || b) ≡ false → (a ≡ false) × (b ≡ false)
-neither true b e = absurd (true≢false e)
-neither false b e = (refl, e)
-
 -- where nothing is owed and the Close wasn't sent, the port wasn't told to close
 pub untold : (owing close_requested close_sent : Bool) → (owing || (close_requested && not close_sent)) ≡ false → close_sent ≡ false → close_requested ≡ false
 untold true close_requested close_sent e unshut = absurd (true≢false e)

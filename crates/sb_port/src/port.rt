@@ -41,7 +41,18 @@ impl<T: TxEnd> Model for OutPort<T> {
 
     ghost Value = { PortSide };
 
-    ghost view = { λ p. record { plan = T.planned p.tx; mark = T.mark p.tx; taken = T.taken p.tx; state = record { sent = T.sent p.tx; waiting = p.outbox; close_requested = p.close_requested; close_sent = p.close_sent; words_offered = p.words_offered } } };
+    ghost view = { λ p. record {
+      plan = T.planned p.tx;
+      mark = T.mark p.tx;
+      taken = T.taken p.tx;
+      state = record {
+        sent = T.sent p.tx;
+        waiting = p.outbox;
+        close_requested = p.close_requested;
+        close_sent = p.close_sent;
+        words_offered = p.words_offered;
+      };
+    } };
 }
 
 // the packet is an answer
@@ -129,7 +140,12 @@ impl<T: TxEnd> OutPort<T> {
         ensures offered { self.new.state.waiting ≡ offered self.old.state.waiting (message_of packet.now) }
         ensures words_offered { self.new.state.words_offered ≡ self.old.state.words_offered + word_count_of packet.now.cmd }
         ensures rest { self.new
-            ≡ record self.old { state = record self.old.state { waiting = self.new.state.waiting; words_offered = self.new.state.words_offered } } }
+            ≡ record self.old {
+              state = record self.old.state {
+                waiting = self.new.state.waiting;
+                words_offered = self.new.state.words_offered;
+              };
+            } }
         ensures words { offered_words self.new ≡ offered_words self.old ++ accesses_of packet.now }
         ensures fit { IsFit self.new.plan self.new.state }
     {

@@ -1,10 +1,9 @@
 -- What holds of the words of a direction at any time, and stays so while items are received.
 use Rattle.std.proofs.Common.{◌≡◌, inl, inr, ℕ, ◌<◌, ◌+◌, List, [], ◌∷◌, ◌++◌, length, set, get_or, All, refl, sym, ap, ◌∙◌, subst, arith, length-append}
 use Rattle.std.specs.Prelude.{filter, sum_by}
-use Rattle.std.proofs.lemmas.List.{append-nil, get_or_default, length-set}
+use Rattle.std.proofs.lemmas.List.{get_or_default, length-set}
 use Rattle.std.proofs.lemmas.List.Elements.{filter-append, All-from_recursion, recursion_from_All}
 use Rattle.std.proofs.lemmas.List.Sums.{sum_by-set}
-use Rattle.std.proofs.lemmas.Grind.{flat_map-append}
 use Rattle.std.specs.List.{AllByRecursion}
 use Rattle.sb_packet.specs.Accesses.{Access, accesses_of_item}
 use Rattle.sb_packet.specs.Plans.{NetFlow}
@@ -13,6 +12,7 @@ use Rattle.sb_packet.specs.Soundness.{IsSound}
 use Rattle.sb_packet.specs.Traffic.{item_accesses, item_messages}
 use Rattle.sb_packet.specs.declared.item.Item.{Item}
 use Rattle.sb_node.specs.Sides.{received_words}
+use Rattle.sb_node.proofs.Items.{item_more}
 use Rattle.sb_router.specs.Lanes.{InletState, LaneState, Route, came_at, held_words_at, held_words, inlet_at, no_inlet, offered_at}
 use Rattle.sb_router.specs.Steps.{IsTakenByInlet, held_of}
 use Rattle.sb_router.specs.Forwarding.{Words, Passes, HasSoundInlets, Forwards, HasForwarded, came_for, held_for, part, popped_for}
@@ -26,10 +26,6 @@ has_forwarded {words} {route} {s} h f i o passes = record {
   in_order = without_end (part words f (offered_at s o)) (part words f (held_words_at s i)) (h.picks f i o passes);
   whole = h.whole f i o passes;
 }
-
--- an item adds its words
-pub one_more : (list : List Item) (item : Item) → item_accesses (list ++ item ∷ []) ≡ item_accesses list ++ accesses_of_item item
-one_more list item = flat_map-append accesses_of_item list (item ∷ []) ∙ ap (λ (l : List Access). item_accesses list ++ l) (append-nil (accesses_of_item item))
 
 -- the words of an item are held, if it has any
 pub held_item : (item : Item) → held_words (held_of item) ≡ accesses_of_item item
@@ -66,7 +62,7 @@ module _ {words : Words} {route : Route} (s : LaneState) (h : Forwards words rou
     t = record s { inlets = set s.inlets i x }
 
     came : received_words x.ring ≡ came_at s i ++ accesses_of_item item
-    came = ap item_accesses is.received ∙ one_more (inlet_at s i).ring.received item
+    came = ap item_accesses is.received ∙ item_more (inlet_at s i).ring.received item
 
     held : held_words x.held ≡ accesses_of_item item
     held = ap held_words is.held ∙ held_item item

@@ -3,6 +3,7 @@ use Rattle.std.proofs.Common.{◌≡◌, inl, inr, ℕ, ◌<◌, ◌||◌, Bool,
 use Rattle.std.specs.List.{AllByRecursion}
 use Rattle.std.proofs.lemmas.List.{get_or_default}
 use Rattle.std.proofs.lemmas.List.Elements.{recursion_from_All}
+use Rattle.std.proofs.lemmas.Bool.{or_parts}
 use Rattle.sb_link.specs.declared.answers.Cause.{Cause}
 use Rattle.sb_packet.specs.declared.packet.Packet.{Packet}
 use Rattle.sb_port.specs.Ports.{owes, PortSide}
@@ -18,7 +19,6 @@ use Rattle.sb_router.specs.Awaiting.{AwaitsFullPort, HeldAwaitsBusy, WasBusy, Wa
 use Rattle.sb_router.specs.Moves.{IsToldMoved}
 use Rattle.sb_router.specs.Turning.{HasClosed, HasHanded, HasPoppedEach, HasTurned, IsIdleLane, IsLaneTurn, IsSeen, IsServed, SendsNothing, pop_cause}
 use Rattle.sb_router.specs.Whole.{IsWholeInlet, IsWholeLane}
-use Rattle.sb_router.proofs.Cases.{or_false}
 use Rattle.sb_router.specs.Steps.{steps_then}
 use Rattle.sb_router.proofs.Lowest.{lower_none, neither_found}
 use Rattle.sb_router.proofs.MoveSteps.{moved_then}
@@ -56,7 +56,7 @@ module _ {route : Route} {s a b d t : LaneState} {popped turned : Findings} {han
   found = found_in_both (record popped { moved = popped.moved || handed }) turned
 
   none_moved : ((popped.moved || handed) || turned.moved) ≡ false → (popped.moved ≡ false) × (handed ≡ false) × (turned.moved ≡ false)
-  none_moved e = let two = or_false (popped.moved || handed) turned.moved e in let one = or_false popped.moved handed two.0 in (one.0, one.1, two.1)
+  none_moved e = let two = or_parts (popped.moved || handed) turned.moved e in let one = or_parts popped.moved handed two.0 in (one.0, one.1, two.1)
 
   -- nothing was popped or handed on
   none_came : popped.moved ≡ false → handed ≡ false → (popped.moved || handed) ≡ false

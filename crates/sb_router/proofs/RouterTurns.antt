@@ -4,6 +4,7 @@ use Rattle.std.specs.List.{AllByRecursion, list_all}
 use Rattle.std.proofs.lemmas.List.{get_or_default, map-append}
 use Rattle.std.proofs.lemmas.List.Elements.{All-get_or, recursion_from_All}
 use Rattle.std.proofs.lemmas.List.Folds.{list_all-append, list_all-map}
+use Rattle.std.proofs.lemmas.Bool.{or_parts}
 use Rattle.sb_link.specs.declared.answers.Cause.{Cause}
 use Rattle.sb_link.specs.declared.answers.Turn.{Turn}
 use Rattle.sb_link.specs.declared.answers.Turn.TheVariants.{Moved, Idle, Done}
@@ -23,7 +24,6 @@ use Rattle.sb_router.specs.Whole.{IsWholeInlet, IsWholeLane}
 use Rattle.sb_router.specs.RouteOf.{route_of}
 use Rattle.sb_router.specs.RestedRouters.{IsRestedRouter}
 use Rattle.sb_router.specs.Routers.{IsKeptDirection, IsRouterTurn, RouterSide, router_moves, router_ports, router_rings}
-use Rattle.sb_router.proofs.Cases.{or_false}
 use Rattle.sb_router.proofs.ForwardSteps.{forwards_steps, laid_steps}
 use Rattle.sb_router.proofs.KeptSteps.{kept_steps}
 use Rattle.sb_router.proofs.Lowest.{lowest_append}
@@ -177,7 +177,7 @@ module _ (down up : List (List (Option ℕ))) {p q p' q' : LaneState} {a b : Fin
   moves = moved_both (lane_moves p) (lane_moves p') (lane_moves q) (lane_moves q') a.moved b.moved turn_p.moved.more turn_p.moved.none turn_q.moved.more turn_q.moved.none
 
   fulls : (a.moved || b.moved) ≡ false → lower a.full b.full ≡ lowest (map full_cause (router_ports after))
-  fulls e = let two = or_false a.moved b.moved e in
+  fulls e = let two = or_parts a.moved b.moved e in
       ap (λ (c : Option Cause). lower c b.full) (turn_p.full two.0) ∙ ap (lower (lowest (map full_cause p'.outlets))) (turn_q.full two.1)
       ∙ sym (lowest_of_both full_cause p'.outlets q'.outlets)
 
@@ -190,7 +190,7 @@ module _ (down up : List (List (Option ℕ))) {p q p' q' : LaneState} {a b : Fin
     neither = none_lower a.full b.full none
 
     still : (a.moved ≡ false) × (b.moved ≡ false)
-    still = or_false a.moved b.moved e
+    still = or_parts a.moved b.moved e
 
     none_p : lowest (map full_cause p'.outlets) ≡ None
     none_p = sym (turn_p.full still.0) ∙ neither.0
@@ -252,7 +252,7 @@ module _ (down up : List (List (Option ℕ))) {p q p' q' : LaneState} {a b : Fin
 
   -- nothing moved in either direction
   pub router_rests : (answer : Turn) → IsTurnOf all_found_in done answer → answer ≢ Moved → IsRestedRouter before after
-  router_rests answer is other = let still = or_false a.moved b.moved (unmoved answer is other) in record {
+  router_rests answer is other = let still = or_parts a.moved b.moved (unmoved answer is other) in record {
     requests = record { rows = refl; lane = turn_p.rests still.0 };
     answers = record { rows = refl; lane = turn_q.rests still.1 };
   }
@@ -260,8 +260,8 @@ module _ (down up : List (List (Option ℕ))) {p q p' q' : LaneState} {a b : Fin
   pub router_turn : (answer : Turn) → IsTurnOf all_found_in done answer → IsRouterTurn before answer after
   router_turn answer is = record {
     answered = answered answer is;
-    idle_requests = λ other. turn_p.idle (or_false a.moved b.moved (unmoved answer is other)).0;
-    idle_answers = λ other. turn_q.idle (or_false a.moved b.moved (unmoved answer is other)).1;
+    idle_requests = λ other. turn_p.idle (or_parts a.moved b.moved (unmoved answer is other)).0;
+    idle_answers = λ other. turn_q.idle (or_parts a.moved b.moved (unmoved answer is other)).1;
     closed_requests = turn_p.closed;
     closed_answers = turn_q.closed;
     few_requests = turn_p.few_items;

@@ -1,8 +1,9 @@
 -- Only the lowest bit of each row is set.
-use Rattle.std.proofs.Common.{◌≡◌, ◌⊎◌, inl, inr, ⊎_elim, ℕ, zero, suc, List, [], ◌∷◌, Bool, true, false, true≢false, refl, sym, ap, ◌∙◌}
-use Rattle.std.specs.Prelude.{map, replicate, not, slice_index_or, ◌==◌, ◌/◌, ◌^◌, ◌%◌}
-use Rattle.std.specs.List.{list_all, range_with_len}
+use Rattle.std.proofs.Common.{◌≡◌, ◌⊎◌, inl, inr, ⊎_elim, ℕ, zero, suc, [], true, false, true≢false, refl, sym, ap, ◌∙◌}
+use Rattle.std.specs.Prelude.{map, replicate, slice_index_or, ◌==◌, ◌/◌, ◌^◌, ◌%◌}
+use Rattle.std.specs.List.{range_with_len}
 use Rattle.sb_link.specs.Plans.{bits_of}
+use Rattle.sb_link.proofs.Truths.{none_set}
 use Rattle.sb_device.proofs.harness.flows.Goals as goal
 
 -- each row is the bits of 1, or stands behind the last
@@ -10,13 +11,6 @@ each_row : (n h : ℕ) → (slice_index_or (map bits_of (replicate n 1)) h [] �
 each_row zero h = inr refl
 each_row (suc n) zero = inl refl
 each_row (suc n) (suc h) = each_row n h
-
--- where no bit is set, none is found
-none_set : (bits : List Bool) (d : ℕ) → list_all not bits ≡ true → slice_index_or bits d false ≡ false
-none_set [] d e = refl
-none_set (true ∷ bits) d e = absurd (true≢false (sym e))
-none_set (false ∷ bits) zero e = refl
-none_set (false ∷ bits) (suc d) e = none_set bits d e
 
 -- of the bits of 1 the first is set
 first_set : (d : ℕ) → slice_index_or (bits_of 1) d false ≡ true → d ≡ 0
