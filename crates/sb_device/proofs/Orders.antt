@@ -104,17 +104,19 @@ close_packets received = packets_joined received (items.Close ∷ []) ∙ append
 pub close_words : (received : List Item) → item_accesses (received ++ items.Close ∷ []) ≡ item_accesses received
 close_words received = item_more received items.Close ∙ append-nil (item_accesses received)
 
+-- the words of entries and of items are those of their packets
+words_of_entries : (list : List Entry) → entry_accesses list ≡ flat_map accesses_of (entry_packets list)
+words_of_entries [] = refl
+words_of_entries (e ∷ list) = ap (λ ws. accesses_of e.packet ++ ws) (words_of_entries list)
+
+words_of_items : (list : List Item) → item_accesses list ≡ flat_map accesses_of (item_packets list)
+words_of_items [] = refl
+words_of_items (items.Packet p ∷ list) = ap (λ ws. accesses_of p ++ ws) (words_of_items list)
+words_of_items (items.Close ∷ list) = words_of_items list
+
 -- where a journal has the packets that came in, it has their words
 pub words_that_came : (journal : List Entry) (received : List Item) → entry_packets journal ≡ item_packets received → entry_accesses journal ≡ item_accesses received
-words_that_came journal received same = by_packets journal ∙ ap (flat_map accesses_of) same ∙ sym (by_items received) where
-  by_packets : (list : List Entry) → entry_accesses list ≡ flat_map accesses_of (entry_packets list)
-  by_packets [] = refl
-  by_packets (e ∷ list) = ap (λ ws. accesses_of e.packet ++ ws) (by_packets list)
-
-  by_items : (list : List Item) → item_accesses list ≡ flat_map accesses_of (item_packets list)
-  by_items [] = refl
-  by_items (items.Packet p ∷ list) = ap (λ ws. accesses_of p ++ ws) (by_items list)
-  by_items (items.Close ∷ list) = by_items list
+words_that_came journal received same = words_of_entries journal ∙ ap (flat_map accesses_of) same ∙ sym (words_of_items received)
 
 -- where all entries of a journal are of one device, its words at that device are all its words
 pub words_of_device : (number : ℕ) (journal : List Entry) → All (λ e. e.device ≡ number) journal → journal_accesses journal number ≡ entry_accesses journal

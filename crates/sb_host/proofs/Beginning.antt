@@ -50,7 +50,7 @@ words_of_packets asked i (l ∷ lines) =
     ∙ ap (λ (words : List Access). words ++ flat_map message_accesses (packets_from asked (i + 1) lines)) (words_of_line asked i l)
     ∙ ap (λ (words : List Access). sent_accesses asked i l ++ words) (words_of_packets asked (i + 1) lines)
 
--- what script_plan ask for can be issued
+-- what the plan of a script asks for can be issued
 pub orders_issuable : (script_plan : ScriptPlan) → AreIssuable (asked_of script_plan)
 orders_issuable script_plan = record { id = script_plan.id_fits; qos = script_plan.qos_fits; prot = script_plan.prot_fits; few = script_plan.few; lines = script_plan.issuable }
 

@@ -8,7 +8,7 @@ use Rattle.sb_host.specs.Asked.{Asked}
 use Rattle.sb_host.specs.Lines.{AreTransactions}
 use Rattle.sb_host.specs.Outcomes.{is_answered_by}
 
--- what a host asks for, by its script_plan
+-- what a host asks for, by the plan of its script
 abbrev pub asked_of : ScriptPlan → Asked
 asked_of script_plan = record { id = script_plan.id; qos = script_plan.qos; prot = script_plan.prot; lines = script_plan.lines.items }
 

@@ -1,4 +1,4 @@
--- The script_plan are those of a host of the bundle, so they can be issued.
+-- The plan of a script is that of a host of the bundle, so it can be issued.
 use Rattle.std.proofs.Common.{◌≡◌, ◌∙◌, ap, List}
 use Rattle.std.specs.Prelude.{map}
 use Rattle.std.proofs.Math.ListN.{get_or}
