@@ -7,13 +7,13 @@ use Rattle.sb_packet.specs.Traffic.{MayFollow, has_close, item_accesses}
 use Rattle.sb_packet.specs.declared.entry.Entry.{Entry}
 use Rattle.sb_packet.specs.declared.item.Item.TheVariants as items
 use Rattle.sb_port.specs.Ports.{PortSide, IsFit, let_go, offered_words}
+use Rattle.sb_port.proofs.Items.{has_close-close}
 use Rattle.sb_node.specs.Sides.{RingSide}
 use Rattle.sb_node.specs.Kept.{IsKeptPort, IsKeptRing, begins_itself, kept_port_same, kept_ring_same}
-use Rattle.sb_node.proofs.Items.{close_behind}
 use Rattle.sb_device.specs.Sides.{DeviceSide, held_bytes}
 use Rattle.sb_device.specs.Served.{AreSound, item_packets}
 use Rattle.sb_device.specs.Requests.{ServesNone, ServesRequest, serves, serves_none, no_step, then_step}
-use Rattle.sb_device.specs.Plans.{IsInOrder}
+use Rattle.sb_device.specs.Plans.{IsDeviceInOrder}
 use Rattle.sb_device.specs.Devices.{IsKeptDevice, IsWholeDevice}
 use Rattle.sb_device.proofs.Requests.{front_sound}
 use Rattle.sb_device.proofs.Orders.{close_packets, close_words, in_order_rest, served_none, served_request}
@@ -39,7 +39,7 @@ kept_by_none round x y none ring port sound = record {
 }
 
 -- a request was served
-pub kept_by_request : (round : ℕ) (x y : DeviceSide) → IsInOrder x → (s : ServesRequest round x y) → MayFollow x.requests.plan x.requests.received (items.Packet s.request)
+pub kept_by_request : (round : ℕ) (x y : DeviceSide) → IsDeviceInOrder x → (s : ServesRequest round x y) → MayFollow x.requests.plan x.requests.received (items.Packet s.request)
     → is_request s.request.cmd.op ≡ true → y.memory.base ≡ x.memory.base → held_bytes y.memory ≡ held_bytes x.memory → y.memory.readonly ≡ x.memory.readonly
     → IsKeptRing x.requests y.requests → IsKeptPort x.answers y.answers → IsKeptDevice round x y
 kept_by_request round x y o s lawful asked base size readonly ring port =
@@ -72,7 +72,7 @@ kept_by_port round x port words kept = kept_by_none round x (record x { answers 
     (record { came = refl; entered = refl; memory = refl; offered = words; number = refl; plan = kept.plan })
     (kept_ring_same x.requests) kept (λ sound. sound)
 
-pub whole_by_port : (x : DeviceSide) (port : PortSide) → IsWholeDevice x → port.plan ≡ x.answers.plan → port.state.closing ≡ x.answers.state.closing → IsFit port.plan port.state
+pub whole_by_port : (x : DeviceSide) (port : PortSide) → IsWholeDevice x → port.plan ≡ x.answers.plan → port.state.close_requested ≡ x.answers.state.close_requested → IsFit port.plan port.state
     → IsWholeDevice (record x { answers = port })
 whole_by_port x port whole plan told fit = record {
   fit = fit;
@@ -81,7 +81,7 @@ whole_by_port x port whole plan told fit = record {
 
 -- a Close came in, and the port was told to close
 module _ (x : DeviceSide) (ring : RingSide) (port : PortSide) (came : ring.received ≡ x.requests.received ++ items.Close ∷ [])
-    (told : port ≡ record x.answers { state = record x.answers.state { closing = true } }) where
+    (told : port ≡ record x.answers { state = record x.answers.state { close_requested = true } }) where
   abbrev pub closed_then : DeviceSide
   closed_then = record x { requests = ring; answers = port }
 
@@ -109,5 +109,5 @@ module _ (x : DeviceSide) (ring : RingSide) (port : PortSide) (came : ring.recei
   whole_by_close whole kept fit = record {
     fit = fit;
     in_order = in_order_rest x closed_then whole.in_order refl refl refl kept.plan (ap (λ (p : PortSide). p.plan) told) refl packets (ap item_accesses came ∙ close_words x.requests.received)
-        (ap (λ (p : PortSide). p.state.closing) told ∙ sym (close_behind x.requests.received) ∙ sym (ap has_close came));
+        (ap (λ (p : PortSide). p.state.close_requested) told ∙ sym (has_close-close x.requests.received) ∙ sym (ap has_close came));
   }

@@ -12,7 +12,7 @@ use Rattle.sb_node.specs.Kept.{IsPortMet, IsRingMet}
 use Rattle.sb_node.proofs.Subsequences.{same_subsequence}
 use Rattle.sb_device.specs.Sides.{DeviceSide}
 use Rattle.sb_device.specs.Served.{HasServed}
-use Rattle.sb_device.specs.Plans.{IsInOrder}
+use Rattle.sb_device.specs.Plans.{IsDeviceInOrder}
 use Rattle.sb_device.specs.Devices.{IsWholeDevice}
 
 -- a device that has served nothing
@@ -25,17 +25,17 @@ service_begins d empty none =
     })
 
 -- in order still, once the ring's end has met the other one
-order_with_ring : (d : DeviceSide) (ring : RingSide) → IsRingMet d.requests ring → IsInOrder d → IsInOrder (record d { requests = ring })
+order_with_ring : (d : DeviceSide) (ring : RingSide) → IsRingMet d.requests ring → IsDeviceInOrder d → IsDeviceInOrder (record d { requests = ring })
 order_with_ring d ring met o =
-    subst (λ (p : RingPlan). IsInOrder (record d { requests = record ring { plan = p } })) (sym met.plan)
-    (subst (λ (list : List Item). IsInOrder (record d { requests = record ring { plan = d.requests.plan; received = list } })) (sym met.received)
+    subst (λ (p : RingPlan). IsDeviceInOrder (record d { requests = record ring { plan = p } })) (sym met.plan)
+    (subst (λ (list : List Item). IsDeviceInOrder (record d { requests = record ring { plan = d.requests.plan; received = list } })) (sym met.received)
     (record { planned = o.planned; journalled = o.journalled; own_entries = o.own_entries; room = o.room; closes = o.closes }))
 
 -- and once the port's has
-order_with_port : (d : DeviceSide) (port : PortSide) → IsPortMet d.answers port → IsInOrder d → IsInOrder (record d { answers = port })
+order_with_port : (d : DeviceSide) (port : PortSide) → IsPortMet d.answers port → IsDeviceInOrder d → IsDeviceInOrder (record d { answers = port })
 order_with_port d port met o =
-    subst (λ (p : RingPlan). IsInOrder (record d { answers = record port { plan = p } })) (sym met.plan)
-    (subst (λ (s : PortState). IsInOrder (record d { answers = record port { plan = d.answers.plan; state = s } })) (sym met.state)
+    subst (λ (p : RingPlan). IsDeviceInOrder (record d { answers = record port { plan = p } })) (sym met.plan)
+    (subst (λ (s : PortState). IsDeviceInOrder (record d { answers = record port { plan = d.answers.plan; state = s } })) (sym met.state)
     (record { planned = o.planned; journalled = o.journalled; own_entries = o.own_entries; room = o.room; closes = o.closes }))
 
 -- whole still

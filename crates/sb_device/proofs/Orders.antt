@@ -16,13 +16,14 @@ use Rattle.sb_packet.specs.declared.entry.Entry.{Entry}
 use Rattle.sb_packet.specs.declared.packet.Packet.{Packet}
 use Rattle.sb_packet.specs.declared.item.Item.{Item}
 use Rattle.sb_packet.specs.declared.item.Item.TheVariants as items
-use Rattle.sb_packet.proofs.Opcodes.{some_words}
+use Rattle.sb_link.proofs.InTurn.{some_accesses}
 use Rattle.sb_port.specs.Ports.{offered_words}
+use Rattle.sb_port.proofs.Items.{has_close-packet}
 use Rattle.sb_node.specs.Sides.{received_words, has_ended}
 use Rattle.sb_node.specs.Steps.{IsOffered, IsDropped}
-use Rattle.sb_node.proofs.Items.{item_more, packet_behind}
+use Rattle.sb_node.proofs.Items.{item_more}
 use Rattle.sb_device.specs.Sides.{DeviceSide, held_bytes}
-use Rattle.sb_device.specs.Plans.{IsPlannedFor, IsInOrder}
+use Rattle.sb_device.specs.Plans.{IsPlannedFor, IsDeviceInOrder}
 use Rattle.sb_device.specs.Served.{entry_accesses, entry_packets, item_packets, with_entry, answers_to, AreSound, HasServed}
 use Rattle.sb_device.specs.Requests.{IsUnanswered, IsReplied, ServesNone, ServesRequest}
 use Rattle.sb_device.proofs.SoundAnswers.{sound_answer}
@@ -32,10 +33,6 @@ use Rattle.sb_device.proofs.Requests.{entry_more, served_and_offered, served_and
 -- as many words as a packet's command counts
 word_total : (p : Packet) → length (accesses_of p) ≡ (message_of p).count
 word_total p = length-map-range_with_len (access_at (message_of p)) 0 (message_of p).count
-
--- a packet has a word
-some_accesses : (p : Packet) → 0 < length (accesses_of p)
-some_accesses p = let some = some_words p.cmd.op p.cmd.len in let total = word_total p in omega (arith, some, total)
 
 -- the packets of two lists of items, one behind the other
 packets_joined : (xs ys : List Item) → item_packets (xs ++ ys) ≡ item_packets xs ++ item_packets ys
@@ -55,7 +52,7 @@ still_planned number m n requests answers requests_then answers_then base size a
       range = made.range ∙ ap (λ b. Some (record { base = b; bytes = length m.bytes })) (sym base) ∙ ap (λ s. Some (record { base = n.base; bytes = s })) (sym size);
     }))
 
-module _ (x y : DeviceSide) (o : IsInOrder x) (number : y.number ≡ x.number)
+module _ (x y : DeviceSide) (o : IsDeviceInOrder x) (number : y.number ≡ x.number)
     (base : y.memory.base ≡ x.memory.base) (size : held_bytes y.memory ≡ held_bytes x.memory)
     (ring_plan : y.requests.plan ≡ x.requests.plan) (port_plan : y.answers.plan ≡ x.answers.plan) where
   planned_then : IsPlannedFor y.number y.memory y.requests.plan y.answers.plan
@@ -64,8 +61,8 @@ module _ (x y : DeviceSide) (o : IsInOrder x) (number : y.number ≡ x.number)
 
   -- a request came in, and was journalled
   pub in_order_packet : (p : Packet) (e : Entry) → e.packet ≡ p → e.device ≡ x.number → y.journal ≡ with_entry x.journal e
-      → MayFollow x.requests.plan x.requests.received (items.Packet p) → y.requests.received ≡ x.requests.received ++ items.Packet p ∷ [] → y.answers.state.closing ≡ false
-      → IsInOrder y
+      → MayFollow x.requests.plan x.requests.received (items.Packet p) → y.requests.received ≡ x.requests.received ++ items.Packet p ∷ [] → y.answers.state.close_requested ≡ false
+      → IsDeviceInOrder y
   in_order_packet p e of_packet of_device added lawful came untold =
       let words : received_words y.requests ≡ received_words x.requests ++ accesses_of p = ap item_accesses came ∙ item_more x.requests.received (items.Packet p) in
       let entries : y.journal.entries ≡ x.journal.entries ++ e ∷ [] = ap (λ (j : Ledger). j.entries) added in
@@ -81,12 +78,12 @@ module _ (x y : DeviceSide) (o : IsInOrder x) (number : y.number ≡ x.number)
         own_entries = subst (λ n. All (λ e. e.device ≡ n) y.journal.entries) (sym number) (subst (λ es. All (λ e. e.device ≡ x.number) es) (sym entries)
             (All-append (λ e. e.device ≡ x.number) x.journal.entries (e ∷ []) o.own_entries (All-cons (λ e. e.device ≡ x.number) e [] of_device (All-nil (λ e. e.device ≡ x.number)))));
         room = omega (arith, longer, some, room, spare, budget);
-        closes = untold ∙ sym lawful.unclosed ∙ sym (packet_behind x.requests.received p) ∙ sym (ap has_close came);
+        closes = untold ∙ sym lawful.unclosed ∙ sym (has_close-packet x.requests.received p) ∙ sym (ap has_close came);
       }
 
   -- no packet came in, and the port was told to close where its ring gave Close
   pub in_order_rest : y.journal ≡ x.journal → item_packets y.requests.received ≡ item_packets x.requests.received → received_words y.requests ≡ received_words x.requests
-      → y.answers.state.closing ≡ has_ended y.requests → IsInOrder y
+      → y.answers.state.close_requested ≡ has_ended y.requests → IsDeviceInOrder y
   in_order_rest same packets words closes =
       let longer = ap length words in
       let room = o.room in
@@ -107,17 +104,19 @@ close_packets received = packets_joined received (items.Close ∷ []) ∙ append
 pub close_words : (received : List Item) → item_accesses (received ++ items.Close ∷ []) ≡ item_accesses received
 close_words received = item_more received items.Close ∙ append-nil (item_accesses received)
 
+-- the words of entries and of items are those of their packets
+words_of_entries : (list : List Entry) → entry_accesses list ≡ flat_map accesses_of (entry_packets list)
+words_of_entries [] = refl
+words_of_entries (e ∷ list) = ap (λ ws. accesses_of e.packet ++ ws) (words_of_entries list)
+
+words_of_items : (list : List Item) → item_accesses list ≡ flat_map accesses_of (item_packets list)
+words_of_items [] = refl
+words_of_items (items.Packet p ∷ list) = ap (λ ws. accesses_of p ++ ws) (words_of_items list)
+words_of_items (items.Close ∷ list) = words_of_items list
+
 -- where a journal has the packets that came in, it has their words
 pub words_that_came : (journal : List Entry) (received : List Item) → entry_packets journal ≡ item_packets received → entry_accesses journal ≡ item_accesses received
-words_that_came journal received same = by_packets journal ∙ ap (flat_map accesses_of) same ∙ sym (by_items received) where
-  by_packets : (list : List Entry) → entry_accesses list ≡ flat_map accesses_of (entry_packets list)
-  by_packets [] = refl
-  by_packets (e ∷ list) = ap (λ ws. accesses_of e.packet ++ ws) (by_packets list)
-
-  by_items : (list : List Item) → item_accesses list ≡ flat_map accesses_of (item_packets list)
-  by_items [] = refl
-  by_items (items.Packet p ∷ list) = ap (λ ws. accesses_of p ++ ws) (by_items list)
-  by_items (items.Close ∷ list) = by_items list
+words_that_came journal received same = words_of_entries journal ∙ ap (flat_map accesses_of) same ∙ sym (words_of_items received)
 
 -- where all entries of a journal are of one device, its words at that device are all its words
 pub words_of_device : (number : ℕ) (journal : List Entry) → All (λ e. e.device ≡ number) journal → journal_accesses journal number ≡ entry_accesses journal
@@ -128,7 +127,7 @@ words_of_device number (e ∷ journal) own =
     ∙ ap (λ ws. accesses_of e.packet ++ ws) (words_of_device number journal (All-tail (λ (e : Entry). e.device ≡ number) e journal own))
 
 -- a packet that may follow finds room in the journal
-pub room_for_entry : (d : DeviceSide) (p : Packet) → IsInOrder d → MayFollow d.requests.plan d.requests.received (items.Packet p) → 0 < d.journal.spare
+pub room_for_entry : (d : DeviceSide) (p : Packet) → IsDeviceInOrder d → MayFollow d.requests.plan d.requests.received (items.Packet p) → 0 < d.journal.spare
 room_for_entry d p o lawful = let some = some_accesses p in let room = o.room in let fits = lawful.room in omega (arith, some, room, fits)
 
 -- no request came in: nothing was served
@@ -145,7 +144,7 @@ served_none opening x y h none sound_before =
     }
 
 -- a request came in, and was served
-pub served_request : (opening : MemoryState) (round : ℕ) (x y : DeviceSide) → IsInOrder x → HasServed opening x → (s : ServesRequest round x y)
+pub served_request : (opening : MemoryState) (round : ℕ) (x y : DeviceSide) → IsDeviceInOrder x → HasServed opening x → (s : ServesRequest round x y)
     → MayFollow x.requests.plan x.requests.received (items.Packet s.request) → is_request s.request.cmd.op ≡ true → HasServed opening y
 served_request opening round x y o h s lawful asked =
     let p = s.request in

@@ -1,10 +1,10 @@
 -- What a device's rings carry: a request of one of their flows lies in the device's memory, and its answer is of the same flow.
 use Rattle.std.proofs.Common.{◌≡◌, ℕ, zero, suc, ◌+◌, ◌*◌, ◌/◌, ◌^◌, ◌<◌, ◌≤◌, Bool, true, false, true≢false, cond, List, [], ◌∷◌, length, refl, sym, ap, ◌∙◌, arith, eq-eqb}
-use Rattle.std.specs.Prelude.{◌&&◌, nat_le, not, Option, Some, None, slice_get}
+use Rattle.std.specs.Prelude.{nat_le, not, Option, Some, None, slice_get}
 use Rattle.std.specs.List.{position_from}
 use Rattle.std.specs.Option.{option_map, option_map_or}
 use Rattle.std.proofs.Math.Nat.{mul-le-mul_right}
-use Rattle.std.proofs.lemmas.Bool.{leb-true}
+use Rattle.std.proofs.lemmas.Bool.{leb-true, and_parts}
 use Rattle.std.proofs.Math.Pow.{pow_pos}
 use Rattle.sb_packet.specs.Messages.{Message, message_of, message_span}
 use Rattle.sb_packet.specs.Journals.{is_request}
@@ -38,11 +38,6 @@ place_passes test i (suc j) k (y ∷ ys) x e at is = by_test (test y) (λ later.
   by_test true more e = let same : i ≡ k = cc in absurd (omega arith)
   by_test false more e = more e
 
--- both parts of a test
-both : (a b : Bool) → (a && b) ≡ true → (a ≡ true) × (b ≡ true)
-both true b e = (refl, e)
-both false b e = absurd (true≢false (sym e))
-
 -- a flow that goes through, found by the place of its device
 found_flow : (flows : RingFlows) (host : ℕ) (found : Option ℕ) → option_map_or (goes_through flows) (option_map (λ d. record { host = host; device = d }) found) false ≡ true
     → (d : ℕ) × (found ≡ Some d) × (goes_through flows (record { host = host; device = d }) ≡ true)
@@ -72,7 +67,7 @@ request_in_range number memory requests answers p made planned asked =
     let own : f.0 ≡ number = made.own (record { host = m.host; device = f.0 }) f.2 in
     let holds = place_passes (holds_span (device_place m) (message_span m)) 0 number f.0 (device_ranges requests.flows) (record { base = memory.base; bytes = length memory.bytes }) f.1 (omega arith) made.range in
     let place : device_place m ≡ p.dst = rw asked refl in
-    let h = both (nat_le memory.base (device_place m)) (nat_le (device_place m + message_span m) (memory.base + length memory.bytes)) holds in
+    let h = and_parts (nat_le memory.base (device_place m)) (nat_le (device_place m + message_span m) (memory.base + length memory.bytes)) holds in
     let low = leb-true memory.base (device_place m) h.0 in
     let high = leb-true (device_place m + message_span m) (memory.base + length memory.bytes) h.1 in
     record { low = omega (arith, low, place); high = omega (arith, high, place) }

@@ -61,7 +61,7 @@ answers_more opening words more = ap (filter_map (λ answer. answer)) (answers_i
     ∙ filter_map-append (λ answer. answer) (answers_in opening words) (answers_in (memory_after opening words) more)
 
 -- the messages of two lists of items, one behind the other
-messages_joined : (xs ys : List Item) → item_messages (xs ++ ys) ≡ item_messages xs ++ item_messages ys
+pub messages_joined : (xs ys : List Item) → item_messages (xs ++ ys) ≡ item_messages xs ++ item_messages ys
 messages_joined [] ys = refl
 messages_joined (items.Packet p ∷ xs) ys = ap (λ ms. message_of p ∷ ms) (messages_joined xs ys)
 messages_joined (items.Close ∷ xs) ys = messages_joined xs ys

@@ -20,9 +20,9 @@ use Rattle.sb_device.specs.Steps.{IsRingHandled}
 use Rattle.sb_device.specs.Devices.{IsWholeDevice, IsDeviceTurn, device_moves}
 
 -- a device is done where its port sent its Close, since it tells the port to where its ring gave Close
-done_by_port : (port : PortSide) (ring : RingSide) → IsFit port.plan port.state → port.state.closing ≡ has_ended ring → is_done (port ∷ []) (ring ∷ []) ≡ port.state.shut
-done_by_port port ring fit closes = by_shut port.state.shut (has_ended ring) (λ shut. sym closes ∙ fit.told shut) where
-  by_shut : (shut ended : Bool) → (shut ≡ true → ended ≡ true) → ((shut && true) && (ended && true)) ≡ shut
+done_by_port : (port : PortSide) (ring : RingSide) → IsFit port.plan port.state → port.state.close_requested ≡ has_ended ring → is_done (port ∷ []) (ring ∷ []) ≡ port.state.close_sent
+done_by_port port ring fit closes = by_shut port.state.close_sent (has_ended ring) (λ close_sent. sym closes ∙ fit.told close_sent) where
+  by_shut : (close_sent ended : Bool) → (close_sent ≡ true → ended ≡ true) → ((close_sent && true) && (ended && true)) ≡ close_sent
   by_shut true true f = refl
   by_shut true false f = absurd (true≢false (sym (f refl)))
   by_shut false ended f = refl
@@ -116,8 +116,8 @@ module _ (x y : DeviceSide) (port_then : PortSide) where
         unmoved = ap (λ (f : Findings). f.moved) found_is;
         same = nothing_went clear.same empty.same;
         cause = λ undone.
-            let unshut : port_then.state.shut ≡ false = sym (done_by_port port_then y.requests whole.fit closes) ∙ undone in
-            let unended : has_ended y.requests ≡ false = sym closes ∙ untold (some_owed port_then.state.waiting) port_then.state.closing port_then.state.shut clear.ready unshut in (
+            let unshut : port_then.state.close_sent ≡ false = sym (done_by_port port_then y.requests whole.fit closes) ∙ undone in
+            let unended : has_ended y.requests ≡ false = sym closes ∙ untold (some_owed port_then.state.waiting) port_then.state.close_requested port_then.state.close_sent clear.ready unshut in (
               cause,
               ap (λ (f : Findings). first_cause (f.full ∷ f.waits ∷ f.empty ∷ [])) found_is,
               ap (λ b. first_cause ((if b then Some (causes.Full port_then.plan.ring (length port_then.state.sent) port_then.taken) else None) ∷ empty_cause y.requests ∷ [])) (clear.rest refl)
@@ -165,7 +165,7 @@ module _ (x y : DeviceSide) (port_then : PortSide) where
   -- the turn, as it is answered
   pub device_turned : (popped : Bool) (found found_then : Findings) (answer : Turn) → IsRingHandled x y no_findings found popped
       → IsPortTurned popped y.answers port_then found found_then → IsKeptPort x.answers y.answers → IsKeptPort y.answers port_then
-      → IsWholeDevice z → IsTurnOf found_then port_then.state.shut answer → IsPortServed x.answers port_then → IsDeviceTurn x answer z
+      → IsWholeDevice z → IsTurnOf found_then port_then.state.close_sent answer → IsPortServed x.answers port_then → IsDeviceTurn x answer z
   device_turned popped found found_then answer served turned kept kept_then whole told port_served =
       let done = sym (done_by_port port_then y.requests whole.fit whole.in_order.closes) in
       let said = answered_by found_then before after done_then causes_then AtRest answer (came_of popped found found_then served turned kept kept_then whole)

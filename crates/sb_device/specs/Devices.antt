@@ -15,12 +15,12 @@ use Rattle.sb_node.specs.Steps.{HasFewMore, IsBlockedPort, IsPortServed, IsRingS
 use Rattle.sb_device.specs.Sides.{DeviceSide, held_bytes}
 use Rattle.sb_device.specs.Served.{HasServed}
 use Rattle.sb_device.specs.Requests.{DeviceSteps, no_step, steps_joined}
-use Rattle.sb_device.specs.Plans.{IsInOrder}
+use Rattle.sb_device.specs.Plans.{IsDeviceInOrder}
 
 -- A device is whole: its port is fit, and it is in order.
 pub record IsWholeDevice (d : DeviceSide) : Type 0 where
   pub fit : IsFit d.answers.plan d.answers.state
-  pub in_order : IsInOrder d
+  pub in_order : IsDeviceInOrder d
 
 -- entries came behind a journal, all of that round and that device
 pub record IsJournalled (round device : ℕ) (before after : List Entry) : Type 0 where

@@ -15,11 +15,11 @@ pub record IsPlannedFor (number : ℕ) (memory : MemoryState) (requests answers 
   pub range : slice_get (device_ranges requests.flows) number ≡ Some (record { base = memory.base; bytes = held_bytes memory })
 
 -- What always holds of a device at its rings.
-pub record IsInOrder (d : DeviceSide) : Type 0 where
+pub record IsDeviceInOrder (d : DeviceSide) : Type 0 where
   pub planned : IsPlannedFor d.number d.memory d.requests.plan d.answers.plan
   -- its journal is what came in, each entry its own, and has room for what may still come
   pub journalled : entry_packets d.journal.entries ≡ item_packets d.requests.received
   pub own_entries : All (λ e. e.device ≡ d.number) d.journal.entries
   pub room : d.requests.plan.budget ≤ length (received_words d.requests) + d.journal.spare
   -- it was told to close where its ring gave Close
-  pub closes : d.answers.state.closing ≡ has_ended d.requests
+  pub closes : d.answers.state.close_requested ≡ has_ended d.requests

@@ -11,7 +11,7 @@ ghost use Rattle.sb_device.specs.Served.{HasServed};
 ghost use Rattle.sb_device.specs.Devices.{IsWholeDevice};
 ghost use Rattle.sb_device.specs.contracts.device.Device.{the_row};
 
-use crate::bank::Bank;
+use crate::device_state::DeviceState;
 use crate::serving::turn_ends;
 use sb_drive::Node;
 use sb_link::{Fabric, RxEnd, Turn};
@@ -25,7 +25,7 @@ use std::marker::Model;
 /// request into its journal, and answers.
 #[derive(Drop)]
 pub struct Device<F: Fabric> {
-    bank: Bank,
+    state: DeviceState,
     requests: F::Rx,
     answers: OutPort<F::Tx>,
 }
@@ -36,7 +36,7 @@ impl<F: Fabric> Model for Device<F> {
 
     ghost Value = { DeviceSide };
 
-    ghost view = { λ d. side_of F.Rx.RxEnd d.bank d.requests d.answers };
+    ghost view = { λ d. side_of F.Rx.RxEnd d.state d.requests d.answers };
 }
 
 impl<F: Fabric> Node for Device<F> {
@@ -60,7 +60,12 @@ impl<F: Fabric> Node for Device<F> {
     ghost rests_transitive = { λ x y z a b. rested_device_then _ _ _ a b };
 
     fn turn(&mut self, round: u32) -> Turn {
-        turn_ends(&mut self.bank, &mut self.requests, &mut self.answers, round)
+        turn_ends(
+            &mut self.state,
+            &mut self.requests,
+            &mut self.answers,
+            round,
+        )
     }
 }
 
@@ -99,7 +104,7 @@ impl<F: Fabric> Device<F> {
             answers,
         } = leg;
         Ok(Device {
-            bank: Bank {
+            state: DeviceState {
                 number,
                 memory,
                 journal,
@@ -113,14 +118,14 @@ impl<F: Fabric> Device<F> {
     pub fn journal(&self) -> &[Entry]
         ensures { result.now ≡ self.now.journal.entries }
     {
-        self.bank.journal.entries()
+        self.state.journal.entries()
     }
 
     /// The bytes of its memory, in the order of addresses.
     pub fn image(&self) -> &[u8]
         ensures { result.now ≡ self.now.memory.bytes }
     {
-        self.bank.memory.image()
+        self.state.memory.image()
     }
 
     /// Lends the port by which answers go out, so that its end can meet the other one.
@@ -142,7 +147,7 @@ impl<F: Fabric> Device<F> {
     }
 
     /// Takes the device apart: the end of its ring, its port, and its memory with the journal. Takes no memory.
-    pub fn into_parts(self) -> (F::Rx, OutPort<F::Tx>, Bank)
+    pub fn into_parts(self) -> (F::Rx, OutPort<F::Tx>, DeviceState)
         ensures requests { ring_side F.Rx.RxEnd result.0 ≡ self.requests }
         ensures answers { result.1 ≡ self.answers }
         ensures number { result.2.number ≡ self.number }
@@ -150,10 +155,10 @@ impl<F: Fabric> Device<F> {
         ensures journal { result.2.journal ≡ self.journal }
     {
         let Device {
-            bank,
+            state,
             requests,
             answers,
         } = self;
-        (requests, answers, bank)
+        (requests, answers, state)
     }
 }

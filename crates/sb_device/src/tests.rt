@@ -3,7 +3,7 @@
 ghost use Rattle.std.specs.Prelude.{◌≡◌, ◌≤◌, ◌⊎◌};
 ghost use Rattle.sb_word.specs.declared.command.Op.TheVariants.{ReqWr, ReqWrPosted};
 
-use crate::bench::{BASE, Course, see};
+use crate::harness::{BASE, Course, see};
 use sb_link::{Cause, SerialFabric, Turn};
 use sb_packet::{Cmd, Item, Op, Packet};
 use std::alloc::Global;

@@ -37,7 +37,7 @@ script_count host p passes i (t ∷ script) tells lines =
     ∙ rw (filter-constant p (access_at (transaction_message host i t)) (passes t) 0 t.count (λ k h. tells t lines.0 i k (omega arith)), script_count host p passes (i + 1) script tells lines.1) (sym (sum_by-cons (λ t. if passes t then t.count else 0) t script))
 
 -- a transaction asks
-request_asks : (kind : Kind) → is_request (request_of kind) ≡ true
+pub request_asks : (kind : Kind) → is_request (request_of kind) ≡ true
 request_asks Read = refl
 request_asks Write = refl
 request_asks Posted = refl

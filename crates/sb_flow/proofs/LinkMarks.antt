@@ -61,7 +61,7 @@ pub marks_in-all : (n i : ℕ) (legs : List Leg) (on : List Bool) → length leg
 marks_in-all n i legs on h so_far = rw (take_all i legs h) at so_far
 
 -- a search over what is mapped
-list_any-map : {A B : Type 0} (p : B → Bool) (f : A → B) (xs : List A) → list_any p (map f xs) ≡ list_any (λ x. p (f x)) xs
+pub list_any-map : {A B : Type 0} (p : B → Bool) (f : A → B) (xs : List A) → list_any p (map f xs) ≡ list_any (λ x. p (f x)) xs
 list_any-map p f [] = refl
 list_any-map p f (x ∷ xs) = rw (list_any-map p f xs) refl
 

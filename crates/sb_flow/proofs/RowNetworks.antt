@@ -8,7 +8,7 @@ use Rattle.sb_flow.specs.Limits.{is_limited, word_count}
 use Rattle.sb_flow.specs.Names.{names_what_is_there, repeated_id, repeated_link_name, repeated_name}
 use Rattle.sb_flow.specs.Ranges.{misplaced_device, overfull_device, overlapping_device}
 use Rattle.sb_flow.specs.Routes.{route_fault}
-use Rattle.sb_flow.specs.Rows.{device_of, host_of, link_of, router_of, rows_network}
+use Rattle.sb_flow.specs.Rows.{device_of, host_of, link_of, net_router_of, rows_network}
 use Rattle.sb_flow.specs.declared.device_plan.DevicePlan.{DevicePlan}
 use Rattle.sb_flow.specs.declared.host_plan.HostPlan.{HostPlan}
 use Rattle.sb_flow.specs.declared.link_row.LinkRow.{LinkRow}
@@ -34,7 +34,7 @@ Kept network = record {
 }
 
 module _ (network : Network) (hosts : List HostPlan) (routers : List RouterPlan) (devices : List DevicePlan) (links : List LinkRow)
-    (hosts_are : map host_of hosts ≡ network.hosts) (routers_are : map (router_of (length network.devices)) routers ≡ network.routers)
+    (hosts_are : map host_of hosts ≡ network.hosts) (routers_are : map (net_router_of (length network.devices)) routers ≡ network.routers)
     (devices_are : map device_of devices ≡ network.devices) (links_are : map link_of links ≡ network.links) where
   many : length devices ≡ length network.devices
   many = sym (length-map devices device_of) ∙ ap length devices_are

@@ -14,6 +14,7 @@ use Rattle.sb_flow.specs.Ends.{goes_back, joins}
 use Rattle.sb_flow.specs.Routes.{RouteAt, is_other_device, lost_behind, lost_flow, lost_of_host, lost_on_way, stray_route}
 use Rattle.sb_flow.proofs.Clashes.{cond-None, first_told-None, option_map-None, option_or-None}
 use Rattle.sb_flow.proofs.AcceptedLinks.{at_range, got_below, link_forward, link_joins, route_leads_on}
+use Rattle.sb_flow.proofs.Walks.{links_from-None}
 
 -- the links rise by rank, from one on
 abbrev RisesFrom : Network → ℕ → List ℕ → Type 0
@@ -39,7 +40,7 @@ before-is : (network : Network) (k : ℕ) (l : NetLink) (from : NetPlace) → sl
 before-is network k l from got at = ap (λ (found : Option NetLink). option_and_then (λ link. router_of link.from) found) got ∙ ap router_of at
 
 -- a number that is told
-some_number-is : (n : ℕ) (found : Option ℕ) → is_some_number n found ≡ true → found ≡ Some n
+pub some_number-is : (n : ℕ) (found : Option ℕ) → is_some_number n found ≡ true → found ≡ Some n
 some_number-is n None h = cc
 some_number-is n (Some k) h = ap Some (eqb-true k n h)
 
@@ -48,15 +49,10 @@ leaves_router : (found : Option NetLink) (r : ℕ) → option_and_then (λ link.
 leaves_router None r h = cc
 leaves_router (Some l) r h = (l, (refl, h))
 
-place-is : (from : NetPlace) (r : ℕ) → router_of from ≡ Some r → from ≡ at_router r
+pub place-is : (from : NetPlace) (r : ℕ) → router_of from ≡ Some r → from ≡ at_router r
 place-is (at_host h) r e = cc
 place-is (at_device d) r e = cc
 place-is (at_router q) r e = let same : q ≡ r = cc in ap at_router same
-
--- behind no link there are none
-none_behind : (n : ℕ) (network : Network) (d : ℕ) → links_from n network d None ≡ []
-none_behind zero network d = refl
-none_behind (suc n) network d = refl
 
 -- a link that leads to a router has a lower rank than those that leave it
 rank_below : (network : Network) (k r : ℕ) (l : NetLink) → IsAccepted network → slice_get network.links k ≡ Some l → l.to ≡ at_router r → link_rank network k ≤ r
@@ -79,7 +75,7 @@ tail_at_end network d n k e l on at =
     let over : next_link network d k ≡ None = ap (option_and_then (route_at network d)) (after-is network k l (at_device e) on.got at) in
     let other : is_other_device d (at_device e) ≡ false = subst (λ (to : NetPlace). is_other_device d to ≡ false) at on.straight in
     let leads : leads_to d l ≡ true = subst (λ (to : NetPlace). leads_to d (record l { to = to }) ≡ true) (sym at) (not-false (e == d) other) in
-    subst (λ (links : List ℕ). IsTail network d (link_rank network k) (k ∷ links)) (sym (ap (links_from n network d) over ∙ none_behind n network d)) (record { ends = rw on.got leads; joined = tt; rising = (omega arith, tt) })
+    subst (λ (links : List ℕ). IsTail network d (link_rank network k) (k ∷ links)) (sym (ap (links_from n network d) over ∙ links_from-None n network d)) (record { ends = rw on.got leads; joined = tt; rising = (omega arith, tt) })
 
 -- a router on the way that isn't lost has a route
 route_there : (network : Network) (d k r : ℕ) → router_after network k ≡ Some r → lost_behind network d k ≡ None → (j : ℕ) × (route_at network d r ≡ Some j)

@@ -24,7 +24,7 @@ sum_by-plus f g [] = refl
 sum_by-plus f g (x ∷ xs) = omega (arith, sum_by-cons (λ x. f x + g x) x xs, sum_by-cons f x xs, sum_by-cons g x xs, sum_by-plus f g xs)
 
 -- nothing added up is nothing
-sum_by-zeros : {A : Type 0} (xs : List A) → sum_by (λ x. 0) xs ≡ 0
+pub sum_by-zeros : {A : Type 0} (xs : List A) → sum_by (λ x. 0) xs ≡ 0
 sum_by-zeros [] = refl
 sum_by-zeros (x ∷ xs) = omega (arith, sum_by-cons (λ x. 0) x xs, sum_by-zeros xs)
 

@@ -16,26 +16,43 @@ odd_width network = position_from (λ l. not (is_width_now l.width)) 0 network.l
 
 -- a link goes from a host to a router, from a router to a router, or from a router to a device
 abbrev pub joins : NetPlace → NetPlace → Bool
+joins (at_host h) (at_host k) = false
 joins (at_host h) (at_router r) = true
+joins (at_host h) (at_device d) = false
+joins (at_router r) (at_host h) = false
 joins (at_router r) (at_router q) = true
 joins (at_router r) (at_device d) = true
-joins _ _ = false
+joins (at_device d) (at_host h) = false
+joins (at_device d) (at_router r) = false
+joins (at_device d) (at_device k) = false
 
 -- the wire goes from a router of side 0 to one of side 1, and no other link joins routers of different sides
 abbrev pub keeps_sides : Network → Bool → NetPlace → NetPlace → Bool
 keeps_sides network true (at_router r) (at_router q) = (side_at network (at_router r) == 0) && (side_at network (at_router q) == 1)
-keeps_sides network true _ _ = false
+keeps_sides network true (at_router r) (at_host h) = false
+keeps_sides network true (at_router r) (at_device d) = false
+keeps_sides network true (at_host h) to = false
+keeps_sides network true (at_device d) to = false
 keeps_sides network false (at_router r) (at_router q) = side_at network (at_router r) == side_at network (at_router q)
-keeps_sides network false _ _ = true
+keeps_sides network false (at_router r) (at_host h) = true
+keeps_sides network false (at_router r) (at_device d) = true
+keeps_sides network false (at_host h) to = true
+keeps_sides network false (at_device d) to = true
 
 -- two links leave one host, or lead to one device
 abbrev pub same_host : NetPlace → NetPlace → Bool
 same_host (at_host h) (at_host k) = h == k
-same_host _ _ = false
+same_host (at_host h) (at_router r) = false
+same_host (at_host h) (at_device d) = false
+same_host (at_router r) to = false
+same_host (at_device d) to = false
 
 abbrev pub same_device : NetPlace → NetPlace → Bool
 same_device (at_device d) (at_device k) = d == k
-same_device _ _ = false
+same_device (at_device d) (at_host h) = false
+same_device (at_device d) (at_router r) = false
+same_device (at_host h) to = false
+same_device (at_router r) to = false
 
 abbrev pub share_an_end : NetLink → NetLink → Bool
 share_an_end x y = same_host x.from y.from || same_device x.to y.to
@@ -56,7 +73,10 @@ unfit_link network = unfit_behind network [] network.links
 -- a link goes from a router to itself or to an earlier one
 abbrev pub goes_back : NetPlace → NetPlace → Bool
 goes_back (at_router r) (at_router q) = nat_le q r
-goes_back _ _ = false
+goes_back (at_router r) (at_host h) = false
+goes_back (at_router r) (at_device d) = false
+goes_back (at_host h) to = false
+goes_back (at_device d) to = false
 
 -- The first link that does.
 abbrev pub backward_link : Network → Option ℕ

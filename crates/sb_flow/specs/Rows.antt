@@ -19,8 +19,8 @@ abbrev pub host_of : HostPlan → NetHost
 host_of h = record { name = h.name; id = h.id; qos = h.qos; prot = h.prot; script = h.script }
 
 -- a router, whose routes are those to so many devices
-abbrev pub router_of : ℕ → RouterPlan → NetRouter
-router_of devices r = record { name = r.name; side = r.side; routes = take devices r.routes }
+abbrev pub net_router_of : ℕ → RouterPlan → NetRouter
+net_router_of devices r = record { name = r.name; side = r.side; routes = take devices r.routes }
 
 -- a device
 abbrev pub device_of : DevicePlan → NetDevice
@@ -34,7 +34,7 @@ link_of l = record { name = l.name; from = place_of l.from; to = place_of l.to; 
 abbrev pub rows_network : List HostPlan → List RouterPlan → List DevicePlan → List LinkRow → Option ℕ → Network
 rows_network hosts routers devices links wire = record {
   hosts = map host_of hosts;
-  routers = map (router_of (length devices)) routers;
+  routers = map (net_router_of (length devices)) routers;
   devices = map device_of devices;
   links = map link_of links;
   wire = wire;

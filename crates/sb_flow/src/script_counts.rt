@@ -32,7 +32,10 @@ fn words_of(txn: &Txn, device: &DevicePlan) -> u32
 fn is_answered(kind: Kind) -> bool
     ensures { result ≡ is_answered_kind kind }
 {
-    !matches!(kind, Kind::Posted)
+    match kind {
+        Kind::Read | Kind::Write | Kind::Atomic(_) => true,
+        Kind::Posted => false,
+    }
 }
 
 /// The words of a transaction, where it is at a device that answers it.

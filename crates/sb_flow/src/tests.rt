@@ -2,7 +2,7 @@
 
 ghost use Rattle.std.specs.Prelude.{◌≡◌, ◌<◌, [], ◌∷◌, map, Some, IfOk};
 ghost use Rattle.std.specs.List.{range_with_len};
-ghost use Rattle.sb_flow.specs.Rows.{device_of, host_of, link_of, router_of};
+ghost use Rattle.sb_flow.specs.Rows.{device_of, host_of, link_of, net_router_of};
 ghost use Rattle.sb_flow.specs.NetworkOf.{network_of};
 ghost use Rattle.sb_flow.specs.Samples.{chain as chain_network, chain_device, chain_host, chain_link as chain_link_at, chain_router as chain_router_at, chain_script, label as label_of};
 
@@ -88,7 +88,7 @@ fn devices(alloc: Global) -> Result<Vec<DevicePlan>, Fail>
 /// A router of the chain.
 fn chain_router(number: u8) -> Result<RouterPlan, Fail>
     requires { number < 32 }
-    ensures { IfOk result (λ router. router_of 1 router ≡ chain_router_at number) }
+    ensures { IfOk result (λ router. net_router_of 1 router ≡ chain_router_at number) }
 {
     let name = label(114, number)?;
     let side = if number < 16 { 0 } else { 1 };
@@ -125,7 +125,7 @@ fn chain_link(number: u8) -> Result<LinkRow, Fail>
 
 /// The chain's routers.
 fn routers(alloc: Global) -> Result<Vec<RouterPlan>, Fail>
-    ensures { IfOk result (λ routers. map (router_of 1) routers.items ≡ map chain_router_at (range_with_len 0 32)) }
+    ensures { IfOk result (λ routers. map (net_router_of 1) routers.items ≡ map chain_router_at (range_with_len 0 32)) }
 {
     let mut routers = Vec::new(alloc);
     for number in 0..32 {

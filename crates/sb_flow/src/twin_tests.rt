@@ -2,7 +2,7 @@
 
 ghost use Rattle.std.specs.Prelude.{◌≡◌, ◌≤◌, ◌<◌, ◌+◌, ◌*◌, [], ◌∷◌, map, false, None, All, IfOk};
 ghost use Rattle.sb_packet.specs.Scripts.{IsTransaction};
-ghost use Rattle.sb_flow.specs.Rows.{device_of, host_of, link_of, place_of, router_of};
+ghost use Rattle.sb_flow.specs.Rows.{device_of, host_of, link_of, place_of, net_router_of};
 ghost use Rattle.sb_flow.specs.NetworkOf.{network_of};
 ghost use Rattle.sb_flow.specs.Samples.{label as label_of, page_device as page_device_at, plain_link as plain_link_at, twin_hosts, twin_links, twin_routers, twin_script, twins as twin_network};
 
@@ -60,7 +60,7 @@ fn hosts(alloc: Global) -> Result<Vec<HostPlan>, Fail>
 
 /// The routers.
 fn routers(alloc: Global) -> Result<Vec<RouterPlan>, Fail>
-    ensures { IfOk result (λ routers. map (router_of 2) routers.items ≡ twin_routers) }
+    ensures { IfOk result (λ routers. map (net_router_of 2) routers.items ≡ twin_routers) }
 {
     let mut routes = [None; 32];
     routes[0] = Some(2);

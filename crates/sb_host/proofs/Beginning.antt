@@ -7,6 +7,7 @@ use Rattle.std.proofs.lemmas.Bool.Decides.{nat_tests}
 use Rattle.std.proofs.lemmas.Grind.{flat_map-append}
 use Rattle.std.proofs.lemmas.List.{get_or-map, length-map}
 use Rattle.std.proofs.lemmas.List.Elements.{All-nil, All-cons, All-head, All-tail}
+use Rattle.std.proofs.lemmas.Bool.{and_parts}
 use Rattle.sb_packet.specs.Accesses.{Access, message_accesses}
 use Rattle.sb_packet.specs.Cuts.{cut_parts}
 use Rattle.sb_packet.specs.Networks.{NetHost, Network}
@@ -23,19 +24,18 @@ use Rattle.sb_flow.specs.NetworkOf.{network_of}
 use Rattle.sb_flow.specs.Rows.{host_of}
 use Rattle.sb_flow.specs.declared.bundle.Bundle.{Bundle}
 use Rattle.sb_flow.specs.declared.host_plan.HostPlan.{HostPlan}
-use Rattle.sb_host.specs.declared.line.Line.{Line}
-use Rattle.sb_host.specs.declared.orders.Orders.{Orders}
+use Rattle.sb_host.specs.declared.transaction_plan.TransactionPlan.{TransactionPlan}
+use Rattle.sb_host.specs.declared.script_plan.ScriptPlan.{ScriptPlan}
 use Rattle.sb_host.specs.Asked.{Asked, accesses_from, line_accesses, line_in, line_message, packets_from, sent_accesses, sent_packets}
-use Rattle.sb_host.specs.Hosts.{IsInOrder}
+use Rattle.sb_host.specs.Hosts.{IsHostInOrder}
 use Rattle.sb_host.specs.Issuing.{IsMadeFor, packets_left}
 use Rattle.sb_host.specs.Lines.{AreTransactions}
 use Rattle.sb_host.specs.Places.{AreIssuable, asked_of}
 use Rattle.sb_host.specs.Progress.{TransactionsSide}
 use Rattle.sb_host.specs.Rows.{IsTable}
-use Rattle.sb_host.proofs.TableSteps.{both_true}
 
 -- the words of a transaction's packets are its words
-words_of_line : (asked : Asked) (i : ℕ) (l : Line) → flat_map message_accesses (sent_packets asked i l) ≡ sent_accesses asked i l
+words_of_line : (asked : Asked) (i : ℕ) (l : TransactionPlan) → flat_map message_accesses (sent_packets asked i l) ≡ sent_accesses asked i l
 words_of_line asked i l =
     elim (l.aimed) as (λ b. flat_map message_accesses (if b then cut_parts 32 (line_message asked i l) else []) ≡ (if b then line_accesses asked i l else [])) [
       | true ↦ words_of_cut 32 (line_message asked i l)
@@ -43,39 +43,39 @@ words_of_line asked i l =
     ]
 
 -- the words of all packets are all words
-pub words_of_packets : (asked : Asked) (i : ℕ) (lines : List Line) → flat_map message_accesses (packets_from asked i lines) ≡ accesses_from asked i lines
+pub words_of_packets : (asked : Asked) (i : ℕ) (lines : List TransactionPlan) → flat_map message_accesses (packets_from asked i lines) ≡ accesses_from asked i lines
 words_of_packets asked i [] = refl
 words_of_packets asked i (l ∷ lines) =
     flat_map-append message_accesses (sent_packets asked i l) (packets_from asked (i + 1) lines)
     ∙ ap (λ (words : List Access). words ++ flat_map message_accesses (packets_from asked (i + 1) lines)) (words_of_line asked i l)
     ∙ ap (λ (words : List Access). sent_accesses asked i l ++ words) (words_of_packets asked (i + 1) lines)
 
--- what orders ask for can be issued
-pub orders_issuable : (orders : Orders) → AreIssuable (asked_of orders)
-orders_issuable orders = record { id = orders.id_fits; qos = orders.qos_fits; prot = orders.prot_fits; few = orders.few; lines = orders.issuable }
+-- what the plan of a script asks for can be issued
+pub orders_issuable : (script_plan : ScriptPlan) → AreIssuable (asked_of script_plan)
+orders_issuable script_plan = record { id = script_plan.id_fits; qos = script_plan.qos_fits; prot = script_plan.prot_fits; few = script_plan.few; lines = script_plan.issuable }
 
 -- a host that has offered nothing and received nothing
 pub begins_in_order : (t : TransactionsSide) (port : PortSide) (ring : RingSide) → t ≡ record { asked = t.asked; rows = t.rows; next = 0; part = 0; ended = false }
     → AreIssuable t.asked → IsMadeFor port.plan t.asked
-    → port.state ≡ record { sent = []; waiting = nothing_waits port.plan.width; closing = false; shut = false; claimed = 0 } → ring.received ≡ [] → IsTable t.asked [] t.rows
-    → IsInOrder t port ring
+    → port.state ≡ record { sent = []; waiting = nothing_waits port.plan.width; close_requested = false; close_sent = false; words_offered = 0 } → ring.received ≡ [] → IsTable t.asked [] t.rows
+    → IsHostInOrder t port ring
 begins_in_order t port ring new issuable made state received table =
-    let begins : IsInOrder (record { asked = t.asked; rows = t.rows; next = 0; part = 0; ended = false }) port ring = record {
+    let begins : IsHostInOrder (record { asked = t.asked; rows = t.rows; next = 0; part = 0; ended = false }) port ring = record {
       issuable = issuable;
       made = made;
       come = record { within = omega arith; begun = λ some d. absurd (omega arith) };
       offered = ap (λ (s : PortState). port_accesses s ++ flat_map message_accesses (packets_left t.asked 0 0)) state ∙ words_of_packets t.asked 0 t.asked.lines;
-      closes = λ told. absurd (true≢false (sym told ∙ ap (λ (s : PortState). s.closing) state));
+      closes = λ told. absurd (true≢false (sym told ∙ ap (λ (s : PortState). s.close_requested) state));
       table = subst (λ (list : List Item). IsTable t.asked (item_accesses list) t.rows) (sym received) table;
       ends = sym (ap (λ (list : List Item). has_ended (record ring { received = list })) received);
     } in
-    subst (λ (x : TransactionsSide). IsInOrder x port ring) (sym new) begins
+    subst (λ (x : TransactionsSide). IsHostInOrder x port ring) (sym new) begins
 
 -- what all pass one passes
 pub passes_at : {X : Type 0} (test : X → Bool) (xs : List X) (i : ℕ) (d : X) → list_all test xs ≡ true → i < length xs → test (get_or xs i d) ≡ true
 passes_at test [] i d all below = absurd (omega arith)
-passes_at test (x ∷ xs) zero d all below = (both_true (test x) (list_all test xs) all).0
-passes_at test (x ∷ xs) (suc i) d all below = passes_at test xs i d (both_true (test x) (list_all test xs) all).1 (omega arith)
+passes_at test (x ∷ xs) zero d all below = (and_parts (test x) (list_all test xs) all).0
+passes_at test (x ∷ xs) (suc i) d all below = passes_at test xs i d (and_parts (test x) (list_all test xs) all).1 (omega arith)
 
 pub host_limits : (network : Network) → is_limited network ≡ true → list_all is_limited_host network.hosts ≡ true
 host_limits network h = grind (arith, h)
@@ -89,9 +89,9 @@ pub record HasLimits (h : NetHost) : Type 0 where
 
 pub limits_of : (h : NetHost) → is_limited_host h ≡ true → HasLimits h
 limits_of h e =
-    let three = both_true (nat_le h.id 31 && nat_le h.qos 15 && nat_le h.prot 3) (nat_le (length h.script) 65536) e in
-    let two = both_true (nat_le h.id 31 && nat_le h.qos 15) (nat_le h.prot 3) three.0 in
-    let one = both_true (nat_le h.id 31) (nat_le h.qos 15) two.0 in
+    let three = and_parts (nat_le h.id 31 && nat_le h.qos 15 && nat_le h.prot 3) (nat_le (length h.script) 65536) e in
+    let two = and_parts (nat_le h.id 31 && nat_le h.qos 15) (nat_le h.prot 3) three.0 in
+    let one = and_parts (nat_le h.id 31) (nat_le h.qos 15) two.0 in
     let a = one.0 in
     let b = one.1 in
     let c = two.1 in
@@ -104,7 +104,7 @@ lines_issuable network (t ∷ script) all =
     All-cons (λ l. IsTransaction l.txn) (line_in network t) (map (line_in network) script) (All-head IsTransaction t script all) (lines_issuable network script (All-tail IsTransaction t script all))
 
 -- what a host of a bundle asks for can be issued
-pub bundle_issuable : (b : Bundle) (h : ℕ) (plan : HostPlan) (lines : List Line) → h < length b.hosts.items → plan ≡ get_or b.hosts.items h plan → lines ≡ map (line_in (network_of b)) plan.script
+pub bundle_issuable : (b : Bundle) (h : ℕ) (plan : HostPlan) (lines : List TransactionPlan) → h < length b.hosts.items → plan ≡ get_or b.hosts.items h plan → lines ≡ map (line_in (network_of b)) plan.script
     → AreIssuable (record { id = plan.id; qos = plan.qos; prot = plan.prot; lines = lines })
 bundle_issuable b h plan lines inside at is =
     let network = network_of b in

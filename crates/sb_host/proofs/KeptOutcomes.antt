@@ -16,11 +16,11 @@ use Rattle.sb_packet.specs.declared.transaction.Kind.TheVariants.{Read, Write, P
 use Rattle.sb_packet.specs.declared.transaction.TxnState.TheVariants as states
 use Rattle.sb_packet.proofs.JoinedAnswers.{answer_code-append}
 use Rattle.sb_packet.proofs.Ranges.{range_agrees}
-use Rattle.sb_host.specs.declared.line.Line.{Line}
-use Rattle.sb_host.specs.declared.row.Row.{Row}
+use Rattle.sb_host.specs.declared.transaction_plan.TransactionPlan.{TransactionPlan}
+use Rattle.sb_host.specs.declared.answer_row.AnswerRow.{AnswerRow}
 use Rattle.sb_host.specs.Asked.{Asked, line_accesses, line_message}
 use Rattle.sb_host.specs.Outcomes.{answer_so_far, line_outcome, outcome_by, outcome_so_far}
-use Rattle.sb_host.specs.Rows.{IsRow, answer_bytes, answer_width, bytes_or_zeros, device_answer, device_answers, kept_outcome, settled_outcome}
+use Rattle.sb_host.specs.Rows.{IsRow, answer_bytes, answer_width, bytes_or_zeros, device_answer, line_answers, kept_outcome, settled_outcome}
 use Rattle.sb_host.proofs.RowAnswers.{found}
 
 list_all_agree : {X : Type 0} (p q : X → Bool) (xs : List X) → ((x : X) → p x ≡ q x) → list_all p xs ≡ list_all q xs
@@ -46,7 +46,7 @@ all_bytes width (None ∷ xs) all = absurd (cc)
 all_bytes width (Some x ∷ xs) all = ap (λ rest. x.bytes ++ rest) (all_bytes width xs all)
 
 -- a transaction that is aimed at a device
-aimed_outcome : (kind : Kind) (width : ℕ) (answers : List (Option Access)) (passed : Bool) (row : Row) → IsRow width answers row
+aimed_outcome : (kind : Kind) (width : ℕ) (answers : List (Option Access)) (passed : Bool) (row : AnswerRow) → IsRow width answers row
     → outcome_so_far kind answers ≡ kept_outcome kind true passed row
 aimed_outcome kind width answers passed row is =
     by_kind kind where
@@ -102,7 +102,7 @@ module _ (g : ℕ → Access) (width : ℕ) (code : (j : ℕ) → (g j).tail ≡
       joined ∙ omega (arith, few, here)
 
   -- the outcome of such a transaction
-  lost_outcome : (kind : Kind) (n : ℕ) (row : Row) → 0 < n
+  lost_outcome : (kind : Kind) (n : ℕ) (row : AnswerRow) → 0 < n
       → ((list : List Access) → outcome_of kind list ≡ record { state = states.Answered (code_numbered (answer_code list)); body = answer_body list })
       → row.body.items ≡ flat_map (bytes_or_zeros width) (map (λ j. None) (range_with_len 0 n))
       → outcome_by kind (map (λ j. Some (g j)) (range_with_len 0 n)) ≡ settled_outcome false true row
@@ -123,7 +123,7 @@ none_all a zero some = absurd (omega arith)
 none_all a (suc n) some = refl
 
 -- a transaction that is aimed at none
-unaimed_outcome : (asked : Asked) (received : List Access) (passed : Bool) (i : ℕ) (l : Line) (kind : Kind) (row : Row) → l.txn.kind ≡ kind → 0 < l.txn.count
+unaimed_outcome : (asked : Asked) (received : List Access) (passed : Bool) (i : ℕ) (l : TransactionPlan) (kind : Kind) (row : AnswerRow) → l.txn.kind ≡ kind → 0 < l.txn.count
     → IsRow (answer_width l) (map (device_answer received false) (line_accesses asked i l)) row
     → outcome_so_far kind (map (answer_so_far received false passed) (line_accesses asked i l)) ≡ kept_outcome kind false passed row
 unaimed_outcome asked received passed i l kind row is some kept = by_kind kind is passed where
@@ -158,8 +158,8 @@ unaimed_outcome asked received passed i l kind row is some kept = by_kind kind i
       (ap (λ (k : Kind). answer_bytes k (2 ^ l.txn.size)) is) (λ j. refl) (λ j. refl) (λ j. ap (λ (k : Kind). unreached_by (request_of k) (access_at (line_message asked i l) j)) is) (λ list. refl)
 
 -- What a row tells of a transaction is what has become of it.
-pub outcome_told : (asked : Asked) (received : List Access) (passed : Bool) (i : ℕ) (l : Line) (row : Row) → 0 < l.txn.count
-    → IsRow (answer_width l) (device_answers asked received i l) row → line_outcome asked received passed i l ≡ kept_outcome l.txn.kind l.aimed passed row
+pub outcome_told : (asked : Asked) (received : List Access) (passed : Bool) (i : ℕ) (l : TransactionPlan) (row : AnswerRow) → 0 < l.txn.count
+    → IsRow (answer_width l) (line_answers asked received i l) row → line_outcome asked received passed i l ≡ kept_outcome l.txn.kind l.aimed passed row
 outcome_told asked received passed i l row some kept =
     elim (l.aimed) as (λ b. IsRow (answer_width l) (map (device_answer received b) (line_accesses asked i l)) row → outcome_so_far l.txn.kind (map (answer_so_far received b passed) (line_accesses asked i l)) ≡ kept_outcome l.txn.kind b passed row) [
       | true ↦ λ kept. aimed_outcome l.txn.kind (answer_width l) (map (device_answer received true) (line_accesses asked i l)) passed row kept

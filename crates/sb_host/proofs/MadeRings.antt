@@ -12,23 +12,16 @@ use Rattle.sb_packet.specs.Messages.{Message, message_span}
 use Rattle.sb_packet.specs.Networks.{NetHost, Network, device_at, has_address}
 use Rattle.sb_packet.specs.Plans.{NetFlow, device_ranges, goes_home, goes_through, holds_span, message_flow}
 use Rattle.sb_packet.specs.Rings.{is_upward, ring_flows, ring_plan}
-use Rattle.sb_packet.specs.Scripts.{IsTransaction, request_of}
+use Rattle.sb_packet.specs.Scripts.{IsTransaction}
 use Rattle.sb_packet.specs.Soundness.{device_place}
 use Rattle.sb_packet.specs.Traffic.{IsPlanned}
 use Rattle.sb_packet.specs.Ways.{aims_at, first_link, is_aimed_at}
-use Rattle.sb_packet.specs.declared.transaction.Kind.{Kind}
-use Rattle.sb_packet.specs.declared.transaction.Kind.TheVariants.{Read, Write, Posted, Atomic}
 use Rattle.sb_packet.specs.declared.transaction.Txn.{Txn}
 use Rattle.sb_flow.specs.Ranges.{is_placed_device}
+use Rattle.sb_flow.proofs.FlowWords.{request_asks}
 use Rattle.sb_host.specs.Asked.{asked_by, asked_packets, line_in, line_message, packets_from, sent_packets}
 use Rattle.sb_host.proofs.OwnWays.{any_at, own_flow_through}
 use Rattle.sb_host.proofs.PlannedParts.{LiesIn, cut_lies, ranges_are, same_device}
-
-pub asks : (kind : Kind) → is_request (request_of kind) ≡ true
-asks Read = refl
-asks Write = refl
-asks Posted = refl
-asks (Atomic type) = refl
 
 words_fit : (size : ℕ) → size ≤ 3 → 0 < 32 / 2 ^ size
 words_fit zero small = omega arith
@@ -64,7 +57,7 @@ module _ (network : Network) (h k : ℕ) (host : NetHost) (there : h < length ne
       → LiesIn (line_message (asked_by network host) i (line_in network t)) p → IsPlanned (ring_plan network (2 * k)) p
   planned_packet i d t p is device aims lies =
       let flows = ring_flows network (2 * k) in
-      let asks_p : is_request p.op ≡ true = ap is_request lies.op ∙ asks t.kind in
+      let asks_p : is_request p.op ≡ true = ap is_request lies.op ∙ request_asks t.kind in
       let home : goes_home p ≡ true = ap (λ (b : Bool). b || (p.dst / 2 ^ 40 == p.host)) asks_p in
       let place : device_place p ≡ p.dst = ap (λ (b : Bool). if b then p.dst else p.src) asks_p in
       let found : position_from (holds_span (device_place p) (message_span p)) 0 (device_ranges flows) ≡ Some d =

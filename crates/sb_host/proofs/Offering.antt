@@ -17,7 +17,7 @@ use Rattle.sb_packet.proofs.ReplyAddresses.{word_within}
 use Rattle.sb_flow.specs.Ranges.{misplaced_device}
 use Rattle.sb_flow.proofs.Pages.{device_at-page}
 use Rattle.sb_port.specs.Ports.{offered_words}
-use Rattle.sb_host.specs.declared.line.Line.{Line}
+use Rattle.sb_host.specs.declared.transaction_plan.TransactionPlan.{TransactionPlan}
 use Rattle.sb_host.specs.Asked.{Asked, accesses_from, asked_accesses, asked_by, line_in, packets_from, sent_accesses}
 use Rattle.sb_host.specs.Hosts.{HostSide, IsWholeHost}
 use Rattle.sb_host.specs.Issuing.{HasOffered, packets_left}
@@ -31,7 +31,7 @@ offered_begins asked next part offered h = record { rest = flat_map message_acce
 -- behind the last transaction no packet is left
 pub none_left : (asked : Asked) (next part : ℕ) → next ≡ length asked.lines → packets_left asked next part ≡ []
 none_left asked next part end =
-    ap (λ (lines : List Line). drop part (packets_from asked next lines)) (ap (λ (n : ℕ). drop n asked.lines) end ∙ drop-length asked.lines) ∙ drop-nil part
+    ap (λ (lines : List TransactionPlan). drop part (packets_from asked next lines)) (ap (λ (n : ℕ). drop n asked.lines) end ∙ drop-length asked.lines) ∙ drop-nil part
 
 -- all was offered
 offered_all : (asked : Asked) (next part : ℕ) (offered : List Access) → next ≡ length asked.lines → HasOffered asked next part offered → offered ≡ asked_accesses asked
@@ -41,7 +41,7 @@ offered_all asked next part offered end h =
 pub offers_in_order : (h : HostSide) → IsWholeHost h → IsPrefix (offered_words h.requests) (asked_accesses h.transactions.asked)
 offers_in_order h w = offered_begins h.transactions.asked h.transactions.next h.transactions.part (offered_words h.requests) w.in_order.offered
 
-pub offers_all : (h : HostSide) → IsWholeHost h → h.requests.state.closing ≡ true → offered_words h.requests ≡ asked_accesses h.transactions.asked
+pub offers_all : (h : HostSide) → IsWholeHost h → h.requests.state.close_requested ≡ true → offered_words h.requests ≡ asked_accesses h.transactions.asked
 offers_all h w told = offered_all h.transactions.asked h.transactions.next h.transactions.part (offered_words h.requests) (w.in_order.closes told) w.in_order.offered
 
 pub closes_behind_all : (h : HostSide) → IsWholeHost h → has_close h.requests.state.sent ≡ true → offered_words h.requests ≡ asked_accesses h.transactions.asked

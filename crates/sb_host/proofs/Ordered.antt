@@ -7,7 +7,7 @@ use Rattle.sb_packet.specs.Plans.{RingPlan}
 use Rattle.sb_packet.specs.Prefixes.{IsPrefix}
 use Rattle.sb_port.specs.Ports.{PortSide, offered_words}
 use Rattle.sb_node.specs.Sides.{RingSide}
-use Rattle.sb_host.specs.Hosts.{IsInOrder}
+use Rattle.sb_host.specs.Hosts.{IsHostInOrder}
 use Rattle.sb_host.specs.Issuing.{HasComeTo, HasOffered, IsMadeFor}
 use Rattle.sb_host.specs.Progress.{TransactionsSide, left_of}
 use Rattle.sb_host.proofs.Offering.{none_left}
@@ -34,12 +34,12 @@ some_left t m rest come past left =
 module _ (t t_then : TransactionsSide) (port port_then : PortSide) (ring : RingSide) where
   -- it passed over transactions of which no packet is left
   pub passed_in_order : t_then ≡ record t { next = t_then.next } → HasComeTo t_then.asked t_then.next t_then.part → t.next ≤ t_then.next → left_of t_then ≡ left_of t
-      → IsInOrder t port ring → IsInOrder t_then port ring
+      → IsHostInOrder t port ring → IsHostInOrder t_then port ring
   passed_in_order is come onward left o =
       let n = t_then.next in
       let come_here : HasComeTo t.asked n t.part = subst (λ (x : TransactionsSide). HasComeTo x.asked x.next x.part) is come in
       let left_here : left_of (record t { next = n }) ≡ left_of t = subst (λ (x : TransactionsSide). left_of x ≡ left_of t) is left in
-      subst (λ (x : TransactionsSide). IsInOrder x port ring) (sym is) (record {
+      subst (λ (x : TransactionsSide). IsHostInOrder x port ring) (sym is) (record {
         issuable = o.issuable;
         made = o.made;
         come = come_here;
@@ -51,13 +51,13 @@ module _ (t t_then : TransactionsSide) (port port_then : PortSide) (ring : RingS
 
   -- it offered the first packet that was left
   pub offered_in_order : (m : Message) → t_then ≡ record t { next = t_then.next; part = t_then.part } → HasComeTo t_then.asked t_then.next t_then.part → left_of t ≡ m ∷ left_of t_then
-      → port_then.plan ≡ port.plan → port_then.state.closing ≡ false → offered_words port_then ≡ offered_words port ++ message_accesses m
-      → IsInOrder t port ring → IsInOrder t_then port_then ring
+      → port_then.plan ≡ port.plan → port_then.state.close_requested ≡ false → offered_words port_then ≡ offered_words port ++ message_accesses m
+      → IsHostInOrder t port ring → IsHostInOrder t_then port_then ring
   offered_in_order m is come left plan untold words o =
       let n = t_then.next in
       let k = t_then.part in
       let left_here : left_of t ≡ m ∷ left_of (record t { next = n; part = k }) = subst (λ (x : TransactionsSide). left_of t ≡ m ∷ left_of x) is left in
-      subst (λ (x : TransactionsSide). IsInOrder x port_then ring) (sym is) (record {
+      subst (λ (x : TransactionsSide). IsHostInOrder x port_then ring) (sym is) (record {
         issuable = o.issuable;
         made = subst (λ (p : RingPlan). IsMadeFor p t.asked) (sym plan) o.made;
         come = subst (λ (x : TransactionsSide). HasComeTo x.asked x.next x.part) is come;
@@ -68,8 +68,8 @@ module _ (t t_then : TransactionsSide) (port port_then : PortSide) (ring : RingS
       })
 
   -- it told its port to close, behind the last packet
-  pub told_in_order : port_then ≡ record port { state = record port.state { closing = true } } → t.next ≡ length t.asked.lines → IsInOrder t port ring → IsInOrder t port_then ring
-  told_in_order is all o = subst (λ (p : PortSide). IsInOrder t p ring) (sym is) (record {
+  pub told_in_order : port_then ≡ record port { state = record port.state { close_requested = true } } → t.next ≡ length t.asked.lines → IsHostInOrder t port ring → IsHostInOrder t port_then ring
+  told_in_order is all o = subst (λ (p : PortSide). IsHostInOrder t p ring) (sym is) (record {
     issuable = o.issuable;
     made = o.made;
     come = o.come;
@@ -81,13 +81,13 @@ module _ (t t_then : TransactionsSide) (port port_then : PortSide) (ring : RingS
 
 -- a turn of its port changes nothing of that
 pub turned_in_order : (t : TransactionsSide) (port port_then : PortSide) (ring : RingSide) → port_then.plan ≡ port.plan → offered_words port_then ≡ offered_words port
-    → port_then.state.closing ≡ port.state.closing → IsInOrder t port ring → IsInOrder t port_then ring
+    → port_then.state.close_requested ≡ port.state.close_requested → IsHostInOrder t port ring → IsHostInOrder t port_then ring
 turned_in_order t port port_then ring plan words told o = record {
   issuable = o.issuable;
   made = subst (λ (p : RingPlan). IsMadeFor p t.asked) (sym plan) o.made;
   come = o.come;
   offered = subst (λ (list : List Access). HasOffered t.asked t.next t.part list) (sym words) o.offered;
-  closes = λ closing. o.closes (sym told ∙ closing);
+  closes = λ close_requested. o.closes (sym told ∙ close_requested);
   table = o.table;
   ends = o.ends;
 }

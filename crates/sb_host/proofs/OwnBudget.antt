@@ -15,12 +15,14 @@ use Rattle.sb_packet.specs.Scripts.{IsTransaction, script_accesses, transaction_
 use Rattle.sb_packet.specs.Ways.{NetWay, aims_at, first_link, host_ways, way_links}
 use Rattle.sb_packet.specs.declared.transaction.Txn.{Txn}
 use Rattle.sb_packet.proofs.Lists.{All-made}
+use Rattle.sb_link.proofs.Truths.{same_number}
 use Rattle.sb_flow.specs.Ranges.{misplaced_device}
+use Rattle.sb_flow.proofs.FlowWords.{request_asks}
 use Rattle.sb_host.specs.Asked.{asked_accesses, asked_by}
 use Rattle.sb_host.proofs.Offering.{asks_what_is_aimed, within_page}
-use Rattle.sb_host.proofs.OwnWays.{any_at, any_kept, begins_with, itself, request_ways}
-use Rattle.sb_host.proofs.MadeRings.{Aims, asks, down, place_below, script_aims}
-use Rattle.sb_flow.proofs.Maps.{sum_by_agree}
+use Rattle.sb_host.proofs.OwnWays.{any_at, any_kept, begins_with, request_ways}
+use Rattle.sb_host.proofs.MadeRings.{Aims, down, place_below, script_aims}
+use Rattle.sb_flow.proofs.Maps.{sum_by_agree, sum_by_map}
 use Rattle.sb_flow.proofs.Pages.{device_at-page}
 
 -- the sum over what is kept of one piece is at most that over what is kept of all
@@ -38,11 +40,6 @@ piece_within f p g (x ∷ xs) (suc i) d below =
 kept_all : {X Y : Type 0} (p : Y → Bool) (g : X → Y) (xs : List X) → ((x : X) → p (g x) ≡ true) → filter p (map g xs) ≡ map g xs
 kept_all p g [] all = refl
 kept_all p g (x ∷ xs) all = ap (λ (b : Bool). cond b (g x ∷ filter p (map g xs)) (filter p (map g xs))) (all x) ∙ ap (λ ys. g x ∷ ys) (kept_all p g xs all)
-
--- a sum over what a list is made into
-sum_made : {X Y : Type 0} (f : Y → ℕ) (g : X → Y) (xs : List X) → sum_by f (map g xs) ≡ sum_by (λ x. f (g x)) xs
-sum_made f g [] = refl
-sum_made f g (x ∷ xs) = sum_by-cons f (g x) (map g xs) ∙ ap (λ (n : ℕ). f (g x) + n) (sum_made f g xs) ∙ sym (sum_by-cons (λ x. f (g x)) x xs)
 
 -- what passes a weaker test is no less
 more_pass : (p q : Access → Bool) (list : List Access) → All (λ a. p a ≡ true → q a ≡ true) list → length (filter p list) ≤ length (filter q list)
@@ -118,9 +115,9 @@ module _ (network : Network) (host : NetHost) (placed : misplaced_device network
         | Some d ↦ λ e.
             let found = place_below (has_address t.addr) 0 network.devices d e in
             let inside : d < length network.devices = omega (arith, found) in
-            let own : (a.host == host.id) ≡ true = itself host.id in
-            let place : device_address a ≡ a.dst = ap (λ (b : Bool). if b then a.dst else a.src) (asks t.kind) in
-            let there : is_at network d a ≡ true = ap (λ (n : ℕ). option_map_or (λ k. k == d) (device_at network n) false) place ∙ ap (λ (o : Option ℕ). option_map_or (λ k. k == d) o false) (same ∙ e) ∙ itself d in
+            let own : (a.host == host.id) ≡ true = same_number host.id in
+            let place : device_address a ≡ a.dst = ap (λ (b : Bool). if b then a.dst else a.src) (request_asks t.kind) in
+            let there : is_at network d a ≡ true = ap (λ (n : ℕ). option_map_or (λ k. k == d) (device_at network n) false) place ∙ ap (λ (o : Option ℕ). option_map_or (λ k. k == d) o false) (same ∙ e) ∙ same_number d in
             let of : of_device d a ≡ true = rw (own, there) refl in
             any_kept (aims_at network host) (λ e. of_device e a) (range_with_len 0 (length network.devices))
             ∙ any_at (λ e. aims_at network host e && of_device e a) (range_with_len 0 (length network.devices)) d d (omega (arith, inside, length-range_with_len 0 (length network.devices)))
@@ -162,7 +159,7 @@ module _ (network : Network) (host : NetHost) (placed : misplaced_device network
       let each : (d : ℕ) → count (way d) ≡ length (filter (of_device d) (script_accesses host)) = λ d.
       ap (λ (b : Bool). length (if b then filter (λ a. is_answered a.op) (way_accesses network (way d)) else way_accesses network (way d))) even in
       let sums : sum_by count (host_ways network h host) ≡ sum_by (λ d. length (filter (of_device d) (script_accesses host))) targets =
-      sum_made count way targets ∙ sum_by_agree (λ d. count (way d)) (λ d. length (filter (of_device d) (script_accesses host))) targets each in
+      sum_by_map count way targets ∙ sum_by_agree (λ d. count (way d)) (λ d. length (filter (of_device d) (script_accesses host))) targets each in
       let by_flow = words_by_flow all in
       let whole = ap (sum_by count) kept in
       let ways = ap (sum_by count) (request_ways network k link) in

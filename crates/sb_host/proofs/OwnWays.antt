@@ -10,6 +10,8 @@ use Rattle.sb_packet.specs.Networks.{NetHost, Network}
 use Rattle.sb_packet.specs.Plans.{NetFlow, goes_through}
 use Rattle.sb_packet.specs.Rings.{flow_table, has_link, link_ways, ring_flows, ring_link, ring_ways}
 use Rattle.sb_packet.specs.Ways.{NetWay, aims_at, first_link, host_ways, links_from, network_ways, next_link, way_links}
+use Rattle.sb_link.proofs.Truths.{same_number}
+use Rattle.sb_flow.proofs.LinkMarks.{list_any-map}
 
 -- one of a list passes
 pub any_at : {X : Type 0} (p : X → Bool) (xs : List X) (i : ℕ) (d : X) → i < length xs → p (get_or xs i d) ≡ true → list_any p xs ≡ true
@@ -44,18 +46,11 @@ any_kept p q (x ∷ xs) = by_test (p x) (any_kept p q xs) where
   by_test true same = ap (λ b. q x || b) same
   by_test false same = same
 
-any-map : {X Y : Type 0} (p : Y → Bool) (f : X → Y) (xs : List X) → list_any p (map f xs) ≡ list_any (λ x. p (f x)) xs
-any-map p f [] = refl
-any-map p f (x ∷ xs) = ap (λ b. p (f x) || b) (any-map p f xs)
-
-pub itself : (n : ℕ) → (n == n) ≡ true
-itself n = grind (arith, nat_tests)
-
 -- a way that begins with a link has it
 pub begins_with : (network : Network) (h d k : ℕ) → first_link network h ≡ Some k → list_any (λ j. j == k) (way_links network h d) ≡ true
 begins_with network h d k first =
     ap (λ (o : Option ℕ). list_any (λ j. j == k) (links_from (suc (length network.routers)) network d o)) first
-    ∙ ap (λ (b : Bool). b || list_any (λ j. j == k) (links_from (length network.routers) network d (next_link network d k))) (itself k)
+    ∙ ap (λ (b : Bool). b || list_any (λ j. j == k) (links_from (length network.routers) network d (next_link network d k))) (same_number k)
 
 module _ (network : Network) (h k : ℕ) (host : NetHost) (there : h < length network.hosts) (at : get_or network.hosts h host ≡ host) (first : first_link network h ≡ Some k) where
   -- the way to a device
@@ -69,12 +64,12 @@ module _ (network : Network) (h k : ℕ) (host : NetHost) (there : h < length ne
   own_flow : (d : ℕ) → d < length network.devices → aims_at network host d ≡ true → list_any (is_flow d) (link_ways network k) ≡ true
   own_flow d below aims =
       let q : NetWay → Bool = λ way. has_link k way && is_flow d way in
-      let passes : q (way_to d) ≡ true = rw (begins_with network h d k first, itself host.id, itself d) refl in
+      let passes : q (way_to d) ≡ true = rw (begins_with network h d k first, same_number host.id, same_number d) refl in
       let pair : ℕ × NetHost = (h, host) in
       let element : get_or (enumerate_from 0 network.hosts) h pair ≡ (h, host) =
       get_or-enumerate_from 0 network.hosts h pair there ∙ ap {B = ℕ × NetHost} (λ (x : NetHost). (0 + h, x)) at ∙ (let none : 0 + h ≡ h = omega arith in ap {B = ℕ × NetHost} (λ (n : ℕ). (n, host)) none) in
       let own : list_any q (host_ways network h host) ≡ true =
-      any-map q way_to (filter (aims_at network host) (range_with_len 0 (length network.devices)))
+      list_any-map q way_to (filter (aims_at network host) (range_with_len 0 (length network.devices)))
       ∙ any_kept (aims_at network host) (λ e. q (way_to e)) (range_with_len 0 (length network.devices))
       ∙ any_at (λ e. aims_at network host e && q (way_to e)) (range_with_len 0 (length network.devices)) d d (omega (arith, below, length-range_with_len 0 (length network.devices)))
       (let here : get_or (range_with_len 0 (length network.devices)) d d ≡ d = get_or-range_with_len 0 (length network.devices) d d below ∙ omega arith in

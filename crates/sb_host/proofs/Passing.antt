@@ -12,13 +12,13 @@ use Rattle.sb_packet.specs.Traffic.{IsPlanned, MayPass}
 use Rattle.sb_packet.specs.Cuts.{cut_parts}
 use Rattle.sb_packet.proofs.Lists.{All-right}
 use Rattle.sb_packet.proofs.FineParts.{fine_cut, transaction_sound, transaction_whole}
-use Rattle.sb_host.specs.declared.line.Line.{Line}
+use Rattle.sb_host.specs.declared.transaction_plan.TransactionPlan.{TransactionPlan}
 use Rattle.sb_host.specs.Asked.{Asked, asked_accesses, asked_packets, line_message, packets_from, sent_packets}
 use Rattle.sb_host.specs.Issuing.{HasOffered, IsMadeFor, packets_left}
 use Rattle.sb_host.specs.Places.{AreIssuable}
 
 -- what holds of all packets holds of those from a transaction on
-from_line : (P : Message → Type 0) (asked : Asked) (n i : ℕ) (lines : List Line) → All P (packets_from asked i lines) → All P (packets_from asked (i + n) (drop n lines))
+from_line : (P : Message → Type 0) (asked : Asked) (n i : ℕ) (lines : List TransactionPlan) → All P (packets_from asked i lines) → All P (packets_from asked (i + n) (drop n lines))
 from_line P asked zero i lines all = let none : i + 0 ≡ i = omega arith in rw none all
 from_line P asked (suc n) i [] all = All-nil P
 from_line P asked (suc n) i (l ∷ lines) all =
@@ -33,7 +33,7 @@ all_left P asked next part all =
     (subst (λ (n : ℕ). All P (packets_from asked n (drop next asked.lines))) here (from_line P asked next 0 asked.lines all))
 
 -- the packets of one transaction are sound
-sound_line : (asked : Asked) (i : ℕ) (l : Line) → IsTransaction l.txn → i < 65536 → All IsSound (sent_packets asked i l)
+sound_line : (asked : Asked) (i : ℕ) (l : TransactionPlan) → IsTransaction l.txn → i < 65536 → All IsSound (sent_packets asked i l)
 sound_line asked i l t few =
     elim (l.aimed) as (λ b. All IsSound (if b then cut_parts 32 (line_message asked i l) else [])) [
       | true ↦ All-weaker (IsFine 32) IsSound (λ m fine. fine.sound) (cut_parts 32 (line_message asked i l))
@@ -41,7 +41,7 @@ sound_line asked i l t few =
       | false ↦ All-nil IsSound
     ]
 
-sound_lines : (asked : Asked) (i : ℕ) (lines : List Line) → All (λ l. IsTransaction l.txn) lines → i + length lines ≤ 65536 → All IsSound (packets_from asked i lines)
+sound_lines : (asked : Asked) (i : ℕ) (lines : List TransactionPlan) → All (λ l. IsTransaction l.txn) lines → i + length lines ≤ 65536 → All IsSound (packets_from asked i lines)
 sound_lines asked i [] all few = All-nil IsSound
 sound_lines asked i (l ∷ lines) all few =
     All-append IsSound (sent_packets asked i l) (packets_from asked (i + 1) lines)

@@ -8,8 +8,8 @@ use Rattle.sb_word.specs.declared.command.Op.{Op}
 use Rattle.sb_packet.specs.Scripts.{IsTransaction}
 use Rattle.sb_packet.proofs.ReplyAddresses.{span_of_transaction}
 use Rattle.sb_packet.specs.declared.transaction.Txn.{Txn}
-use Rattle.sb_host.specs.declared.line.Line.{Line}
-use Rattle.sb_host.specs.declared.orders.Orders.{Orders}
+use Rattle.sb_host.specs.declared.transaction_plan.TransactionPlan.{TransactionPlan}
+use Rattle.sb_host.specs.declared.script_plan.ScriptPlan.{ScriptPlan}
 use Rattle.sb_host.specs.Places.{IsPlace, asked_of}
 
 some_bytes : (size : ℕ) → size ≤ 3 → 0 < 2 ^ size
@@ -59,21 +59,21 @@ place_found size id address h low e =
     omega (arith, word)
 
 -- where a word that answers one of a script belongs
-pub record IsTold (orders : Orders) (size address i k : ℕ) (l : Line) : Type 0 where
-  pub above : orders.id * 2 ^ 40 ≤ address
-  pub line : i ≡ (address - orders.id * 2 ^ 40) / 2048
-  pub word : k ≡ (address - orders.id * 2 ^ 40) % 2048 / 2 ^ size
+pub record IsTold (script_plan : ScriptPlan) (size address i k : ℕ) (l : TransactionPlan) : Type 0 where
+  pub above : script_plan.id * 2 ^ 40 ≤ address
+  pub line : i ≡ (address - script_plan.id * 2 ^ 40) / 2048
+  pub word : k ≡ (address - script_plan.id * 2 ^ 40) % 2048 / 2 ^ size
 
-pub place_told : (orders : Orders) (op : Op) (size address i k : ℕ) (l : Line) → IsPlace (asked_of orders) op size address i k l → IsTold orders size address i k l
-place_told orders op size address i k l is =
-    let t : IsTransaction l.txn = rw (sym is.at) at (All-get_or (λ (x : Line). IsTransaction x.txn) orders.lines.items i l is.transaction orders.issuable) in
+pub place_told : (script_plan : ScriptPlan) (op : Op) (size address i k : ℕ) (l : TransactionPlan) → IsPlace (asked_of script_plan) op size address i k l → IsTold script_plan size address i k l
+place_told script_plan op size address i k l is =
+    let t : IsTransaction l.txn = rw (sym is.at) at (All-get_or (λ (x : TransactionPlan). IsTransaction x.txn) script_plan.lines.items i l is.transaction script_plan.issuable) in
     let within : k * 2 ^ l.txn.size < 2048 = begins_within l.txn k t is.word in
     let here : k * 2 ^ size < 2048 = rw is.same_size at within in
     let small : size ≤ 3 = rw is.same_size at t.size in
     let place = is.place in
-    let low : orders.id * 2 ^ 40 ≤ address = omega (arith, place) in
-    let line : i ≡ (address - orders.id * 2 ^ 40) / 2048 = omega (arith, place, here) in
-    let rest : (address - orders.id * 2 ^ 40) % 2048 ≡ k * 2 ^ size = omega (arith, place, here) in
+    let low : script_plan.id * 2 ^ 40 ≤ address = omega (arith, place) in
+    let line : i ≡ (address - script_plan.id * 2 ^ 40) / 2048 = omega (arith, place, here) in
+    let rest : (address - script_plan.id * 2 ^ 40) % 2048 ≡ k * 2 ^ size = omega (arith, place, here) in
     record { above = low; line = line; word = sym (place_of_word size k small) ∙ ap (λ (x : ℕ). x / 2 ^ size) (sym rest) }
 
 -- what stands at one place is one thing

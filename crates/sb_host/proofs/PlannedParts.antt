@@ -1,5 +1,5 @@
 -- The packets of a transaction lie in the range of the device that has its address.
-use Rattle.std.proofs.Common.{◌≡◌, ◌≤◌, ◌<◌, ◌+◌, ◌-◌, ◌*◌, ◌%◌, ◌^◌, ℕ, zero, suc, arith, refl, sym, ap, ◌∙◌, length, List, [], ◌∷◌, Bool, true, false, Option, take}
+use Rattle.std.proofs.Common.{◌≡◌, ◌≤◌, ◌<◌, ◌+◌, ◌-◌, ◌*◌, ◌%◌, ◌^◌, ℕ, zero, suc, arith, refl, sym, ap, ◌∙◌, length, List, [], ◌∷◌, true, false, Option, take}
 use Rattle.std.specs.Prelude.{All, map, nat_le, nat_lt, ◌==◌, slice_get, if◌then◌else◌}
 use Rattle.std.specs.List.{position_from, range_with_len, AllByRecursion}
 use Rattle.std.specs.Option.{option_map_or}
@@ -11,14 +11,15 @@ use Rattle.std.proofs.lemmas.List.{length-map, length-take-le, get_or-take, get_
 use Rattle.std.proofs.lemmas.List.Elements.{All-nil, All-cons, All-weaker}
 use Rattle.std.proofs.lemmas.List.FromFn.{get_or-map-range_with_len, length-map-range_with_len}
 use Rattle.std.proofs.lemmas.Option.{slice_get-get_or}
+use Rattle.std.proofs.lemmas.Bool.{and_parts}
 use Rattle.sb_packet.specs.Cuts.{cut_parts, first_part, is_one_part, other_parts, parts_in, words_in}
 use Rattle.sb_packet.specs.Messages.{Message, message_span}
 use Rattle.sb_packet.specs.Networks.{NetDevice, Network, device_size, has_address}
 use Rattle.sb_packet.specs.Plans.{AddressRange, device_ranges, holds_span}
 use Rattle.sb_packet.specs.Rings.{range_of, ring_flows}
 use Rattle.sb_packet.proofs.CutWords.{more_than_fit}
+use Rattle.sb_link.proofs.Truths.{same_test}
 use Rattle.sb_flow.specs.Ranges.{is_placed_device}
-use Rattle.sb_host.proofs.TableSteps.{both_true}
 
 -- a part lies within its message
 pub record LiesIn (m p : Message) : Type 0 where
@@ -57,20 +58,14 @@ parts_lie (suc n) width m more some =
 pub cut_lies : (width : ℕ) (m : Message) → 0 < m.count → 0 < words_in width m → All (LiesIn m) (cut_parts width m)
 cut_lies width m more some = parts_lie m.count width m more some
 
--- two tests that follow from each other
-same_test : (b c : Bool) → (b ≡ true → c ≡ true) → (c ≡ true → b ≡ true) → b ≡ c
-same_test true c there back = sym (there refl)
-same_test false true there back = back refl
-same_test false false there back = refl
-
 -- a device has all bytes of a packet where it has the address of its transaction
 same_range : (d : NetDevice) (a n p s : ℕ) → is_placed_device d ≡ true → a % 4096 + n ≤ 4096 → a ≤ p → p + s ≤ a + n → 0 < s → holds_span p s (range_of d) ≡ has_address a d
 same_range d a n p s placed page first last some =
-    let page_first = (both_true (d.base % 4096 == 0) (nat_le (d.base + device_size d) (2 ^ 56)) placed).0 in
+    let page_first = (and_parts (d.base % 4096 == 0) (nat_le (d.base + device_size d) (2 ^ 56)) placed).0 in
     let whole : d.base % 4096 ≡ 0 = grind (arith, nat_tests) in
     same_test (holds_span p s (range_of d)) (has_address a d)
     (λ holds.
-    let parts = both_true (nat_le d.base p) (nat_le (p + s) (d.base + device_size d)) holds in
+    let parts = and_parts (nat_le d.base p) (nat_le (p + s) (d.base + device_size d)) holds in
     let low_test = parts.0 in
     let high_test = parts.1 in
     let low : d.base ≤ p = grind (arith, nat_tests) in
@@ -81,7 +76,7 @@ same_range d a n p s placed page first last some =
     let b_test : nat_lt a (d.base + device_size d) ≡ true = grind (arith, nat_tests) in
     rw (a_test, b_test) refl)
     (λ has.
-    let parts = both_true (nat_le d.base a) (nat_lt a (d.base + device_size d)) has in
+    let parts = and_parts (nat_le d.base a) (nat_lt a (d.base + device_size d)) has in
     let low_test = parts.0 in
     let high_test = parts.1 in
     let low : d.base ≤ a = grind (arith, nat_tests) in

@@ -13,7 +13,7 @@ use Rattle.sb_packet.specs.Accesses.{Access}
 use Rattle.sb_packet.specs.Answers.{answer_code}
 use Rattle.sb_packet.proofs.JoinedAnswers.{answer_code-append}
 use Rattle.sb_host.specs.Rows.{IsAsWide, IsRow, bytes_or_zeros, with_answer}
-use Rattle.sb_host.specs.declared.row.Row.{Row}
+use Rattle.sb_host.specs.declared.answer_row.AnswerRow.{AnswerRow}
 
 -- the answers that there are
 abbrev pub found : List (Option Access) → List Access
@@ -80,7 +80,7 @@ one_counted xs j below here =
     omega (arith, sums, one)
 
 -- the row's mark of a word says whether it is answered
-pub mark_of : (width : ℕ) (answers : List (Option Access)) (row : Row) (j : ℕ) → IsRow width answers row → j < length answers → get_or row.answered.items j false ≡ is_some (get_or answers j None)
+pub mark_of : (width : ℕ) (answers : List (Option Access)) (row : AnswerRow) (j : ℕ) → IsRow width answers row → j < length answers → get_or row.answered.items j false ≡ is_some (get_or answers j None)
 mark_of width answers row j is below = rw is.answered (get_or-map is_some answers j None false below)
 
 -- no answer is there: the next one is put there
@@ -92,7 +92,7 @@ pub with_second : (answers : List (Option Access)) (j : ℕ) (a : Access) → is
 with_second answers j a some = ap (λ (b : Bool). if b then answers else set answers j (Some a)) some
 
 -- a row without this answer, and a row with it
-pub row_taken : (width : ℕ) (answers : List (Option Access)) (row new : Row) (j : ℕ) (a : Access) → IsRow width answers row → j < length answers → length a.bytes ≡ width
+pub row_taken : (width : ℕ) (answers : List (Option Access)) (row new : AnswerRow) (j : ℕ) (a : Access) → IsRow width answers row → j < length answers → length a.bytes ≡ width
     → get_or row.answered.items j false ≡ false
     → new.answered.items ≡ set row.answered.items j true → new.missing ≡ row.missing - 1 → new.code ≡ max row.code a.tail
     → new.body.items ≡ take (j * width) row.body.items ++ (a.bytes ++ drop (j * width + width) row.body.items)
@@ -152,7 +152,7 @@ none_brought width (suc n) =
     rw split (sym (replicate-append-replicate width (n * width) 0) ∙ ap (λ (rest : List ℕ). replicate width 0 ++ rest) (none_brought width n))
 
 -- a row without an answer
-pub row_new : (width words : ℕ) (row : Row) → row.answered.items ≡ replicate words false → row.missing ≡ words → row.code ≡ 0 → row.body.items ≡ replicate (words * width) 0 → IsRow width (replicate words None) row
+pub row_new : (width words : ℕ) (row : AnswerRow) → row.answered.items ≡ replicate words false → row.missing ≡ words → row.code ≡ 0 → row.body.items ≡ replicate (words * width) 0 → IsRow width (replicate words None) row
 row_new width words row marks missing code body = record {
   answered = marks ∙ none_marked words;
   counted = missing ∙ none_counted words ∙ sym (ap (count_by not) marks);

@@ -9,15 +9,16 @@ use Rattle.std.proofs.lemmas.List.{length-set, get_or-set_same, get_or-set_other
 use Rattle.std.proofs.lemmas.Simd.{map-map}
 use Rattle.std.proofs.lemmas.List.Folds.{find-append}
 use Rattle.std.proofs.lemmas.List.FromFn.{get_or-map-range_with_len, length-map-range_with_len}
+use Rattle.std.proofs.lemmas.Bool.{and_parts}
 use Rattle.sb_packet.specs.Accesses.{Access, access_at}
 use Rattle.sb_packet.proofs.Ranges.{range_agrees}
-use Rattle.sb_host.specs.declared.line.Line.{Line}
-use Rattle.sb_host.specs.declared.orders.Orders.{Orders}
-use Rattle.sb_host.specs.declared.row.Row.{Row}
+use Rattle.sb_host.specs.declared.transaction_plan.TransactionPlan.{TransactionPlan}
+use Rattle.sb_host.specs.declared.script_plan.ScriptPlan.{ScriptPlan}
+use Rattle.sb_host.specs.declared.answer_row.AnswerRow.{AnswerRow}
 use Rattle.sb_host.specs.Asked.{Asked, line_message}
 use Rattle.sb_host.specs.Outcomes.{first_answer, is_answer_to, is_answered_by}
 use Rattle.sb_host.specs.Places.{IsPlace, asked_of}
-use Rattle.sb_host.specs.Rows.{IsRow, IsTable, answer_width, device_answer, device_answers, with_answer}
+use Rattle.sb_host.specs.Rows.{IsRow, IsTable, answer_width, device_answer, line_answers, with_answer}
 use Rattle.sb_host.proofs.RowAnswers.{with_first, with_second}
 use Rattle.sb_host.proofs.Placed.{place_told}
 
@@ -28,11 +29,6 @@ one_or_other j k P same other =
       | true ↦ λ e. same (grind (arith, nat_tests))
       | false ↦ λ e. other (λ h. grind (arith, nat_tests))
     ] refl
-
--- both tests hold
-pub both_true : (a b : Bool) → (a && b) ≡ true → (a ≡ true) × (b ≡ true)
-both_true true b h = (refl, h)
-both_true false b h = absurd (cc)
 
 -- a list that is made place by place, with one place changed
 pub one_changed : (f g : ℕ → Option Access) (n k : ℕ) (a : Access) → k < n → ((j : ℕ) → j < n → j ≢ k → g j ≡ f j) → g k ≡ option_or (f k) (Some a)
@@ -81,12 +77,12 @@ first_more received word a holds =
     ∙ ap (λ (b : Bool). option_or (find (is_answer_to word) received) (cond b (Some a) None)) holds
 
 -- a received word that answers word k of transaction i belongs there
-belongs : (asked : Asked) (a : Access) (i k : ℕ) (l : Line) → l ≡ get_or asked.lines i l → i < length asked.lines → k < l.txn.count → l.aimed ≡ true
+belongs : (asked : Asked) (a : Access) (i k : ℕ) (l : TransactionPlan) → l ≡ get_or asked.lines i l → i < length asked.lines → k < l.txn.count → l.aimed ≡ true
     → is_answer_to (access_at (line_message asked i l) k) a ≡ true → IsPlace asked a.op a.size a.dst i k l
 belongs asked a i k l at inside below aimed holds =
     let word = access_at (line_message asked i l) k in
-    let first = both_true ((a.dst == word.src) && (a.size == word.size)) (is_answered_by word.op a.op) holds in
-    let second = both_true (a.dst == word.src) (a.size == word.size) (first.0) in
+    let first = and_parts ((a.dst == word.src) && (a.size == word.size)) (is_answered_by word.op a.op) holds in
+    let second = and_parts (a.dst == word.src) (a.size == word.size) (first.0) in
     let place : (a.dst == word.src) ≡ true = second.0 in
     let size : (a.size == word.size) ≡ true = second.1 in
     let size_is : a.size ≡ word.size = grind (arith, nat_tests) in
@@ -101,7 +97,7 @@ belongs asked a i k l at inside below aimed holds =
     }
 
 -- and what belongs there answers it
-answers_there : (asked : Asked) (a : Access) (i k : ℕ) (l : Line) → IsPlace asked a.op a.size a.dst i k l → is_answer_to (access_at (line_message asked i l) k) a ≡ true
+answers_there : (asked : Asked) (a : Access) (i k : ℕ) (l : TransactionPlan) → IsPlace asked a.op a.size a.dst i k l → is_answer_to (access_at (line_message asked i l) k) a ≡ true
 answers_there asked a i k l is =
     let word = access_at (line_message asked i l) k in
     let dst : a.dst ≡ word.src = is.place ∙ ap (λ (s : ℕ). (line_message asked i l).src + k * 2 ^ s) (sym is.same_size) in
@@ -111,7 +107,7 @@ answers_there asked a i k l is =
     rw (dst_is, size_is) is.opcode
 
 -- the answer to a word of a transaction, with one more received word, where that one belongs to no such word
-other_answer : (asked : Asked) (received : List Access) (a : Access) (i j : ℕ) (l : Line) → l ≡ get_or asked.lines i l → i < length asked.lines → j < l.txn.count
+other_answer : (asked : Asked) (received : List Access) (a : Access) (i j : ℕ) (l : TransactionPlan) → l ≡ get_or asked.lines i l → i < length asked.lines → j < l.txn.count
     → (IsPlace asked a.op a.size a.dst i j l → ⊥)
     → device_answer (received ++ a ∷ []) l.aimed (access_at (line_message asked i l) j) ≡ device_answer received l.aimed (access_at (line_message asked i l) j)
 other_answer asked received a i j l at inside below elsewhere =
@@ -125,9 +121,9 @@ other_answer asked received a i j l at inside below elsewhere =
     ] refl
 
 -- all answers to a transaction, where the word belongs to none of its words
-other_answers : (asked : Asked) (received : List Access) (a : Access) (i : ℕ) (l : Line) → l ≡ get_or asked.lines i l → i < length asked.lines
+other_answers : (asked : Asked) (received : List Access) (a : Access) (i : ℕ) (l : TransactionPlan) → l ≡ get_or asked.lines i l → i < length asked.lines
     → ((j : ℕ) → IsPlace asked a.op a.size a.dst i j l → ⊥)
-    → device_answers asked (received ++ a ∷ []) i l ≡ device_answers asked received i l
+    → line_answers asked (received ++ a ∷ []) i l ≡ line_answers asked received i l
 other_answers asked received a i l at inside elsewhere =
     map-map (device_answer (received ++ a ∷ []) l.aimed) (access_at (line_message asked i l)) (range_with_len 0 l.txn.count)
     ∙ range_agrees (λ j. device_answer (received ++ a ∷ []) l.aimed (access_at (line_message asked i l) j)) (λ j. device_answer received l.aimed (access_at (line_message asked i l) j)) 0 0 l.txn.count
@@ -135,9 +131,9 @@ other_answers asked received a i l at inside elsewhere =
     ∙ sym (map-map (device_answer received l.aimed) (access_at (line_message asked i l)) (range_with_len 0 l.txn.count))
 
 -- all answers to a transaction, where the word belongs to word k of it
-own_answers : (asked : Asked) (received : List Access) (a : Access) (i k : ℕ) (l : Line) → IsPlace asked a.op a.size a.dst i k l
+own_answers : (asked : Asked) (received : List Access) (a : Access) (i k : ℕ) (l : TransactionPlan) → IsPlace asked a.op a.size a.dst i k l
     → ((j : ℕ) → IsPlace asked a.op a.size a.dst i j l → j ≡ k)
-    → device_answers asked (received ++ a ∷ []) i l ≡ with_answer (device_answers asked received i l) k a
+    → line_answers asked (received ++ a ∷ []) i l ≡ with_answer (line_answers asked received i l) k a
 own_answers asked received a i k l is single =
     let word = access_at (line_message asked i l) in
     let f = λ (j : ℕ). device_answer received l.aimed (word j) in
@@ -150,7 +146,7 @@ own_answers asked received a i k l is single =
     ∙ ap (λ (answers : List (Option Access)). with_answer answers k a) (sym (map-map (device_answer received l.aimed) word (range_with_len 0 l.txn.count)))
 
 -- a word that answers none changes no table
-pub table_same : (asked : Asked) (received : List Access) (rows : List Row) (a : Access) → ((i j : ℕ) (l : Line) → IsPlace asked a.op a.size a.dst i j l → ⊥)
+pub table_same : (asked : Asked) (received : List Access) (rows : List AnswerRow) (a : Access) → ((i j : ℕ) (l : TransactionPlan) → IsPlace asked a.op a.size a.dst i j l → ⊥)
     → IsTable asked received rows → IsTable asked (received ++ a ∷ []) rows
 table_same asked received rows a nowhere is = record {
   rows_of_lines = is.rows_of_lines;
@@ -161,37 +157,37 @@ table_same asked received rows a nowhere is = record {
 }
 
 -- a word that answers word k of transaction i changes that one's row
-pub table_more : (orders : Orders) (received : List Access) (rows : List Row) (a : Access) (i k : ℕ) (wanted : Line) (old new : Row)
-    → IsPlace (asked_of orders) a.op a.size a.dst i k wanted
+pub table_more : (script_plan : ScriptPlan) (received : List Access) (rows : List AnswerRow) (a : Access) (i k : ℕ) (wanted : TransactionPlan) (old new : AnswerRow)
+    → IsPlace (asked_of script_plan) a.op a.size a.dst i k wanted
     → old ≡ get_or rows i old
     → ((answers : List (Option Access)) → IsRow (answer_width wanted) answers old → IsRow (answer_width wanted) (with_answer answers k a) new)
-    → IsTable (asked_of orders) received rows → IsTable (asked_of orders) (received ++ a ∷ []) (set rows i new)
-table_more orders received rows a i k wanted old new there old_at row is = record {
+    → IsTable (asked_of script_plan) received rows → IsTable (asked_of script_plan) (received ++ a ∷ []) (set rows i new)
+table_more script_plan received rows a i k wanted old new there old_at row is = record {
   rows_of_lines = length-set rows i new ∙ is.rows_of_lines;
   each = λ j l r inside.
-      let asked = asked_of orders in
-      let told = place_told orders a.op a.size a.dst i k wanted there in
-      let goal : ℕ → Row → Type 0 = λ n x. IsRow (answer_width (get_or asked.lines n l)) (device_answers asked (received ++ a ∷ []) n (get_or asked.lines n l)) x in
+      let asked = asked_of script_plan in
+      let told = place_told script_plan a.op a.size a.dst i k wanted there in
+      let goal : ℕ → AnswerRow → Type 0 = λ n x. IsRow (answer_width (get_or asked.lines n l)) (line_answers asked (received ++ a ∷ []) n (get_or asked.lines n l)) x in
       one_or_other j i (goal j (get_or (set rows i new) j r))
       (λ same.
       let here : i < length rows = let long = is.rows_of_lines in let within = there.transaction in omega (arith, long, within) in
       let line : wanted ≡ get_or asked.lines i l = there.at ∙ get_or_default asked.lines i wanted l there.transaction in
       let stands : get_or rows i r ≡ old = get_or_default rows i r old here ∙ sym old_at in
-      let kept : IsRow (answer_width wanted) (device_answers asked received i wanted) old =
-      subst (λ (x : Row). IsRow (answer_width wanted) (device_answers asked received i wanted) x) stands
-      (subst (λ (x : Line). IsRow (answer_width x) (device_answers asked received i x) (get_or rows i r)) (sym line) (is.each i l r there.transaction)) in
-      let answers = own_answers asked received a i k wanted there (λ m other. (place_told orders a.op a.size a.dst i m wanted other).word ∙ sym told.word) in
-      let taken : IsRow (answer_width wanted) (device_answers asked (received ++ a ∷ []) i wanted) new =
-      subst (λ (xs : List (Option Access)). IsRow (answer_width wanted) xs new) (sym answers) (row (device_answers asked received i wanted) kept) in
+      let kept : IsRow (answer_width wanted) (line_answers asked received i wanted) old =
+      subst (λ (x : AnswerRow). IsRow (answer_width wanted) (line_answers asked received i wanted) x) stands
+      (subst (λ (x : TransactionPlan). IsRow (answer_width x) (line_answers asked received i x) (get_or rows i r)) (sym line) (is.each i l r there.transaction)) in
+      let answers = own_answers asked received a i k wanted there (λ m other. (place_told script_plan a.op a.size a.dst i m wanted other).word ∙ sym told.word) in
+      let taken : IsRow (answer_width wanted) (line_answers asked (received ++ a ∷ []) i wanted) new =
+      subst (λ (xs : List (Option Access)). IsRow (answer_width wanted) xs new) (sym answers) (row (line_answers asked received i wanted) kept) in
       let at_i : goal i (get_or (set rows i new) i r) =
       subst (goal i) (sym (get_or-set_same rows i new r here))
-      (subst (λ (x : Line). IsRow (answer_width x) (device_answers asked (received ++ a ∷ []) i x) new) line taken) in
+      (subst (λ (x : TransactionPlan). IsRow (answer_width x) (line_answers asked (received ++ a ∷ []) i x) new) line taken) in
       subst (λ (n : ℕ). goal n (get_or (set rows i new) n r)) (sym same) at_i)
       (λ other.
       let line = get_or asked.lines j l in
       let at : line ≡ get_or asked.lines j line = get_or_default asked.lines j l line inside in
       let answers = other_answers asked received a j line at inside (λ m placed.
-      other ((place_told orders a.op a.size a.dst j m line placed).line ∙ sym told.line)) in
+      other ((place_told script_plan a.op a.size a.dst j m line placed).line ∙ sym told.line)) in
       subst (goal j) (sym (get_or-set_other rows i j new r other))
       (subst (λ (xs : List (Option Access)). IsRow (answer_width line) xs (get_or rows j r)) (sym answers) (is.each j l r inside)));
 }

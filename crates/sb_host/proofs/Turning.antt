@@ -16,12 +16,12 @@ use Rattle.sb_node.specs.Found.{or_else, IsTurnOf}
 use Rattle.sb_node.specs.Steps.{HasFewMore, IsPortTurned, HasPortMoved, IsPortFull, IsPortClear, IsRingEmpty, IsRingServed}
 use Rattle.sb_node.specs.declared.findings.Findings.{Findings}
 use Rattle.sb_node.proofs.Answering.{HasGone, HasStood, answered_by, moves_kept, untold, moves_of_two, no_findings, one_of, same_moves}
-use Rattle.sb_host.specs.Steps.{HasOfferedNone, HasOfferedOne, IsIdleHost, IsIssued, IsReceived}
+use Rattle.sb_host.specs.Steps.{HasOfferedNone, HasOfferedOne, IsIdleHost, IsIssued, IsReceiveStep}
 
 -- a host is done where its port sent its Close, and its ring gave one
-pub done_by_both : (port : PortSide) (ring : RingSide) → is_done (port ∷ []) (ring ∷ []) ≡ (port.state.shut && has_ended ring)
-done_by_both port ring = by_both port.state.shut (has_ended ring) where
-  by_both : (shut ended : Bool) → ((shut && true) && (ended && true)) ≡ (shut && ended)
+pub done_by_both : (port : PortSide) (ring : RingSide) → is_done (port ∷ []) (ring ∷ []) ≡ (port.state.close_sent && has_ended ring)
+done_by_both port ring = by_both port.state.close_sent (has_ended ring) where
+  by_both : (close_sent ended : Bool) → ((close_sent && true) && (ended && true)) ≡ (close_sent && ended)
   by_both true true = refl
   by_both true false = refl
   by_both false ended = refl
@@ -125,7 +125,7 @@ module _ (ring ring_then : RingSide) (port middle port_then : PortSide) where
             open_rings_are_drained = one_of (λ ring. has_ended ring ≡ false → (is_drained ring ≡ true) ⊎ ⊥) ring_then (λ unended. inl empty.drained);
           };
           open_host_is_blocked = λ unclosed. record {
-            owing = ap owes full.same ∙ none.waits (sym (ap (λ (s : PortState). s.closing) full.same) ∙ unclosed);
+            owing = ap owes full.same ∙ none.waits (sym (ap (λ (s : PortState). s.close_requested) full.same) ∙ unclosed);
             full = full.full;
           };
         };
@@ -137,13 +137,13 @@ module _ (ring ring_then : RingSide) (port middle port_then : PortSide) where
   stood_by_empty found found_then none empty clear =
       let cause = causes.Empty ring_then.plan.ring (length ring_then.received) ring_then.known in
       let found_is : found_then ≡ record no_findings { empty = Some cause } = clear.found_nothing ∙ empty.found_empty in
-      let never : port_then.state.closing ≡ false → ⊥ = λ unclosed.
-      true≢false (sym (none.waits (sym (ap (λ (s : PortState). s.closing) clear.same) ∙ unclosed)) ∙ sym (ap owes clear.same) ∙ clear.ready) in record {
+      let never : port_then.state.close_requested ≡ false → ⊥ = λ unclosed.
+      true≢false (sym (none.waits (sym (ap (λ (s : PortState). s.close_requested) clear.same) ∙ unclosed)) ∙ sym (ap owes clear.same) ∙ clear.ready) in record {
         unmoved = ap (λ (f : Findings). f.moved) found_is;
         same = nothing_went (as_before found found none) clear.same empty.same;
         cause = λ undone.
-            let shut : port_then.state.shut ≡ true = by_shut never clear.ready in
-            let unended : has_ended ring_then ≡ false = other_fails port_then.state.shut (has_ended ring_then) (sym (done_by_both port_then ring_then) ∙ undone) shut in (
+            let close_sent : port_then.state.close_sent ≡ true = by_shut never clear.ready in
+            let unended : has_ended ring_then ≡ false = other_fails port_then.state.close_sent (has_ended ring_then) (sym (done_by_both port_then ring_then) ∙ undone) close_sent in (
               cause,
               ap (λ (f : Findings). first_cause (f.full ∷ f.waits ∷ f.empty ∷ [])) found_is,
               ap (λ b. first_cause ((if b then Some (causes.Full port_then.plan.ring (length port_then.state.sent) port_then.taken) else None) ∷ None ∷ empty_cause ring_then ∷ [])) (clear.rest refl)
@@ -158,14 +158,14 @@ module _ (ring ring_then : RingSide) (port middle port_then : PortSide) where
         };
       }
     where
-      by_shut : (port_then.state.closing ≡ false → ⊥) → owes port_then.state ≡ false → port_then.state.shut ≡ true
-      by_shut never ready = elim port_then.state.shut as (λ b. port_then.state.shut ≡ b → port_then.state.shut ≡ true) [
-        | true ↦ λ shut. shut
-        | false ↦ λ unshut. absurd (never (untold (some_owed port_then.state.waiting) port_then.state.closing port_then.state.shut ready unshut))
+      by_shut : (port_then.state.close_requested ≡ false → ⊥) → owes port_then.state ≡ false → port_then.state.close_sent ≡ true
+      by_shut never ready = elim port_then.state.close_sent as (λ b. port_then.state.close_sent ≡ b → port_then.state.close_sent ≡ true) [
+        | true ↦ λ close_sent. close_sent
+        | false ↦ λ unshut. absurd (never (untold (some_owed port_then.state.waiting) port_then.state.close_requested port_then.state.close_sent ready unshut))
       ] refl
 
   -- what came of the ring and the port
-  pub came_of : (popped offered : Bool) (found_1 found_2 found_then : Findings) → IsReceived ring ring_then no_findings found_1 popped → IsIssued port middle found_1 found_2 offered
+  pub came_of : (popped offered : Bool) (found_1 found_2 found_then : Findings) → IsReceiveStep ring ring_then no_findings found_1 popped → IsIssued port middle found_1 found_2 offered
       → IsPortTurned found_2.moved middle port_then found_2 found_then → IsKeptPort port middle → IsKeptPort middle port_then
       → HasGone found_then before after ⊎ HasStood found_then before after done_then causes_then AtRest
   came_of true true found_1 found_2 found_then received issued turned kept kept_then =
@@ -189,19 +189,19 @@ module _ (ring ring_then : RingSide) (port middle port_then : PortSide) where
       here
 
   -- no more items were popped than a turn takes
-  pub few_popped : (popped : Bool) (found : Findings) → IsReceived ring ring_then no_findings found popped → HasFewMore ring ring_then
+  pub few_popped : (popped : Bool) (found : Findings) → IsReceiveStep ring ring_then no_findings found popped → HasFewMore ring ring_then
   few_popped true found received = let one = received.one in omega (arith, one)
   few_popped false found received = let same = ap (λ (list : List Item). length list) received.same in omega (arith, same)
 
   -- the ring was served
-  pub ring_served : (popped : Bool) (found : Findings) → IsReceived ring ring_then no_findings found popped → IsRingServed ring ring_then
+  pub ring_served : (popped : Bool) (found : Findings) → IsReceiveStep ring ring_then no_findings found popped → IsRingServed ring ring_then
   ring_served true found received = inl received.one
   ring_served false found received = inr received.drained
 
   -- the turn, as it is answered
-  pub ends_turned : (popped offered : Bool) (found_1 found_2 found_then : Findings) (answer : Turn) → IsReceived ring ring_then no_findings found_1 popped → IsIssued port middle found_1 found_2 offered
+  pub ends_turned : (popped offered : Bool) (found_1 found_2 found_then : Findings) (answer : Turn) → IsReceiveStep ring ring_then no_findings found_1 popped → IsIssued port middle found_1 found_2 offered
       → IsPortTurned found_2.moved middle port_then found_2 found_then → IsKeptPort port middle → IsKeptPort middle port_then
-      → IsTurnOf found_then (port_then.state.shut && has_ended ring_then) answer
+      → IsTurnOf found_then (port_then.state.close_sent && has_ended ring_then) answer
       → IsAnswered before after done_then causes_then answer × (answer ≢ Moved → AtRest)
   ends_turned popped offered found_1 found_2 found_then answer received issued turned kept kept_then told =
       answered_by found_then before after done_then causes_then AtRest answer (came_of popped offered found_1 found_2 found_then received issued turned kept kept_then)
@@ -214,7 +214,7 @@ found_unmoved found done Done told ne = told.0
 found_unmoved found done (Idle cause) told ne = told.0
 
 -- where a turn didn't move, nothing was popped
-pub none_popped : (ring ring_then : RingSide) (popped : Bool) (found found_then : Findings) → IsReceived ring ring_then found found_then popped → found_then.moved ≡ false → popped ≡ false
+pub none_popped : (ring ring_then : RingSide) (popped : Bool) (found found_then : Findings) → IsReceiveStep ring ring_then found found_then popped → found_then.moved ≡ false → popped ≡ false
 none_popped ring ring_then true found found_then received unmoved = absurd (true≢false (sym (ap (λ (f : Findings). f.moved) received.found_move) ∙ unmoved))
 none_popped ring ring_then false found found_then received unmoved = refl
 
@@ -235,8 +235,8 @@ rested_by_none port port_then found found_then none kept = record {
   mark = ap (λ (p : PortSide). p.mark) none.same;
   sent = ap (λ (p : PortSide). p.state.sent) none.same;
   waiting = ap (λ (p : PortSide). p.state.waiting) none.same;
-  shut = ap (λ (p : PortSide). p.state.shut) none.same;
-  claimed = ap (λ (p : PortSide). p.state.claimed) none.same;
+  close_sent = ap (λ (p : PortSide). p.state.close_sent) none.same;
+  words_offered = ap (λ (p : PortSide). p.state.words_offered) none.same;
   still_told = kept.still_told;
   learnt = kept.learnt;
 }

@@ -17,34 +17,34 @@ use Rattle.sb_packet.specs.declared.transaction.Kind.{Kind}
 use Rattle.sb_packet.specs.declared.transaction.Kind.TheVariants.{Read, Write, Posted, Atomic}
 use Rattle.sb_packet.proofs.FineParts.{packet_whole}
 use Rattle.sb_packet.proofs.Shares.{length-share}
-use Rattle.sb_host.specs.declared.line.Line.{Line}
-use Rattle.sb_host.specs.declared.row.Row.{Row}
+use Rattle.sb_host.specs.declared.transaction_plan.TransactionPlan.{TransactionPlan}
+use Rattle.sb_host.specs.declared.answer_row.AnswerRow.{AnswerRow}
 use Rattle.sb_host.specs.Asked.{Asked, line_message}
 use Rattle.sb_host.specs.Outcomes.{is_answered_by}
-use Rattle.sb_host.specs.Rows.{IsRow, IsTable, answer_bytes, answer_width, device_answer, device_answers}
+use Rattle.sb_host.specs.Rows.{IsRow, IsTable, answer_bytes, answer_width, device_answer, line_answers}
 use Rattle.sb_host.proofs.RowAnswers.{length_of_bytes}
 
-length_of_answers : (asked : Asked) (received : List Access) (i : ℕ) (l : Line) → length (device_answers asked received i l) ≡ l.txn.count
+length_of_answers : (asked : Asked) (received : List Access) (i : ℕ) (l : TransactionPlan) → length (line_answers asked received i l) ≡ l.txn.count
 length_of_answers asked received i l =
     length-map (map (access_at (line_message asked i l)) (range_with_len 0 l.txn.count)) (device_answer received l.aimed)
     ∙ length-map-range_with_len (access_at (line_message asked i l)) 0 l.txn.count
 
 -- a row has a mark for each word
-pub marks_of_row : (asked : Asked) (received : List Access) (width i : ℕ) (l : Line) (row : Row) → IsRow width (device_answers asked received i l) row → length row.answered.items ≡ l.txn.count
+pub marks_of_row : (asked : Asked) (received : List Access) (width i : ℕ) (l : TransactionPlan) (row : AnswerRow) → IsRow width (line_answers asked received i l) row → length row.answered.items ≡ l.txn.count
 marks_of_row asked received width i l row is =
-    ap length is.answered ∙ length-map (device_answers asked received i l) is_some ∙ length_of_answers asked received i l
+    ap length is.answered ∙ length-map (line_answers asked received i l) is_some ∙ length_of_answers asked received i l
 
 -- and so many bytes for each
-pub bytes_of_row : (asked : Asked) (received : List Access) (width i : ℕ) (l : Line) (row : Row) → IsRow width (device_answers asked received i l) row → length row.body.items ≡ l.txn.count * width
+pub bytes_of_row : (asked : Asked) (received : List Access) (width i : ℕ) (l : TransactionPlan) (row : AnswerRow) → IsRow width (line_answers asked received i l) row → length row.body.items ≡ l.txn.count * width
 bytes_of_row asked received width i l row is =
-    ap length is.body ∙ length_of_bytes width (device_answers asked received i l) is.wide ∙ ap (λ (n : ℕ). n * width) (length_of_answers asked received i l)
+    ap length is.body ∙ length_of_bytes width (line_answers asked received i l) is.wide ∙ ap (λ (n : ℕ). n * width) (length_of_answers asked received i l)
 
 -- the row of a transaction
-pub row_here : (asked : Asked) (received : List Access) (rows : List Row) (i : ℕ) (l : Line) (row : Row) → IsTable asked received rows → l ≡ get_or asked.lines i l → i < length asked.lines → row ≡ get_or rows i row
-    → IsRow (answer_width l) (device_answers asked received i l) row
+pub row_here : (asked : Asked) (received : List Access) (rows : List AnswerRow) (i : ℕ) (l : TransactionPlan) (row : AnswerRow) → IsTable asked received rows → l ≡ get_or asked.lines i l → i < length asked.lines → row ≡ get_or rows i row
+    → IsRow (answer_width l) (line_answers asked received i l) row
 row_here asked received rows i l row is at inside row_at =
-    subst (λ (x : Row). IsRow (answer_width l) (device_answers asked received i l) x) (sym row_at)
-    (subst (λ (x : Line). IsRow (answer_width x) (device_answers asked received i x) (get_or rows i row)) (sym at) (is.each i l row inside))
+    subst (λ (x : AnswerRow). IsRow (answer_width l) (line_answers asked received i l) x) (sym row_at)
+    (subst (λ (x : TransactionPlan). IsRow (answer_width x) (line_answers asked received i x) (get_or rows i row)) (sym at) (is.each i l row inside))
 
 -- nothing is no more
 no_share : (size j : ℕ) (bytes : List ℕ) → length bytes ≡ 0 → length (share size j bytes) ≡ 0

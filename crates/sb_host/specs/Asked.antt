@@ -7,7 +7,7 @@ use Rattle.sb_packet.specs.Cuts.{cut_parts}
 use Rattle.sb_packet.specs.Networks.{NetHost, Network, device_at}
 use Rattle.sb_packet.specs.Scripts.{request_message}
 use Rattle.sb_packet.specs.declared.transaction.Txn.{Txn}
-use Rattle.sb_host.specs.declared.line.Line.{Line}
+use Rattle.sb_host.specs.declared.transaction_plan.TransactionPlan.{TransactionPlan}
 
 -- what a host asks for, with the fields that all its packets have
 pub record Asked : Type 0 where
@@ -15,10 +15,10 @@ pub record Asked : Type 0 where
   pub qos : ℕ
   pub prot : ℕ
   -- its transactions, in order
-  pub lines : List Line
+  pub lines : List TransactionPlan
 
 -- a transaction of a network's script
-abbrev pub line_in : Network → Txn → Line
+abbrev pub line_in : Network → Txn → TransactionPlan
 line_in network t = record { txn = t; aimed = is_some (device_at network t.addr) }
 
 -- What a host of a network asks for.
@@ -26,19 +26,19 @@ abbrev pub asked_by : Network → NetHost → Asked
 asked_by network host = record { id = host.id; qos = host.qos; prot = host.prot; lines = map (line_in network) host.script }
 
 -- transaction i, as one message
-abbrev pub line_message : Asked → ℕ → Line → Message
+abbrev pub line_message : Asked → ℕ → TransactionPlan → Message
 line_message asked i line = request_message asked.id asked.qos asked.prot i line.txn
 
 -- the words of transaction i, in order
-abbrev pub line_accesses : Asked → ℕ → Line → List Access
+abbrev pub line_accesses : Asked → ℕ → TransactionPlan → List Access
 line_accesses asked i line = message_accesses (line_message asked i line)
 
 -- the words of transaction i that go to a device: all or none
-abbrev pub sent_accesses : Asked → ℕ → Line → List Access
+abbrev pub sent_accesses : Asked → ℕ → TransactionPlan → List Access
 sent_accesses asked i line = if line.aimed then line_accesses asked i line else []
 
 -- the words that go to devices, from transaction i on
-abbrev pub accesses_from : Asked → ℕ → List Line → List Access
+abbrev pub accesses_from : Asked → ℕ → List TransactionPlan → List Access
 accesses_from asked i lines = flat_map (λ p. sent_accesses asked p.0 p.1) (enumerate_from i lines)
 
 -- All words of a host that go to devices, in order.
@@ -46,11 +46,11 @@ abbrev pub asked_accesses : Asked → List Access
 asked_accesses asked = accesses_from asked 0 asked.lines
 
 -- the packets of transaction i that go to a device: parts of at most 32 bytes
-abbrev pub sent_packets : Asked → ℕ → Line → List Message
+abbrev pub sent_packets : Asked → ℕ → TransactionPlan → List Message
 sent_packets asked i line = if line.aimed then cut_parts 32 (line_message asked i line) else []
 
 -- the packets that go to devices, from transaction i on
-abbrev pub packets_from : Asked → ℕ → List Line → List Message
+abbrev pub packets_from : Asked → ℕ → List TransactionPlan → List Message
 packets_from asked i lines = flat_map (λ p. sent_packets asked p.0 p.1) (enumerate_from i lines)
 
 -- All packets of a host that go to devices, in order.

@@ -22,14 +22,14 @@ pub record HostSide : Type 0 where
   pub answers : RingSide
 
 -- What always holds of a host's transactions and its ends.
-pub record IsInOrder (t : TransactionsSide) (port : PortSide) (ring : RingSide) : Type 0 where
+pub record IsHostInOrder (t : TransactionsSide) (port : PortSide) (ring : RingSide) : Type 0 where
   pub issuable : AreIssuable t.asked
   pub made : IsMadeFor port.plan t.asked
   -- what it has offered begins its words that go to devices: the words of its packets before the next one
   pub come : HasComeTo t.asked t.next t.part
   pub offered : HasOffered t.asked t.next t.part (offered_words port)
   -- it told its port to close only where no packet is left
-  pub closes : port.state.closing ≡ true → t.next ≡ length t.asked.lines
+  pub closes : port.state.close_requested ≡ true → t.next ≡ length t.asked.lines
   -- its table keeps the first answer to each word, of all that came
   pub table : IsTable t.asked (received_words ring) t.rows
   pub ends : t.ended ≡ has_ended ring
@@ -37,7 +37,7 @@ pub record IsInOrder (t : TransactionsSide) (port : PortSide) (ring : RingSide) 
 -- A host is whole.
 pub record IsWholeHost (h : HostSide) : Type 0 where
   pub fit : IsFit h.requests.plan h.requests.state
-  pub in_order : IsInOrder h.transactions h.requests h.answers
+  pub in_order : IsHostInOrder h.transactions h.requests h.answers
 
 -- What turns of a round keep of a host: nothing is taken back. Nothing of it depends on the round yet.
 pub record IsKeptHost (round : ℕ) (before after : HostSide) : Type 0 where
@@ -73,7 +73,7 @@ pub record IsHostTurn (before : HostSide) (round : ℕ) (answer : Turn) (after :
   pub next_offered : IsNextOffered before.transactions before.requests after.requests
   -- it has passed over all that was next and is aimed at no device, and told its port to close where nothing is left
   pub aimed : IsNextAimed after.transactions
-  pub closes_when_due : after.transactions.next ≡ length after.transactions.asked.lines → after.requests.state.closing ≡ true
+  pub closes_when_due : after.transactions.next ≡ length after.transactions.asked.lines → after.requests.state.close_requested ≡ true
 
 -- nothing happened to a host
 pub kept_host_same : (round : ℕ) (h : HostSide) → IsKeptHost round h h

@@ -4,7 +4,7 @@ use Rattle.sb_packet.specs.Accesses.{Access, message_accesses}
 use Rattle.sb_packet.specs.Messages.{Message}
 use Rattle.sb_packet.specs.Plans.{RingPlan}
 use Rattle.sb_packet.specs.Traffic.{IsPlanned}
-use Rattle.sb_host.specs.declared.line.Line.{Line}
+use Rattle.sb_host.specs.declared.transaction_plan.TransactionPlan.{TransactionPlan}
 use Rattle.sb_host.specs.Asked.{Asked, asked_accesses, asked_packets, packets_from, sent_packets}
 
 -- the packets that are left to be offered: those of transaction `next` from packet `part` on, and those of all behind it
@@ -14,14 +14,14 @@ packets_left asked next part = drop part (packets_from asked next (drop next ask
 -- a host has come to packet `part` of transaction `next`, or to the end of its script
 pub record HasComeTo (asked : Asked) (next part : ℕ) : Type 0 where
   pub within : next ≤ length asked.lines
-  pub begun : 0 < part → (d : Line)
+  pub begun : 0 < part → (d : TransactionPlan)
       → (next < length asked.lines) × (part < length (sent_packets asked next (slice_index_or asked.lines next d)))
 
 -- a host has passed over transactions that are aimed at no device
 pub record HasPassedOver (asked : Asked) (before after : ℕ) : Type 0 where
   pub onward : before ≤ after
   pub within : after ≤ length asked.lines
-  pub unaimed : (i : ℕ) (d : Line) → before ≤ i → i < after → (slice_index_or asked.lines i d).aimed ≡ false
+  pub unaimed : (i : ℕ) (d : TransactionPlan) → before ≤ i → i < after → (slice_index_or asked.lines i d).aimed ≡ false
 
 -- A host has offered these words: with those of the packets that are left, they are all its words.
 abbrev pub HasOffered : Asked → ℕ → ℕ → List Access → Type 0

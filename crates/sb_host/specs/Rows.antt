@@ -8,8 +8,8 @@ use Rattle.sb_packet.specs.Outcomes.{Outcome, code_numbered}
 use Rattle.sb_packet.specs.declared.transaction.Kind.{Kind}
 use Rattle.sb_packet.specs.declared.transaction.Kind.TheVariants.{Read, Write, Posted, Atomic}
 use Rattle.sb_packet.specs.declared.transaction.TxnState.TheVariants as states
-use Rattle.sb_host.specs.declared.line.Line.{Line}
-use Rattle.sb_host.specs.declared.row.Row.{Row}
+use Rattle.sb_host.specs.declared.transaction_plan.TransactionPlan.{TransactionPlan}
+use Rattle.sb_host.specs.declared.answer_row.AnswerRow.{AnswerRow}
 use Rattle.sb_host.specs.Asked.{Asked, line_accesses}
 use Rattle.sb_host.specs.Outcomes.{first_answer}
 
@@ -21,7 +21,7 @@ answer_bytes Posted bytes = 0
 answer_bytes (Atomic type) bytes = bytes
 
 -- the same of a word of a transaction
-abbrev pub answer_width : Line → ℕ
+abbrev pub answer_width : TransactionPlan → ℕ
 answer_width line = answer_bytes line.txn.kind (2 ^ line.txn.size)
 
 -- the bytes that answered a word, and zeros where it isn't answered
@@ -33,7 +33,7 @@ abbrev pub IsAsWide : ℕ → Option Access → Type 0
 IsAsWide width answer = length (bytes_or_zeros width answer) ≡ width
 
 -- a row keeps these answers to the words of a transaction, each of which brings so many bytes
-pub record IsRow (width : ℕ) (answers : List (Option Access)) (row : Row) : Type 0 where
+pub record IsRow (width : ℕ) (answers : List (Option Access)) (row : AnswerRow) : Type 0 where
   pub answered : row.answered.items ≡ map is_some answers
   pub counted : row.missing ≡ count_by not row.answered.items
   pub code : row.code ≡ answer_code (filter_map (λ a. a) answers)
@@ -49,33 +49,33 @@ abbrev pub device_answer : List Access → Bool → Access → Option Access
 device_answer received aimed word = if aimed then first_answer received word else None
 
 -- what devices answered to the words of transaction i
-abbrev pub device_answers : Asked → List Access → ℕ → Line → List (Option Access)
-device_answers asked received i line = map (device_answer received line.aimed) (line_accesses asked i line)
+abbrev pub line_answers : Asked → List Access → ℕ → TransactionPlan → List (Option Access)
+line_answers asked received i line = map (device_answer received line.aimed) (line_accesses asked i line)
 
 -- A table keeps what devices answered to all transactions.
-pub record IsTable (asked : Asked) (received : List Access) (rows : List Row) : Type 0 where
+pub record IsTable (asked : Asked) (received : List Access) (rows : List AnswerRow) : Type 0 where
   pub rows_of_lines : length rows ≡ length asked.lines
-  pub each : (i : ℕ) (l : Line) (r : Row) → i < length asked.lines
-      → IsRow (answer_width (slice_index_or asked.lines i l)) (device_answers asked received i (slice_index_or asked.lines i l))
+  pub each : (i : ℕ) (l : TransactionPlan) (r : AnswerRow) → i < length asked.lines
+      → IsRow (answer_width (slice_index_or asked.lines i l)) (line_answers asked received i (slice_index_or asked.lines i l))
       (slice_index_or rows i r)
 
 -- a transaction is answered, by its row: all its words are, or the host has passed over it
-abbrev pub is_settled : Bool → Bool → Row → Bool
+abbrev pub is_settled : Bool → Bool → AnswerRow → Bool
 is_settled aimed passed row = if aimed then row.missing == 0 else passed
 
 -- the number of its code, which is 3 where it is aimed at no device
-abbrev pub settled_code : Bool → Row → ℕ
+abbrev pub settled_code : Bool → AnswerRow → ℕ
 settled_code aimed row = if aimed then row.code else 3
 
 -- the outcome of a transaction that can be answered, by its row
-abbrev pub settled_outcome : Bool → Bool → Row → Outcome
+abbrev pub settled_outcome : Bool → Bool → AnswerRow → Outcome
 settled_outcome aimed passed row =
     if is_settled aimed passed row
     then record { state = states.Answered (code_numbered (settled_code aimed row)); body = row.body.items }
     else record { state = states.Waiting; body = [] }
 
 -- the outcome of any transaction, by its row
-abbrev pub kept_outcome : Kind → Bool → Bool → Row → Outcome
+abbrev pub kept_outcome : Kind → Bool → Bool → AnswerRow → Outcome
 kept_outcome Read aimed passed row = settled_outcome aimed passed row
 kept_outcome Write aimed passed row = settled_outcome aimed passed row
 kept_outcome Posted aimed passed row = record { state = states.Posted; body = [] }

@@ -11,9 +11,9 @@ use Rattle.sb_node.specs.declared.findings.Findings.{Findings}
 use Rattle.sb_host.specs.Progress.{TransactionsSide, left_of}
 
 -- What a host did with its ring: it says whether it popped.
-abbrev pub IsReceived : RingSide → RingSide → Findings → Findings → Bool → Type 0
-IsReceived ring ring_then found found_then true = HasPopped ring ring_then found found_then
-IsReceived ring ring_then found found_then false = IsRingEmpty ring ring_then found found_then
+abbrev pub IsReceiveStep : RingSide → RingSide → Findings → Findings → Bool → Type 0
+IsReceiveStep ring ring_then found found_then true = HasPopped ring ring_then found found_then
+IsReceiveStep ring ring_then found found_then false = IsRingEmpty ring ring_then found found_then
 
 -- a packet was offered: the host moved
 pub record HasOfferedOne (port port_then : PortSide) (found found_then : Findings) : Type 0 where
@@ -22,9 +22,9 @@ pub record HasOfferedOne (port port_then : PortSide) (found found_then : Finding
 
 -- none was: all are offered, and the port is told to close, or it wasn't ready
 pub record HasOfferedNone (port port_then : PortSide) (found found_then : Findings) : Type 0 where
-  pub same : port_then ≡ record port { state = record port.state { closing = port_then.state.closing } }
+  pub same : port_then ≡ record port { state = record port.state { close_requested = port_then.state.close_requested } }
   pub found_nothing : found_then ≡ found
-  pub waits : port_then.state.closing ≡ false → owes port_then.state ≡ true
+  pub waits : port_then.state.close_requested ≡ false → owes port_then.state ≡ true
 
 -- What a host did with its port: it says whether it offered a packet.
 abbrev pub IsIssued : PortSide → PortSide → Findings → Findings → Bool → Type 0
@@ -40,4 +40,4 @@ IsNextOffered t port port_then = owes port.state ≡ false → (m : Message) (re
 pub record IsIdleHost (port : PortSide) (ring : RingSide) : Type 0 where
   pub at_rest : IsIdleAt (λ ring. ⊥) (port ∷ []) (ring ∷ [])
   -- a host that has packets left waits at its port
-  pub open_host_is_blocked : port.state.closing ≡ false → IsBlockedPort port
+  pub open_host_is_blocked : port.state.close_requested ≡ false → IsBlockedPort port

@@ -2,11 +2,11 @@
 
 ghost use Rattle.std.specs.Prelude.{◌≡◌, ◌≤◌, ◌<◌, [], ◌∷◌, true, length, slice_index_or};
 ghost use Rattle.sb_packet.specs.Messages.{message_of};
-ghost use Rattle.sb_host.specs.declared.line.Line.{Line};
+ghost use Rattle.sb_host.specs.declared.transaction_plan.TransactionPlan.{TransactionPlan};
 ghost use Rattle.sb_host.specs.Issuing.{HasComeTo, HasPassedOver, packets_left};
 ghost use Rattle.sb_host.specs.Places.{asked_of};
 
-use crate::orders::Orders;
+use crate::script_plan::ScriptPlan;
 use sb_packet::{BODY_BYTES, Packet, packet_of, packets};
 
 /// The packet that a host offers next.
@@ -20,38 +20,38 @@ pub struct Cursor {
 
 impl Cursor {
     /// Passes over the transactions that are next and aimed at no device.
-    pub(crate) fn pass_over(&mut self, orders: &Orders)
-        requires come { HasComeTo (asked_of orders.now) self.old.next self.old.part }
-        ensures passed { HasPassedOver (asked_of orders.now) self.old.next self.new.next }
+    pub(crate) fn pass_over(&mut self, script_plan: &ScriptPlan)
+        requires come { HasComeTo (asked_of script_plan.now) self.old.next self.old.part }
+        ensures passed { HasPassedOver (asked_of script_plan.now) self.old.next self.new.next }
         ensures part { self.new.part ≡ self.old.part }
-        ensures come { HasComeTo (asked_of orders.now) self.new.next self.new.part }
-        ensures left { packets_left (asked_of orders.now) self.new.next self.new.part
-            ≡ packets_left (asked_of orders.now) self.old.next self.old.part }
-        ensures aimed { (d : Line) → self.new.next < length orders.now.lines.items
-            → (slice_index_or orders.now.lines.items self.new.next d).aimed ≡ true }
+        ensures come { HasComeTo (asked_of script_plan.now) self.new.next self.new.part }
+        ensures left { packets_left (asked_of script_plan.now) self.new.next self.new.part
+            ≡ packets_left (asked_of script_plan.now) self.old.next self.old.part }
+        ensures aimed { (d : TransactionPlan) → self.new.next < length script_plan.now.lines.items
+            → (slice_index_or script_plan.now.lines.items self.new.next d).aimed ≡ true }
     {
-        while self.next < orders.lines.len() && !orders.lines[self.next].aimed {
+        while self.next < script_plan.lines.len() && !script_plan.lines[self.next].aimed {
             self.next += 1;
         }
     }
 
     /// The next packet, of a transaction that is aimed at a device, and goes on behind it.
-    pub(crate) fn issue(&mut self, orders: &Orders) -> Packet
-        requires come { HasComeTo (asked_of orders.now) self.old.next self.old.part }
-        requires some { self.old.next < length orders.now.lines.items }
-        requires aimed { (d : Line) → (slice_index_or orders.now.lines.items self.old.next d).aimed ≡ true }
-        ensures packet { packets_left (asked_of orders.now) self.old.next self.old.part
-            ≡ message_of result ∷ packets_left (asked_of orders.now) self.new.next self.new.part }
-        ensures come { HasComeTo (asked_of orders.now) self.new.next self.new.part }
+    pub(crate) fn issue(&mut self, script_plan: &ScriptPlan) -> Packet
+        requires come { HasComeTo (asked_of script_plan.now) self.old.next self.old.part }
+        requires some { self.old.next < length script_plan.now.lines.items }
+        requires aimed { (d : TransactionPlan) → (slice_index_or script_plan.now.lines.items self.old.next d).aimed ≡ true }
+        ensures packet { packets_left (asked_of script_plan.now) self.old.next self.old.part
+            ≡ message_of result ∷ packets_left (asked_of script_plan.now) self.new.next self.new.part }
+        ensures come { HasComeTo (asked_of script_plan.now) self.new.next self.new.part }
         ensures onward { self.old.next ≤ self.new.next }
     {
-        let txn = &orders.lines[self.next].txn;
+        let txn = &script_plan.lines[self.next].txn;
         let limit = BODY_BYTES as u8;
         let count = packets(txn, limit);
         let packet = packet_of(
-            orders.id,
-            orders.qos,
-            orders.prot,
+            script_plan.id,
+            script_plan.qos,
+            script_plan.prot,
             self.next as u32,
             txn,
             limit,

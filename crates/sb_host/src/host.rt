@@ -18,7 +18,7 @@ ghost use Rattle.sb_host.specs.Rows.{IsTable};
 ghost use Rattle.sb_host.specs.contracts.host.Host.{the_row};
 
 use crate::host_core::HostCore;
-use crate::script::orders_of;
+use crate::script::script_plan_of;
 use crate::transactions::Transactions;
 use sb_drive::Node;
 use sb_flow::Bundle;
@@ -40,9 +40,9 @@ impl<F: Fabric> Model for Host<F> {
 
     ghost Value = { HostSide };
 
-    ghost use Rattle.sb_host.specs.CoreOf.{core_side};
+    ghost use Rattle.sb_host.specs.CoreOf.{host_core_side};
 
-    ghost view = { λ h. core_side F.Rx.RxEnd h.core };
+    ghost view = { λ h. host_core_side F.Rx.RxEnd h.core };
 }
 
 impl<F: Fabric> Node for Host<F> {
@@ -106,8 +106,8 @@ impl<F: Fabric> Host<F> {
         ensures requests { IfOk result (λ h. h.requests ≡ fresh_port F.Tx.TxEnd leg.requests) }
         ensures answers { IfOk result (λ h. h.answers ≡ ring_side F.Rx.RxEnd leg.answers) }
     {
-        let orders = orders_of(alloc, bundle, number)?;
-        let transactions = Transactions::new(alloc, orders)?;
+        let script_plan = script_plan_of(alloc, bundle, number)?;
+        let transactions = Transactions::new(alloc, script_plan)?;
         let OutLeg {
             link: _,
             requests,

@@ -20,22 +20,22 @@ pub struct HostCore<T: TxEnd, U: RxEnd> {
 }
 
 impl<T: TxEnd, U: RxEnd> HostCore<T, U> {
-    ghost use Rattle.sb_host.specs.CoreOf.{core_side};
+    ghost use Rattle.sb_host.specs.CoreOf.{host_core_side};
 
     // the ring of answers gave Close, and the port sent its own
     fn is_done(&self) -> bool
-        ensures { result ≡ (self.now.requests.state.shut && self.now.transactions.ended) }
+        ensures { result ≡ (self.now.requests.state.close_sent && self.now.transactions.ended) }
     {
         self.requests.closed() && self.transactions.ended()
     }
 
     /// One turn: it takes what came, offers its next packet, and then turns its port. Takes no memory.
     pub(crate) fn turn(&mut self, round: u32) -> Turn
-        requires whole { IsWholeHost (core_side U.RxEnd self.old) }
-        ensures turned { IsHostTurn (core_side U.RxEnd self.old) round result (core_side U.RxEnd self.new) }
-        ensures kept { IsKeptHost round (core_side U.RxEnd self.old) (core_side U.RxEnd self.new) }
-        ensures rested { result ≢ Moved → IsRestedHost (core_side U.RxEnd self.old) (core_side U.RxEnd self.new) }
-        ensures whole { IsWholeHost (core_side U.RxEnd self.new) }
+        requires whole { IsWholeHost (host_core_side U.RxEnd self.old) }
+        ensures turned { IsHostTurn (host_core_side U.RxEnd self.old) round result (host_core_side U.RxEnd self.new) }
+        ensures kept { IsKeptHost round (host_core_side U.RxEnd self.old) (host_core_side U.RxEnd self.new) }
+        ensures rested { result ≢ Moved → IsRestedHost (host_core_side U.RxEnd self.old) (host_core_side U.RxEnd self.new) }
+        ensures whole { IsWholeHost (host_core_side U.RxEnd self.new) }
     {
         let mut found = Findings::new();
         let _popped = receive(&mut self.transactions, &mut self.answers, &mut found);

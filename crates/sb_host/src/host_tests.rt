@@ -3,7 +3,7 @@
 ghost use Rattle.std.specs.Prelude.{◌≡◌, ◌<◌, ◌+◌, ◌*◌, [], ◌∷◌, length, map, IfOk};
 ghost use Rattle.sb_packet.specs.Scripts.{IsTransaction};
 ghost use Rattle.sb_flow.specs.NetworkOf.{network_of};
-ghost use Rattle.sb_flow.specs.Rows.{device_of, host_of, link_of, place_of, router_of};
+ghost use Rattle.sb_flow.specs.Rows.{device_of, host_of, link_of, place_of, net_router_of};
 ghost use Rattle.sb_flow.specs.Samples.{label as label_of, page_device, plain_link as plain_link_at};
 ghost use Rattle.sb_host.specs.Hosts.{IsWholeHost};
 ghost use Rattle.sb_host.specs.SmallNetwork.{lost_script, near_script, small, small_hosts, small_links, small_routers};
@@ -102,7 +102,7 @@ fn hosts(alloc: Global) -> Result<Vec<HostPlan>, Fail>
 
 /// The router.
 fn routers(alloc: Global) -> Result<Vec<RouterPlan>, Fail>
-    ensures { IfOk result (λ routers. map (router_of 1) routers.items ≡ small_routers) }
+    ensures { IfOk result (λ routers. map (net_router_of 1) routers.items ≡ small_routers) }
 {
     let mut routes = [None; 32];
     routes[0] = Some(2);

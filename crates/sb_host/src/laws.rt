@@ -24,7 +24,7 @@ ghost use Rattle.sb_host.specs.Rested.{IsRestedHost};
 /// sent, it is all of them. Its next packet passes, so none is dropped.
 pub fn hosts_offer_their_scripts()
     ensures in_order { (h : HostSide) → IsWholeHost h → IsPrefix (offered_words h.requests) (asked_accesses h.transactions.asked) }
-    ensures told { (h : HostSide) → IsWholeHost h → h.requests.state.closing ≡ true
+    ensures told { (h : HostSide) → IsWholeHost h → h.requests.state.close_requested ≡ true
         → offered_words h.requests ≡ asked_accesses h.transactions.asked }
     ensures closed { (h : HostSide) → IsWholeHost h → has_close h.requests.state.sent ≡ true
         → offered_words h.requests ≡ asked_accesses h.transactions.asked }

@@ -1,22 +1,22 @@
 //! Hosts: they issue the transactions of their scripts, and keep what was answered.
 #![tactic(auto)]
 
+mod answer_row;
 mod cursor;
 mod host;
 mod host_core;
 #[cfg(test)]
 mod host_tests;
 mod laws;
-mod line;
-mod orders;
 mod outcome;
 mod place;
-mod row;
 mod script;
+mod script_plan;
 mod serving;
-mod table;
 #[cfg(test)]
 mod tests;
+mod transaction_plan;
+mod transaction_table;
 mod transactions;
 
 pub use host::{Host, HostParts};

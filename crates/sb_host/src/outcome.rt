@@ -5,42 +5,30 @@ ghost use Rattle.sb_packet.specs.Outcomes.{code_numbered};
 ghost use Rattle.sb_packet.specs.declared.transaction.TxnState.TheVariants as states;
 ghost use Rattle.sb_host.specs.Rows.{is_settled, kept_outcome, settled_code};
 
-use crate::line::Line;
-use crate::row::Row;
+use crate::answer_row::AnswerRow;
+use crate::transaction_plan::TransactionPlan;
 use sb_packet::{Code, Kind, TxnState};
 
-// the code with a number
-fn code_of(number: u8) -> Code
-    ensures { result ≡ code_numbered number }
-{
-    match number {
-        0 => Code::Ok,
-        1 => Code::ExOk,
-        2 => Code::DevErr,
-        _ => Code::NetErr,
-    }
-}
-
 // a transaction is answered: all its words are, or no device has its address, and the host has passed over it
-fn settled(aimed: bool, row: &Row, passed: bool) -> bool
+fn settled(aimed: bool, row: &AnswerRow, passed: bool) -> bool
     ensures { result ≡ is_settled aimed passed row.now }
 {
     if aimed { row.missing == 0 } else { passed }
 }
 
 // the code of a transaction that is answered
-fn code(aimed: bool, row: &Row) -> Code
+fn code(aimed: bool, row: &AnswerRow) -> Code
     ensures { result ≡ code_numbered (settled_code aimed row.now) }
 {
     if aimed {
-        code_of(row.code)
+        Code::numbered(row.code)
     } else {
         Code::NetErr
     }
 }
 
 /// How far a transaction has come; `passed` says that the host has come beyond it.
-pub(crate) fn state_of(line: &Line, row: &Row, passed: bool) -> TxnState
+pub(crate) fn state_of(line: &TransactionPlan, row: &AnswerRow, passed: bool) -> TxnState
     ensures { result ≡ (kept_outcome line.now.txn.kind line.now.aimed passed row.now).state }
 {
     match line.txn.kind {
@@ -58,7 +46,7 @@ pub(crate) fn state_of(line: &Line, row: &Row, passed: bool) -> TxnState
 }
 
 /// The bytes that were answered to it, none where it isn't answered.
-pub(crate) fn body_of<'a>(line: &Line, row: &'a Row, passed: bool) -> &'a [u8]
+pub(crate) fn body_of<'a>(line: &TransactionPlan, row: &'a AnswerRow, passed: bool) -> &'a [u8]
     ensures { result.now ≡ (kept_outcome line.now.txn.kind line.now.aimed passed row.now).body }
 {
     match line.txn.kind {

@@ -2,11 +2,11 @@
 
 ghost use Rattle.std.specs.Prelude.{◌≡◌, ◌≤◌, ◌%◌, ◌*◌, ◌^◌, ℕ, IfSome, IfNone};
 ghost use Rattle.sb_packet.specs.Scripts.{request_of};
-ghost use Rattle.sb_host.specs.declared.line.Line.{Line};
+ghost use Rattle.sb_host.specs.declared.transaction_plan.TransactionPlan.{TransactionPlan};
 ghost use Rattle.sb_host.specs.Outcomes.{is_answered_by};
 ghost use Rattle.sb_host.specs.Places.{IsPlace, asked_of};
 
-use crate::orders::Orders;
+use crate::script_plan::ScriptPlan;
 use sb_packet::{Kind, Op};
 
 /// Each transaction has so many addresses for its answers.
@@ -45,19 +45,19 @@ fn first_address(id: u8) -> u64
 }
 
 /// The word of a script that is answered by a word with that opcode and size, which came to that address.
-pub(crate) fn place_of(orders: &Orders, op: Op, size: u8, address: u64) -> Option<Place>
+pub(crate) fn place_of(script_plan: &ScriptPlan, op: Op, size: u8, address: u64) -> Option<Place>
     requires size { size ≤ 3 }
     requires range { address ≤ 2 ^ 56 }
     requires aligned { address % 2 ^ size ≡ 0 }
-    ensures found { IfSome result (λ p. (l : Line) × IsPlace (asked_of orders.now) op size address p.line p.word l) }
-    ensures none { IfNone result ((i k : ℕ) (l : Line) → IsPlace (asked_of orders.now) op size address i k l → ⊥) }
+    ensures found { IfSome result (λ p. (l : TransactionPlan) × IsPlace (asked_of script_plan.now) op size address p.line p.word l) }
+    ensures none { IfNone result ((i k : ℕ) (l : TransactionPlan) → IsPlace (asked_of script_plan.now) op size address i k l → ⊥) }
 {
-    let from = address.checked_sub(first_address(orders.id))?;
+    let from = address.checked_sub(first_address(script_plan.id))?;
     let line = (from / REPLY_BYTES) as usize;
-    if line >= orders.lines.len() {
+    if line >= script_plan.lines.len() {
         return None;
     }
-    let wanted = &orders.lines[line];
+    let wanted = &script_plan.lines[line];
     if !wanted.aimed || wanted.txn.size != size || !is_answer(wanted.txn.kind, op) {
         return None;
     }

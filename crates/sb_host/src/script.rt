@@ -6,8 +6,8 @@ ghost use Rattle.sb_flow.specs.NetworkOf.{network_of};
 ghost use Rattle.sb_host.specs.Asked.{asked_by, line_in};
 ghost use Rattle.sb_host.specs.Places.{asked_of};
 
-use crate::line::Line;
-use crate::orders::Orders;
+use crate::script_plan::ScriptPlan;
+use crate::transaction_plan::TransactionPlan;
 use sb_flow::{Bundle, target};
 use sb_packet::{Bytes, Txn};
 use std::alloc::{AllocError, Global};
@@ -36,18 +36,22 @@ fn is_aimed(bundle: &Bundle, txn: &Txn) -> bool
 }
 
 // a transaction, and whether a device has its address
-fn line_of(alloc: Global, bundle: &Bundle, txn: &Txn) -> Result<Line, AllocError>
+fn line_of(alloc: Global, bundle: &Bundle, txn: &Txn) -> Result<TransactionPlan, AllocError>
     ensures line { IfOk result (λ l. l ≡ line_in (network_of bundle.now) txn.now) }
 {
     let aimed = is_aimed(bundle, txn);
-    Ok(Line {
+    Ok(TransactionPlan {
         txn: copy_of(alloc, txn)?,
         aimed,
     })
 }
 
 // all transactions of a script
-fn lines_of(alloc: Global, bundle: &Bundle, script: &[Txn]) -> Result<Vec<Line>, AllocError>
+fn lines_of(
+    alloc: Global,
+    bundle: &Bundle,
+    script: &[Txn],
+) -> Result<Vec<TransactionPlan>, AllocError>
     ensures lines { IfOk result (λ v. v.items ≡ map (line_in (network_of bundle.now)) script.now) }
 {
     let mut lines = Vec::with_capacity(alloc, script.len())?;
@@ -62,14 +66,18 @@ fn lines_of(alloc: Global, bundle: &Bundle, script: &[Txn]) -> Result<Vec<Line>,
 /// # Errors
 ///
 /// `AllocError` where there isn't enough memory.
-pub(crate) fn orders_of(alloc: Global, bundle: &Bundle, number: u8) -> Result<Orders, AllocError>
+pub(crate) fn script_plan_of(
+    alloc: Global,
+    bundle: &Bundle,
+    number: u8,
+) -> Result<ScriptPlan, AllocError>
     requires number { number < length bundle.now.hosts.items }
     ensures asked { IfOk result (λ o. (host : NetHost) → slice_get (network_of bundle.now).hosts number ≡ Some host
         → asked_of o ≡ asked_by (network_of bundle.now) host) }
 {
     let plan = &bundle.hosts[usize::from(number)];
     let lines = lines_of(alloc, bundle, plan.script.as_slice())?;
-    Ok(Orders {
+    Ok(ScriptPlan {
         id: plan.id,
         qos: plan.qos,
         prot: plan.prot,

@@ -5,9 +5,9 @@ ghost use Rattle.sb_port.specs.Ports.{IsFit, PortSide, owes};
 ghost use Rattle.sb_node.specs.Kept.{IsKeptPort, IsKeptRing};
 ghost use Rattle.sb_node.specs.Rested.{IsRestedRing};
 ghost use Rattle.sb_node.specs.Sides.{RingSide, port_moves, ring_side};
-ghost use Rattle.sb_host.specs.Hosts.{IsInOrder};
+ghost use Rattle.sb_host.specs.Hosts.{IsHostInOrder};
 ghost use Rattle.sb_host.specs.Progress.{IsNextAimed, left_of};
-ghost use Rattle.sb_host.specs.Steps.{IsIssued, IsNextOffered, IsReceived};
+ghost use Rattle.sb_host.specs.Steps.{IsIssued, IsNextOffered, IsReceiveStep};
 
 use crate::transactions::Transactions;
 use sb_link::{RxEnd, TxEnd};
@@ -21,14 +21,14 @@ pub(crate) fn receive<U: RxEnd>(
     answers: &mut U,
     found: &mut Findings,
 ) -> bool
-    requires in_order { (port : PortSide) × IsInOrder transactions.old port (ring_side U.RxEnd answers.old) }
-    ensures received { IsReceived (ring_side U.RxEnd answers.old) (ring_side U.RxEnd answers.new) found.old found.new result }
+    requires in_order { (port : PortSide) × IsHostInOrder transactions.old port (ring_side U.RxEnd answers.old) }
+    ensures received { IsReceiveStep (ring_side U.RxEnd answers.old) (ring_side U.RxEnd answers.new) found.old found.new result }
     ensures ring { IsKeptRing (ring_side U.RxEnd answers.old) (ring_side U.RxEnd answers.new) }
     ensures still { result ≡ false → IsRestedRing (ring_side U.RxEnd answers.old) (ring_side U.RxEnd answers.new) }
     ensures unchanged { result ≡ false → transactions.new ≡ transactions.old }
     ensures rest { transactions.new ≡ record transactions.old { rows = transactions.new.rows; ended = transactions.new.ended } }
-    ensures in_order { (port : PortSide) → IsInOrder transactions.old port (ring_side U.RxEnd answers.old)
-        → IsInOrder transactions.new port (ring_side U.RxEnd answers.new) }
+    ensures in_order { (port : PortSide) → IsHostInOrder transactions.old port (ring_side U.RxEnd answers.old)
+        → IsHostInOrder transactions.new port (ring_side U.RxEnd answers.new) }
 {
     match pop_ring(answers, found) {
         Some(Item::Packet(answer)) => transactions.take(&answer),
@@ -40,7 +40,7 @@ pub(crate) fn receive<U: RxEnd>(
 
 // offers the next packet, which passes, and goes on behind it
 fn offer_next<T: TxEnd>(transactions: &mut Transactions, requests: &mut OutPort<T>)
-    requires in_order { (ring : RingSide) × IsInOrder transactions.old requests.old ring }
+    requires in_order { (ring : RingSide) × IsHostInOrder transactions.old requests.old ring }
     requires fit { IsFit requests.old.plan requests.old.state }
     requires ready { owes requests.old.state ≡ false }
     requires some { transactions.old.next < length transactions.old.asked.lines }
@@ -51,8 +51,9 @@ fn offer_next<T: TxEnd>(transactions: &mut Transactions, requests: &mut OutPort<
     ensures sent { requests.new.state.sent ≡ requests.old.state.sent }
     ensures onward { transactions.old.next ≤ transactions.new.next }
     ensures rest { transactions.new ≡ record transactions.old { next = transactions.new.next; part = transactions.new.part } }
-    ensures in_order { (ring : RingSide) → IsInOrder transactions.old requests.old ring → IsInOrder transactions.new requests.new ring }
-    ensures told { requests.new.state.closing ≡ false }
+    ensures in_order { (ring : RingSide) → IsHostInOrder transactions.old requests.old ring
+        → IsHostInOrder transactions.new requests.new ring }
+    ensures told { requests.new.state.close_requested ≡ false }
     ensures fit { IsFit requests.new.plan requests.new.state }
 {
     let packet = transactions.issue();
@@ -66,7 +67,7 @@ pub(crate) fn issue_next<T: TxEnd>(
     requests: &mut OutPort<T>,
     found: &mut Findings,
 ) -> bool
-    requires in_order { (ring : RingSide) × IsInOrder transactions.old requests.old ring }
+    requires in_order { (ring : RingSide) × IsHostInOrder transactions.old requests.old ring }
     requires fit { IsFit requests.old.plan requests.old.state }
     ensures issued { IsIssued requests.old requests.new found.old found.new result }
     ensures next_offered { IsNextOffered transactions.old requests.old requests.new }
@@ -75,9 +76,10 @@ pub(crate) fn issue_next<T: TxEnd>(
     ensures onward { transactions.old.next ≤ transactions.new.next }
     ensures rest { transactions.new ≡ record transactions.old { next = transactions.new.next; part = transactions.new.part } }
     ensures left { result ≡ false → left_of transactions.new ≡ left_of transactions.old }
-    ensures in_order { (ring : RingSide) → IsInOrder transactions.old requests.old ring → IsInOrder transactions.new requests.new ring }
+    ensures in_order { (ring : RingSide) → IsHostInOrder transactions.old requests.old ring
+        → IsHostInOrder transactions.new requests.new ring }
     ensures aimed { IsNextAimed transactions.new }
-    ensures closes_when_due { transactions.new.next ≡ length transactions.new.asked.lines → requests.new.state.closing ≡ true }
+    ensures closes_when_due { transactions.new.next ≡ length transactions.new.asked.lines → requests.new.state.close_requested ≡ true }
     ensures fit { IsFit requests.new.plan requests.new.state }
 {
     transactions.pass_over();
@@ -87,7 +89,7 @@ pub(crate) fn issue_next<T: TxEnd>(
         found.add_move();
         transactions.pass_over();
     }
-    if !transactions.any_left() && !requests.closing() {
+    if !transactions.any_left() && !requests.close_requested() {
         requests.close();
     }
     offers

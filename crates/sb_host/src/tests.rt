@@ -8,9 +8,9 @@ ghost use Rattle.sb_host.specs.Places.{asked_of};
 ghost use Rattle.sb_host.specs.Rows.{IsTable};
 
 use crate::cursor::Cursor;
-use crate::line::Line;
-use crate::orders::Orders;
-use crate::table::Table;
+use crate::script_plan::ScriptPlan;
+use crate::transaction_plan::TransactionPlan;
+use crate::transaction_table::TransactionTable;
 use sb_packet::{Bytes, Cmd, Code, Kind, Op, Packet, Txn, TxnState};
 use std::alloc::{AllocError, Global};
 use std::test::Fail;
@@ -19,12 +19,12 @@ use std::test::Fail;
 const REPLIES: u64 = 1 << 40;
 
 /// A read of so many words of 8 bytes.
-fn read(alloc: Global, count: u16, aimed: bool) -> Line
+fn read(alloc: Global, count: u16, aimed: bool) -> TransactionPlan
     requires some { 0 < count }
     requires most { count ≤ 256 }
     ensures transaction { IsTransaction result.txn }
 {
-    Line {
+    TransactionPlan {
         txn: Txn {
             kind: Kind::Read,
             size: 3,
@@ -37,12 +37,12 @@ fn read(alloc: Global, count: u16, aimed: bool) -> Line
 }
 
 /// A write of four words of 8 bytes, posted or not.
-fn write(alloc: Global, kind: Kind, aimed: bool) -> Result<Line, AllocError>
+fn write(alloc: Global, kind: Kind, aimed: bool) -> Result<TransactionPlan, AllocError>
     requires kind { IsTransaction (record { kind = kind; size = 3; addr = 0; count = 4; body = replicate 32 7 }) }
     ensures transaction { IfOk result (λ l. IsTransaction l.txn) }
 {
     let body = vec![in alloc; 7; 32]?;
-    Ok(Line {
+    Ok(TransactionPlan {
         txn: Txn {
             kind,
             size: 3,
@@ -119,7 +119,7 @@ fn shorter(place: u64) -> Packet
 }
 
 /// What host 1 asks for here: a read of 8 words, a write of 4, a posted write, and a read that is aimed at no device.
-fn orders(alloc: Global) -> Result<Orders, AllocError>
+fn script_plan(alloc: Global) -> Result<ScriptPlan, AllocError>
     ensures lines { IfOk result (λ o. length o.lines.items ≡ 4) }
 {
     let mut lines = Vec::new(alloc);
@@ -127,7 +127,7 @@ fn orders(alloc: Global) -> Result<Orders, AllocError>
     lines.push(write(alloc, Kind::Write, true)?)?;
     lines.push(write(alloc, Kind::Posted, true)?)?;
     lines.push(read(alloc, 2, false))?;
-    Ok(Orders {
+    Ok(ScriptPlan {
         id: 1,
         qos: 0,
         prot: 0,
@@ -136,35 +136,35 @@ fn orders(alloc: Global) -> Result<Orders, AllocError>
 }
 
 /// How far each of the four transactions has come, where the host has come to transaction `next`.
-fn states(table: &Table, orders: &Orders, next: usize) -> [TxnState; 4]
-    requires lines { length orders.now.lines.items ≡ 4 }
+fn states(table: &TransactionTable, script_plan: &ScriptPlan, next: usize) -> [TxnState; 4]
+    requires lines { length script_plan.now.lines.items ≡ 4 }
     requires rows { length table.now.rows.items ≡ 4 }
 {
     [
-        table.state(orders, next, 0),
-        table.state(orders, next, 1),
-        table.state(orders, next, 2),
-        table.state(orders, next, 3),
+        table.state(script_plan, next, 0),
+        table.state(script_plan, next, 1),
+        table.state(script_plan, next, 2),
+        table.state(script_plan, next, 3),
     ]
 }
 
 /// Takes these answers one after another.
-fn take_all(table: &mut Table, orders: &Orders, answers: &[Packet])
-    requires table { (received : List Access) × IsTable (asked_of orders.now) received table.old.rows.items }
-    ensures table { (received : List Access) × IsTable (asked_of orders.now) received table.new.rows.items }
+fn take_all(table: &mut TransactionTable, script_plan: &ScriptPlan, answers: &[Packet])
+    requires table { (received : List Access) × IsTable (asked_of script_plan.now) received table.old.rows.items }
+    ensures table { (received : List Access) × IsTable (asked_of script_plan.now) received table.new.rows.items }
 {
     for answer in answers {
-        table.take(orders, answer);
+        table.take(script_plan, answer);
     }
 }
 
 /// What host 1 asks for there: a read of 256 words.
-fn long_orders(alloc: Global) -> Result<Orders, AllocError>
+fn long_script_plan(alloc: Global) -> Result<ScriptPlan, AllocError>
     ensures lines { IfOk result (λ o. length o.lines.items ≡ 1) }
 {
     let mut lines = Vec::new(alloc);
     lines.push(read(alloc, 256, true))?;
-    Ok(Orders {
+    Ok(ScriptPlan {
         id: 1,
         qos: 0,
         prot: 0,
@@ -199,10 +199,10 @@ const LOST: TxnState = TxnState::Answered { code: Code::NetErr };
 #[test]
 fn answers_come_in_any_order(rt: HostRuntime) -> Result<(), Fail> {
     let alloc = rt.alloc();
-    let orders = orders(alloc)?;
-    let mut table = Table::new(alloc, &orders)?;
+    let script_plan = script_plan(alloc)?;
+    let mut table = TransactionTable::new(alloc, &script_plan)?;
     assert_eq!(rt;
-        states(&table, &orders, 0),
+        states(&table, &script_plan, 0),
         [WAITING, WAITING, TxnState::Posted, WAITING]
     );
     // the second half of the read before the first, and each of them twice: the first counts
@@ -212,24 +212,24 @@ fn answers_come_in_any_order(rt: HostRuntime) -> Result<(), Fail> {
         bytes(0, 0, 4),
         bytes(0, 3, 9),
     ];
-    take_all(&mut table, &orders, &late);
+    take_all(&mut table, &script_plan, &late);
     let refused = TxnState::Answered { code: Code::DevErr };
     assert_eq!(rt;
-        states(&table, &orders, 0),
+        states(&table, &script_plan, 0),
         [refused, WAITING, TxnState::Posted, WAITING]
     );
     let mut body = [4; 64];
     body[32..].copy_from_slice(&[5; 32]);
-    assert_eq!(rt; table.body(&orders, 0, 0), body.as_slice());
-    assert_eq!(rt; table.body(&orders, 0, 1).len(), 0);
+    assert_eq!(rt; table.body(&script_plan, 0, 0), body.as_slice());
+    assert_eq!(rt; table.body(&script_plan, 0, 1).len(), 0);
     Ok(())
 }
 
 #[test]
 fn other_words_are_dropped(rt: HostRuntime) -> Result<(), Fail> {
     let alloc = rt.alloc();
-    let orders = orders(alloc)?;
-    let mut table = Table::new(alloc, &orders)?;
+    let script_plan = script_plan(alloc)?;
+    let mut table = TransactionTable::new(alloc, &script_plan)?;
     let strays = [
         // of another opcode
         written(0, 1),
@@ -242,39 +242,42 @@ fn other_words_are_dropped(rt: HostRuntime) -> Result<(), Fail> {
         // of another size
         shorter(2048),
     ];
-    take_all(&mut table, &orders, &strays);
+    take_all(&mut table, &script_plan, &strays);
     assert_eq!(rt;
-        states(&table, &orders, 0),
+        states(&table, &script_plan, 0),
         [WAITING, WAITING, TxnState::Posted, WAITING]
     );
     let write = [written(2048, 1)];
-    take_all(&mut table, &orders, &write);
+    take_all(&mut table, &script_plan, &write);
     let answered = TxnState::Answered { code: Code::ExOk };
     assert_eq!(rt;
-        states(&table, &orders, 3),
+        states(&table, &script_plan, 3),
         [WAITING, answered, TxnState::Posted, WAITING]
     );
     assert_eq!(rt;
-        states(&table, &orders, 4),
+        states(&table, &script_plan, 4),
         [WAITING, answered, TxnState::Posted, LOST]
     );
-    assert_eq!(rt; table.body(&orders, 4, 3), [0; 16].as_slice());
+    assert_eq!(rt; table.body(&script_plan, 4, 3), [0; 16].as_slice());
     Ok(())
 }
 
 #[test]
 fn long_reads_are_answered(rt: HostRuntime) -> Result<(), Fail> {
     let alloc = rt.alloc();
-    let orders = long_orders(alloc)?;
-    let mut table = Table::new(alloc, &orders)?;
+    let script_plan = long_script_plan(alloc)?;
+    let mut table = TransactionTable::new(alloc, &script_plan)?;
     let later = long_answers(alloc, 1, 64)?;
-    take_all(&mut table, &orders, &later);
-    assert_eq!(rt; table.state(&orders, 1, 0), WAITING);
-    assert_eq!(rt; table.body(&orders, 1, 0).len(), 0);
+    take_all(&mut table, &script_plan, &later);
+    assert_eq!(rt; table.state(&script_plan, 1, 0), WAITING);
+    assert_eq!(rt; table.body(&script_plan, 1, 0).len(), 0);
     let first = long_answers(alloc, 0, 1)?;
-    take_all(&mut table, &orders, &first);
+    take_all(&mut table, &script_plan, &first);
     let answered = TxnState::Answered { code: Code::Ok };
-    assert_eq!(rt; table.state(&orders, 1, 0), answered);
-    assert_eq!(rt; table.body(&orders, 1, 0), long_body(alloc)?.as_slice());
+    assert_eq!(rt; table.state(&script_plan, 1, 0), answered);
+    assert_eq!(rt;
+        table.body(&script_plan, 1, 0),
+        long_body(alloc)?.as_slice()
+    );
     Ok(())
 }

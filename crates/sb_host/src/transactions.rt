@@ -11,8 +11,8 @@ ghost use Rattle.sb_host.specs.Progress.{IsNextAimed, left_of};
 ghost use Rattle.sb_host.specs.Rows.{IsTable};
 
 use crate::cursor::Cursor;
-use crate::orders::Orders;
-use crate::table::Table;
+use crate::script_plan::ScriptPlan;
+use crate::transaction_table::TransactionTable;
 use sb_packet::{Packet, TxnState};
 use std::alloc::{AllocError, Global};
 use std::marker::Model;
@@ -20,9 +20,9 @@ use std::marker::Model;
 /// A host's transactions: what it asks for, how far it has come with that, and what was answered.
 #[derive(Drop)]
 pub struct Transactions {
-    orders: Orders,
+    script_plan: ScriptPlan,
     cursor: Cursor,
-    table: Table,
+    table: TransactionTable,
     // the ring of answers gave Close
     ended: bool,
 }
@@ -36,10 +36,10 @@ impl Model for Transactions {
     ghost use Rattle.sb_host.specs.Places.{asked_of};
 
     ghost view = { λ t.
-        record { asked = asked_of t.orders; rows = t.table.rows.items; next = t.cursor.next; part = t.cursor.part; ended = t.ended } };
+        record { asked = asked_of t.script_plan; rows = t.table.rows.items; next = t.cursor.next; part = t.cursor.part; ended = t.ended } };
 
     // the table has a row for each transaction
-    ghost invariant = { λ t. length t.table.rows.items ≡ length t.orders.lines.items };
+    ghost invariant = { λ t. length t.table.rows.items ≡ length t.script_plan.lines.items };
 }
 
 impl Transactions {
@@ -48,13 +48,13 @@ impl Transactions {
     /// # Errors
     ///
     /// `AllocError` where there isn't enough memory.
-    pub(crate) fn new(alloc: Global, orders: Orders) -> Result<Transactions, AllocError>
-        ensures fresh { IfOk result (λ t. t ≡ record { asked = asked_of orders; rows = t.rows; next = 0; part = 0; ended = false }) }
+    pub(crate) fn new(alloc: Global, script_plan: ScriptPlan) -> Result<Transactions, AllocError>
+        ensures fresh { IfOk result (λ t. t ≡ record { asked = asked_of script_plan; rows = t.rows; next = 0; part = 0; ended = false }) }
         ensures table { IfOk result (λ t. IsTable t.asked [] t.rows) }
     {
-        let table = Table::new(alloc, &orders)?;
+        let table = TransactionTable::new(alloc, &script_plan)?;
         Ok(Transactions {
-            orders,
+            script_plan,
             cursor: Cursor { next: 0, part: 0 },
             table,
             ended: false,
@@ -65,7 +65,7 @@ impl Transactions {
     pub fn count(&self) -> usize
         ensures count { result ≡ length self.now.asked.lines }
     {
-        self.orders.lines.len()
+        self.script_plan.lines.len()
     }
 
     /// How far the transaction at that place of the script has come.
@@ -75,7 +75,7 @@ impl Transactions {
             → (slice_index_or (outcomes_so_far self.now.asked received self.now.next) index none).state ≡ result }
     {
         self.table
-            .state(&self.orders, self.cursor.next, index as usize)
+            .state(&self.script_plan, self.cursor.next, index as usize)
     }
 
     /// The bytes that were answered to it; none where it isn't answered.
@@ -85,7 +85,7 @@ impl Transactions {
             → (slice_index_or (outcomes_so_far self.now.asked received self.now.next) index none).body ≡ result.now }
     {
         self.table
-            .body(&self.orders, self.cursor.next, index as usize)
+            .body(&self.script_plan, self.cursor.next, index as usize)
     }
 
     /// The ring of answers gave Close.
@@ -109,7 +109,7 @@ impl Transactions {
             → IsTable self.old.asked (received ++ accesses_of answer.now) self.new.rows }
         ensures rest { self.new ≡ record self.old { rows = self.new.rows } }
     {
-        self.table.take(&self.orders, answer);
+        self.table.take(&self.script_plan, answer);
     }
 
     /// A transaction is left whose packets aren't all issued.
@@ -117,7 +117,7 @@ impl Transactions {
         ensures some { result ≡ true → self.now.next < length self.now.asked.lines }
         ensures none { result ≡ false → length self.now.asked.lines ≤ self.now.next }
     {
-        self.cursor.next < self.orders.lines.len()
+        self.cursor.next < self.script_plan.lines.len()
     }
 
     /// Passes over the transactions that are next and aimed at no device.
@@ -129,7 +129,7 @@ impl Transactions {
         ensures aimed { IsNextAimed self.new }
         ensures rest { self.new ≡ record self.old { next = self.new.next } }
     {
-        self.cursor.pass_over(&self.orders);
+        self.cursor.pass_over(&self.script_plan);
     }
 
     /// The next packet, of a transaction that is aimed at a device, and goes on behind it.
@@ -142,6 +142,6 @@ impl Transactions {
         ensures onward { self.old.next ≤ self.new.next }
         ensures rest { self.new ≡ record self.old { next = self.new.next; part = self.new.part } }
     {
-        self.cursor.issue(&self.orders)
+        self.cursor.issue(&self.script_plan)
     }
 }

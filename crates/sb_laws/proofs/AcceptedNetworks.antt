@@ -3,7 +3,7 @@ use Rattle.std.proofs.Common.{◌≡◌, ◌≤◌, ◌<◌, ℕ, ◌+◌, ◌%�
 use Rattle.std.specs.Prelude.{◌==◌, ◌||◌, ◌&&◌, ◌⊎◌, nat_le, nat_lt, not, filter, All, AllPairs, Option, Some, None, get_or, slice_get, option_map, option_and_then, if◌then◌else◌}
 use Rattle.std.specs.List.{list_any, list_all, find, position_from, enumerate_from, range_with_len}
 use Rattle.std.specs.Option.{option_map_or}
-use Rattle.std.proofs.lemmas.Bool.{cases_lt}
+use Rattle.std.proofs.lemmas.Bool.{cases_lt, and_parts}
 use Rattle.std.proofs.lemmas.Bool.Decides.{nat_tests}
 use Rattle.std.proofs.lemmas.Option.{slice_get-get_or}
 use Rattle.std.proofs.lemmas.List.Elements.{All-weaker}
@@ -20,14 +20,14 @@ use Rattle.sb_flow.specs.Ranges.{is_placed_device}
 use Rattle.sb_flow.specs.Ends.{joins, goes_back}
 use Rattle.sb_flow.specs.Routes.{RouteAt, is_other_device, leads_on, is_stray, stray_route_of, stray_route, lost_behind, lost_on_way, lost_of_host, lost_flow}
 use Rattle.sb_flow.specs.Accepted.{IsAccepted}
+use Rattle.sb_flow.proofs.Clashes.{option_or-None, option_map-None}
+use Rattle.sb_flow.proofs.WayCourses.{some_number-is, place-is}
 use Rattle.sb_laws.specs.Layouts.{HasScripts}
 use Rattle.sb_laws.specs.NetworkWays.{is_link_to}
 use Rattle.sb_laws.specs.Routed.{LeadsOn, IsRoute, IsFirstLink, IsRouted}
-use Rattle.sb_laws.proofs.FlowMembers.{and_parts}
-use Rattle.sb_laws.proofs.NetworkLaidOut.{named}
 use Rattle.sb_laws.proofs.LinksToDevices.{found_place, none_found}
-use Rattle.sb_laws.proofs.NoFaults.{neither, not_mapped, none_passes, nothing_found, all_pass, nothing_told, at_place, some_place, All-at, AllPairs-at, no_clash}
-use Rattle.sb_laws.proofs.FitLinks.{AreFit, fit_links, is_false, host_start, router_end, only_link}
+use Rattle.sb_laws.proofs.NoFaults.{none_passes, nothing_found, all_pass, nothing_told, at_place, some_place, All-at, AllPairs-at, no_clash}
+use Rattle.sb_laws.proofs.FitLinks.{AreFit, fit_links, is_false, host_start, only_link}
 
 -- the limits that matter here
 record Limited (network : Network) : Type 0 where
@@ -139,8 +139,8 @@ module _ (network : Network) (accepted : IsAccepted network) where
   unlinked =
       let hosts = find (λ h. not (list_any (leaves_from h) network.links)) (range_with_len 0 (length network.hosts)) in
       let devices = find (λ d. not (list_any (leads_to d) network.links)) (range_with_len 0 (length network.devices)) in
-      let parts = neither (option_map at_host hosts) (option_map at_device devices) accepted.linked in
-      (not_mapped at_host hosts parts.0, not_mapped at_device devices parts.1)
+      let parts = option_or-None (option_map at_host hosts) (option_map at_device devices) accepted.linked in
+      (option_map-None at_host hosts parts.0, option_map-None at_device devices parts.1)
 
   at_number : (P : ℕ → Type 0) (n k : ℕ) → All P (range_with_len 0 n) → k < n → P k
   at_number P n k h inside = subst P (get_or-range_with_len 0 n k k inside ∙ omega arith) (h k k (rw length-range_with_len inside))
@@ -204,7 +204,7 @@ module _ (network : Network) (accepted : IsAccepted network) where
     where
       by_link : (o : Option NetLink) → slice_get network.links k ≡ o → option_and_then (λ l. router_of (end l)) o ≡ Some r → LinkEnd end k r
       by_link None is e = absurd (cc)
-      by_link (Some l) is e = record { link = l; inside = (at_place (λ z. true) network.links k (ap (λ (o : Option NetLink). option_map_or (λ z. true) o false) is)).1; at = is; is = router_end (end l) r e }
+      by_link (Some l) is e = record { link = l; inside = (at_place (λ z. true) network.links k (ap (λ (o : Option NetLink). option_map_or (λ z. true) o false) is)).1; at = is; is = place-is (end l) r e }
 
   router_there : (r : ℕ) → is_there network (at_router r) ≡ true → r < length network.routers
   router_there r e = grind (arith, nat_tests)
@@ -232,7 +232,7 @@ module _ (network : Network) (accepted : IsAccepted network) where
 
   -- routes lead on
   no_route_faults : (stray_route network ≡ None) × (lost_flow network ≡ None)
-  no_route_faults = neither (stray_route network) (lost_flow network) accepted.routes
+  no_route_faults = option_or-None (stray_route network) (lost_flow network) accepted.routes
 
   straight : (d r : ℕ) → d < length network.devices → r < length network.routers → is_stray network r d ≡ false
   straight d r inside within =
@@ -245,7 +245,7 @@ module _ (network : Network) (accepted : IsAccepted network) where
       let test : option_map_or (leads_on network r d) (route_at network d r) true ≡ true = is_placed (option_map_or (leads_on network r d) (route_at network d r) true) (straight d r inside within) in
       let on : leads_on network r d k ≡ true = ap (λ (o : Option ℕ). option_map_or (leads_on network r d) o true) (sym route) ∙ test in
       let parts = and_parts (is_some_number r (router_before network k)) (not (option_map_or (λ l. is_other_device d l.to) (slice_get network.links k) false)) on in
-      let leaves = named r (router_before network k) parts.0 in
+      let leaves = some_number-is r (router_before network k) parts.0 in
       let start = link_end (λ l. l.from) k r leaves in
       record { there = start.inside; leaves = leaves; leads = of_link start.link start.at start.is (is_false (option_map_or (λ l. is_other_device d l.to) (slice_get network.links k) false) parts.1) }
     where

@@ -16,7 +16,7 @@ use Rattle.sb_packet.specs.Plans.{NetFlow}
 use Rattle.sb_packet.proofs.FoundAnswers.{same_access_self}
 use Rattle.sb_packet.proofs.Lists.{AllPairs-head, AllPairs-tail}
 use Rattle.sb_packet.specs.Rings.{is_answered}
-use Rattle.sb_laws.specs.Flows.{is_of, words_of}
+use Rattle.sb_laws.specs.Flows.{is_of, words_of_flow}
 use Rattle.sb_host.specs.Outcomes.{is_answered_by}
 
 -- the answers to some words, one step after another
@@ -85,50 +85,50 @@ past m x list (a ∷ words) h =
 module _ (network : Network) (f : NetFlow) where
   -- the answer to a word is of the flow exactly where the word is
   answer_kept : (b : Bool) (o : Option Access) (rest : List Access) → ((x : Access) → o ≡ Some x → is_of network f x ≡ b) →
-      words_of network f (cons_option o rest) ≡ cond b (cons_option o (words_of network f rest)) (words_of network f rest)
+      words_of_flow network f (cons_option o rest) ≡ cond b (cons_option o (words_of_flow network f rest)) (words_of_flow network f rest)
   answer_kept true None rest h = refl
   answer_kept false None rest h = refl
   answer_kept true (Some x) rest h = rw (h x refl) refl
   answer_kept false (Some x) rest h = rw (h x refl) refl
 
   first_kept : (m : MemoryState) (x : Access) (list : List Access) →
-      words_of network f (given m (x ∷ list)) ≡ cond (is_of network f x) (cons_option (access_answer m x) (words_of network f (given (access_step m x) list))) (words_of network f (given (access_step m x) list))
+      words_of_flow network f (given m (x ∷ list)) ≡ cond (is_of network f x) (cons_option (access_answer m x) (words_of_flow network f (given (access_step m x) list))) (words_of_flow network f (given (access_step m x) list))
   first_kept m x list = answer_kept (is_of network f x) (access_answer m x) (given (access_step m x) list) (λ y e. (answer_is network m x y e).flow f)
 
   -- the answers to a flow's words are what is found for each of them at its first place
   pub flow_answers_found : (m : MemoryState) (list : List Access) → AllPairs (λ a b. a.src ≢ b.src) list →
-      words_of network f (given m list) ≡ filter_map (answer_at_first m list) (words_of network f list)
+      words_of_flow network f (given m list) ≡ filter_map (answer_at_first m list) (words_of_flow network f list)
   flow_answers_found m [] apart = refl
   flow_answers_found m (x ∷ list) apart = first_kept m x list ∙ by_flow (is_of network f x) (flow_answers_found (access_step m x) list (AllPairs-tail (λ a b. a.src ≢ b.src) x list apart))
     where
-      skipped : filter_map (answer_at_first m (x ∷ list)) (words_of network f list) ≡ filter_map (answer_at_first (access_step m x) list) (words_of network f list)
-      skipped = past m x list (words_of network f list) (All-filter (is_of network f) (λ a. x.src ≢ a.src) list (AllPairs-head (λ a b. a.src ≢ b.src) x list apart))
+      skipped : filter_map (answer_at_first m (x ∷ list)) (words_of_flow network f list) ≡ filter_map (answer_at_first (access_step m x) list) (words_of_flow network f list)
+      skipped = past m x list (words_of_flow network f list) (All-filter (is_of network f) (λ a. x.src ≢ a.src) list (AllPairs-head (λ a b. a.src ≢ b.src) x list apart))
 
       here : answer_at_first m (x ∷ list) x ≡ access_answer m x
       here = ap (λ (b : Bool). cond b (access_answer m x) (answer_at_first (access_step m x) list x)) (same_access_self x)
 
-      by_flow : (b : Bool) → words_of network f (given (access_step m x) list) ≡ filter_map (answer_at_first (access_step m x) list) (words_of network f list) →
-          cond b (cons_option (access_answer m x) (words_of network f (given (access_step m x) list))) (words_of network f (given (access_step m x) list))
-          ≡ filter_map (answer_at_first m (x ∷ list)) (cond b (x ∷ words_of network f list) (words_of network f list))
+      by_flow : (b : Bool) → words_of_flow network f (given (access_step m x) list) ≡ filter_map (answer_at_first (access_step m x) list) (words_of_flow network f list) →
+          cond b (cons_option (access_answer m x) (words_of_flow network f (given (access_step m x) list))) (words_of_flow network f (given (access_step m x) list))
+          ≡ filter_map (answer_at_first m (x ∷ list)) (cond b (x ∷ words_of_flow network f list) (words_of_flow network f list))
       by_flow true later = rw (here, skipped, later) refl
       by_flow false later = later ∙ sym skipped
 
   -- there are no more answers than words that are answered
-  pub answers_are_few : (m : MemoryState) (list : List Access) → length (words_of network f (given m list)) ≤ length (filter (λ a. is_answered a.op) (words_of network f list))
+  pub answers_are_few : (m : MemoryState) (list : List Access) → length (words_of_flow network f (given m list)) ≤ length (filter (λ a. is_answered a.op) (words_of_flow network f list))
   answers_are_few m [] = omega arith
   answers_are_few m (x ∷ list) = rw (first_kept m x list) (by_flow (is_of network f x) (answers_are_few (access_step m x) list))
     where
       rest : List Access
-      rest = words_of network f (given (access_step m x) list)
+      rest = words_of_flow network f (given (access_step m x) list)
 
       wanted : List Access
-      wanted = filter (λ a. is_answered a.op) (words_of network f list)
+      wanted = filter (λ a. is_answered a.op) (words_of_flow network f list)
 
       by_answer : (b : Bool) → is_answered x.op ≡ b → (o : Option Access) → access_answer m x ≡ o → length rest ≤ length wanted → length (cons_option o rest) ≤ length (cond b (x ∷ wanted) wanted)
       by_answer b t None e later = elim b as (λ c. length rest ≤ length (cond c (x ∷ wanted) wanted)) [ true ↦ omega arith | false ↦ later ]
       by_answer true t (Some y) e later = omega arith
       by_answer false t (Some y) e later = absurd (let none = others_have_none m x t in cc)
 
-      by_flow : (b : Bool) → length rest ≤ length wanted → length (cond b (cons_option (access_answer m x) rest) rest) ≤ length (filter (λ a. is_answered a.op) (cond b (x ∷ words_of network f list) (words_of network f list)))
+      by_flow : (b : Bool) → length rest ≤ length wanted → length (cond b (cons_option (access_answer m x) rest) rest) ≤ length (filter (λ a. is_answered a.op) (cond b (x ∷ words_of_flow network f list) (words_of_flow network f list)))
       by_flow true later = by_answer (is_answered x.op) refl (access_answer m x) refl later
       by_flow false later = later

@@ -7,6 +7,7 @@ use Rattle.std.proofs.Math.Pow.{pow_pos}
 use Rattle.std.proofs.lemmas.Bool.Decides.{nat_tests}
 use Rattle.std.proofs.lemmas.List.Elements.{All-nil, All-cons, All-head, All-tail, All-weaker, All-contains_itself}
 use Rattle.std.proofs.lemmas.List.FromFn.{length-range_with_len, get_or-range_with_len, length-enumerate_from, get_or-enumerate_from}
+use Rattle.std.proofs.lemmas.Bool.{and_parts}
 use Rattle.sb_packet.specs.Accesses.{access_at}
 use Rattle.sb_packet.specs.Networks.{NetHost, NetDevice, Network, device_at, has_address}
 use Rattle.sb_packet.specs.Scripts.{IsTransaction, transaction_message, transaction_accesses, script_accesses}
@@ -16,24 +17,21 @@ use Rattle.sb_packet.specs.Ways.{is_aimed_at, is_some_number, aims_at, host_ways
 use Rattle.sb_packet.specs.declared.transaction.Txn.{Txn}
 use Rattle.sb_packet.proofs.Lists.{All-made, All-joined, filter_none}
 use Rattle.sb_packet.proofs.ReplyAddresses.{word_within}
-use Rattle.sb_laws.specs.Flows.{is_of, is_same_flow, is_among_flows, asked_of}
-use Rattle.sb_laws.specs.NetworkLayouts.{flow_of, network_flows}
+use Rattle.sb_link.proofs.Truths.{same_test}
+use Rattle.sb_flow.proofs.FlowWords.{request_asks}
+use Rattle.sb_flow.proofs.LinkMarks.{list_any-map}
+use Rattle.sb_laws.specs.Flows.{is_of, is_same_flow, is_among_flows, asked_words}
+use Rattle.sb_laws.specs.NetworkLayouts.{way_flow, network_flows}
 use Rattle.sb_laws.specs.Routed.{IsRouted}
-use Rattle.sb_laws.proofs.FlowMembers.{and_parts, not_true, of_device, same_flow_from}
+use Rattle.sb_laws.proofs.FlowMembers.{not_true, of_device, same_flow_from}
 use Rattle.sb_laws.proofs.ListPlaces.{All-enumerated, any_passing, any_joined}
 use Rattle.sb_laws.proofs.Journals.{place_below}
-use Rattle.sb_laws.proofs.ScriptFacts.{found_fact, asks}
-use Rattle.sb_laws.proofs.CarriedRings.{list_any-map}
+use Rattle.sb_laws.proofs.ScriptFacts.{found_fact}
 
 -- tests that agree find the same place
 place_same : (t u : NetDevice → Bool) (i : ℕ) (xs : List NetDevice) → All (λ x. t x ≡ u x) xs → position_from t i xs ≡ position_from u i xs
 place_same t u i [] same = refl
 place_same t u i (x ∷ xs) same = rw (All-head (λ x. t x ≡ u x) x xs same, place_same t u (i + 1) xs (All-tail (λ x. t x ≡ u x) x xs same)) refl
-
-same_test : (p q : Bool) → (p ≡ true → q ≡ true) → (q ≡ true → p ≡ true) → p ≡ q
-same_test true q there back = sym (there refl)
-same_test false true there back = back refl
-same_test false false there back = refl
 
 -- a device of whole pages has all addresses of a page, or none
 has_page : (a b : ℕ) (d : NetDevice) → d.base % 4096 ≡ 0 → a / 4096 ≡ b / 4096 → has_address a d ≡ true → has_address b d ≡ true
@@ -72,7 +70,7 @@ module _ (network : Network) where
       of_one i t is elsewhere = All-made (λ a. is_of network f a ≡ false) (access_at (transaction_message host i t)) t.count
           (λ j below. not_true (is_of network f (access_at (transaction_message host i t) j)) (λ e.
           let at = of_device network f (access_at (transaction_message host i t) j) e in
-          let asked : device_address (access_at (transaction_message host i t) j) ≡ t.addr + j * 2 ^ t.size = ap (λ (b : Bool). cond b (t.addr + j * 2 ^ t.size) ((access_at (transaction_message host i t) j).src)) (asks t.kind) in
+          let asked : device_address (access_at (transaction_message host i t) j) ≡ t.addr + j * 2 ^ t.size = ap (λ (b : Bool). cond b (t.addr + j * 2 ^ t.size) ((access_at (transaction_message host i t) j).src)) (request_asks t.kind) in
           let here : is_aimed_at network f.device t ≡ true = ap (is_some_number f.device) (sym (word_device pages t is j below)) ∙ ap (λ (n : ℕ). is_some_number f.device (device_at network n)) (sym asked) ∙ at in cc))
 
   -- a transaction is aimed at a device that there is
@@ -108,11 +106,11 @@ module _ (network : Network) where
       let element : get_or (enumerate_from 0 network.hosts) h p ≡ (0 + h, host) = get_or-enumerate_from 0 network.hosts h p inside in
       let own : is_same_flow f (record { host = host.id; device = get_or (range_with_len 0 (length network.devices)) d d }) ≡ true = same_flow_from f (record { host = host.id; device = get_or (range_with_len 0 (length network.devices)) d d }) refl (let same = at in grind (arith, nat_tests)) in
       let passing = any_passing (λ e. is_same_flow f (record { host = host.id; device = e })) (aims_at network host) (range_with_len 0 (length network.devices)) d d counted (ap (aims_at network host) at ∙ aims) own in
-      let in_host : list_any (λ way. is_same_flow f (flow_of way)) (host_ways network (0 + h) host) ≡ true =
-      list_any-map (λ way. is_same_flow f (flow_of way)) (λ e. record { host = host; device = e; links = way_links network (0 + h) e }) (filter (aims_at network host) (range_with_len 0 (length network.devices))) ∙ passing in
-      list_any-map (is_same_flow f) flow_of (network_ways network)
-      ∙ any_joined (λ way. is_same_flow f (flow_of way)) (λ p. host_ways network p.0 p.1) (enumerate_from 0 network.hosts) h p numbered
-      (subst (λ (q : ℕ × NetHost). list_any (λ way. is_same_flow f (flow_of way)) (host_ways network q.0 q.1) ≡ true) (sym element) in_host)
+      let in_host : list_any (λ way. is_same_flow f (way_flow way)) (host_ways network (0 + h) host) ≡ true =
+      list_any-map (λ way. is_same_flow f (way_flow way)) (λ e. record { host = host; device = e; links = way_links network (0 + h) e }) (filter (aims_at network host) (range_with_len 0 (length network.devices))) ∙ passing in
+      list_any-map (is_same_flow f) way_flow (network_ways network)
+      ∙ any_joined (λ way. is_same_flow f (way_flow way)) (λ p. host_ways network p.0 p.1) (enumerate_from 0 network.hosts) h p numbered
+      (subst (λ (q : ℕ × NetHost). list_any (λ way. is_same_flow f (way_flow way)) (host_ways network q.0 q.1) ≡ true) (sym element) in_host)
 
   none_any : (p : Txn → Bool) (txns : List Txn) → list_any p txns ≡ false → All (λ t. p t ≡ false) txns
   none_any p [] e = All-nil (λ t. p t ≡ false)
@@ -129,7 +127,7 @@ module _ (network : Network) where
     is : get_or network.hosts place host ≡ host
     transactions : All IsTransaction host.script
 
-  pub all_ways_law : IsRouted network → (f : NetFlow) → is_among_flows f (network_flows network) ≡ false → asked_of network f ≡ []
+  pub all_ways_law : IsRouted network → (f : NetFlow) → is_among_flows f (network_flows network) ≡ false → asked_words network f ≡ []
   all_ways_law routed f none = by_found (find (λ h. h.id == f.host) network.hosts) refl
     where
       placed : All Placed network.hosts

@@ -3,7 +3,7 @@ use Rattle.std.proofs.Common.{◌≡◌, ◌≤◌, ◌<◌, ℕ, zero, suc, ◌
 use Rattle.std.specs.Prelude.{sum_by, All, Any}
 use Rattle.std.proofs.lemmas.List.Elements.{All-head, All-tail, All-weaker}
 use Rattle.std.proofs.lemmas.List.Sums.{sum_by-cons}
-use Rattle.sb_laws.specs.Moves.{RingUse, IsKept, HasMoved, offers, lets_go, sends, pops, handles, sends_close, pops_close, IsWithinBudget, AreMovingRounds, move_bound}
+use Rattle.sb_laws.specs.Moves.{RingUse, IsKept, IsMoveAtRing, offers, lets_go, sends, pops, handles, sends_close, pops_close, IsWithinBudget, AreMovingRounds, move_bound}
 use Rattle.sb_laws.proofs.Sums.{sum_by_le}
 
 -- how much has been done at a ring
@@ -24,7 +24,7 @@ bit_moved a b e f = rw (e, f) (omega arith)
 used_kept : (a b : RingUse) → IsKept a b → used a ≤ used b
 used_kept a b kept = let closed = bit_kept a.closed b.closed kept.closed in let ended = bit_kept a.ended b.ended kept.ended in omega arith
 
-used_moved : (a b : RingUse) → IsKept a b → HasMoved a b → used a < used b
+used_moved : (a b : RingUse) → IsKept a b → IsMoveAtRing a b → used a < used b
 used_moved a b kept (offers m) = let closed = bit_kept a.closed b.closed kept.closed in let ended = bit_kept a.ended b.ended kept.ended in omega arith
 used_moved a b kept (lets_go m) = let closed = bit_kept a.closed b.closed kept.closed in let ended = bit_kept a.ended b.ended kept.ended in omega arith
 used_moved a b kept (sends m) = let closed = bit_kept a.closed b.closed kept.closed in let ended = bit_kept a.ended b.ended kept.ended in omega arith
@@ -50,7 +50,7 @@ sum_by_lt f g (r ∷ rs) all (suc k, x, inside, is, more) =
     omega (arith, sum_by-cons f r rs, sum_by-cons g r rs)
 
 module _ (rings : List ℕ) (budget : ℕ → ℕ) where
-  more_used : (a b : ℕ → RingUse) → All (λ r. IsKept (a r) (b r)) rings → Any (λ r. HasMoved (a r) (b r)) rings → sum_by (λ r. used (a r)) rings < sum_by (λ r. used (b r)) rings
+  more_used : (a b : ℕ → RingUse) → All (λ r. IsKept (a r) (b r)) rings → Any (λ r. IsMoveAtRing (a r) (b r)) rings → sum_by (λ r. used (a r)) rings < sum_by (λ r. used (b r)) rings
   more_used a b kept (k, r, inside, is, moved) =
       sum_by_lt (λ r. used (a r)) (λ r. used (b r)) rings (All-weaker (λ r. IsKept (a r) (b r)) (λ r. used (a r) ≤ used (b r)) (λ r h. used_kept (a r) (b r) h) rings kept)
       (k, r, inside, is, used_moved (a r) (b r) (subst (λ (q : ℕ). IsKept (a q) (b q)) is (kept k r inside)) moved)

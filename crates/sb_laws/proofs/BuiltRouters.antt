@@ -18,7 +18,7 @@ use Rattle.sb_port.specs.Ports.{PortSide}
 use Rattle.sb_router.specs.Lanes.{InletState, LaneState, Route, inlet_at, no_inlet, no_port, next_place, outlet_at}
 use Rattle.sb_router.specs.RouteOf.{route_of}
 use Rattle.sb_router.specs.Routers.{DirectionSide}
-use Rattle.sb_laws.specs.Courses.{Course, flows_over, goes_over, is_carried}
+use Rattle.sb_laws.specs.Courses.{Course, flows_over, goes_over, is_of_ring}
 use Rattle.sb_laws.specs.Flows.{is_among_flows, is_of, is_same_flow}
 use Rattle.sb_laws.specs.Routed.{IsRouted}
 use Rattle.sb_laws.specs.RouterLayouts.{IsBuiltFor}
@@ -84,10 +84,10 @@ module _ (network : Network) (routed : IsRouted network) (c : Course) (up : Bool
       let few = routed.few in
       (omega (arith, host, fits), omega (arith, device, few))
 
-  together : (list : List Access) (g : NetFlow) → (g.host < 32) × (g.device < 32) → All (λ a. is_of network g a ≡ true) list → (o : ℕ) → route g ≡ Some o → filter (is_carried network c (slice_index_or outs o 0)) list ≡ list
-  together list g low of_g o e = filter_all (is_carried network c (slice_index_or outs o 0)) list
-      (All-weaker (λ a. is_of network g a ≡ true) (λ a. is_carried network c (slice_index_or outs o 0) a ≡ true)
-      (λ a t. ap (λ (n : ℕ). is_carried network c n a) (out_number o (built.table.within g o e)) ∙ of_some network g a (flows_over c (outlet_at s o).plan.ring) t (goes_on o g low.0 low.1 e)) list of_g)
+  together : (list : List Access) (g : NetFlow) → (g.host < 32) × (g.device < 32) → All (λ a. is_of network g a ≡ true) list → (o : ℕ) → route g ≡ Some o → filter (is_of_ring network c (slice_index_or outs o 0)) list ≡ list
+  together list g low of_g o e = filter_all (is_of_ring network c (slice_index_or outs o 0)) list
+      (All-weaker (λ a. is_of network g a ≡ true) (λ a. is_of_ring network c (slice_index_or outs o 0) a ≡ true)
+      (λ a t. ap (λ (n : ℕ). is_of_ring network c n a) (out_number o (built.table.within g o e)) ∙ of_some network g a (flows_over c (outlet_at s o).plan.ring) t (goes_on o g low.0 low.1 e)) list of_g)
 
   no_other : (list : List Access) (g : NetFlow) → All (λ a. is_of network g a ≡ true) list → (f : NetFlow) → (f ≡ g) ⊎ (filter (is_of network f) list ≡ [])
   no_other list g of_g f = by_test (is_same_flow f g) refl

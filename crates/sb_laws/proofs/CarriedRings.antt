@@ -1,6 +1,6 @@
 -- What the rings of a network carry, and how much they may, by its ways.
 use Rattle.std.proofs.Common.{◌≡◌, ◌≢◌, ◌<◌, ℕ, ◌+◌, ◌*◌, ◌/◌, ◌%◌, Bool, true, false, cond, List, [], ◌∷◌, length, refl, sym, ap, ◌∙◌, arith, subst}
-use Rattle.std.specs.Prelude.{◌==◌, ◌||◌, nat_lt, map, filter, filter_map, sum_by, All, Contains, IsTrue, get_or}
+use Rattle.std.specs.Prelude.{◌==◌, nat_lt, map, filter, filter_map, sum_by, All, Contains, IsTrue, get_or}
 use Rattle.std.specs.List.{list_any}
 use Rattle.std.proofs.lemmas.Bool.Decides.{nat_tests}
 use Rattle.std.proofs.lemmas.List.{get_or-map, length-map}
@@ -15,10 +15,11 @@ use Rattle.sb_packet.specs.Plans.{NetFlow}
 use Rattle.sb_packet.specs.Ways.{NetWay, network_ways}
 use Rattle.sb_packet.specs.Rings.{is_upward, has_link, link_ways, ring_ways, way_accesses, counted_accesses, ring_budget, is_answered, carried_accesses, is_on_way, IsCarried}
 use Rattle.sb_packet.specs.declared.entry.Entry.{Entry}
-use Rattle.sb_laws.specs.Flows.{is_of, words_of, asked_of, answered_of, replies_to}
+use Rattle.sb_flow.proofs.LinkMarks.{list_any-map}
+use Rattle.sb_laws.specs.Flows.{is_of, words_of_flow, asked_words, answered_of, replies_to}
 use Rattle.sb_laws.specs.Moments.{Moment, arrived}
 use Rattle.sb_laws.specs.Courses.{goes_over, flows_over, budget_over}
-use Rattle.sb_laws.specs.NetworkLayouts.{flow_of, request_ring, answer_ring, ring_count, network_requests, network_answers, network_layout}
+use Rattle.sb_laws.specs.NetworkLayouts.{way_flow, request_ring, answer_ring, ring_count, network_requests, network_answers, network_layout}
 use Rattle.sb_laws.specs.NetworkWays.{HasWays}
 use Rattle.sb_laws.specs.Wholes.{IsWholeRun}
 use Rattle.sb_laws.proofs.ScriptFacts.{own_script}
@@ -36,10 +37,6 @@ filter-map {X} {Y} p q f (x ∷ xs) same = rw (All-head (λ x. p (f x) ≡ q x) 
     by_test true rest = ap (λ (l : List Y). f x ∷ l) rest
     by_test false rest = rest
 
-pub list_any-map : {X Y : Type 0} (p : Y → Bool) (f : X → Y) (xs : List X) → list_any p (map f xs) ≡ list_any (λ x. p (f x)) xs
-list_any-map p f [] = refl
-list_any-map p f (x ∷ xs) = ap (λ (b : Bool). p (f x) || b) (list_any-map p f xs)
-
 sum_by-map : {X Y : Type 0} (g : Y → ℕ) (h : X → ℕ) (f : X → Y) (xs : List X) → All (λ x. g (f x) ≡ h x) xs → sum_by g (map f xs) ≡ sum_by h xs
 sum_by-map g h f [] same = refl
 sum_by-map g h f (x ∷ xs) same =
@@ -49,21 +46,21 @@ sum_by-map g h f (x ∷ xs) same =
 
 module _ (network : Network) (ways : HasWays network) where
   -- what the host of a way asks of its device is what the flow asks for
-  own_asked : All (λ way. way_accesses network way ≡ asked_of network (flow_of way)) (network_ways network)
-  own_asked = All-weaker (λ way. Contains network.hosts way.host) (λ way. way_accesses network way ≡ asked_of network (flow_of way))
-      (λ way inside. All-contains (λ host. (d : ℕ) → (let f : NetFlow = record { host = host.id; device = d } in flow_part network host d (script_accesses host) ≡ asked_of network f)) network.hosts way.host (own_script network ways.scripts) inside way.device)
+  own_asked : All (λ way. way_accesses network way ≡ asked_words network (way_flow way)) (network_ways network)
+  own_asked = All-weaker (λ way. Contains network.hosts way.host) (λ way. way_accesses network way ≡ asked_words network (way_flow way))
+      (λ way inside. All-contains (λ host. (d : ℕ) → (let f : NetFlow = record { host = host.id; device = d } in flow_part network host d (script_accesses host) ≡ asked_words network f)) network.hosts way.host (own_script network ways.scripts) inside way.device)
       (network_ways network) ways.hosts
 
   -- the flows over the rings of a link are those of the ways that have it
-  pub flows_there : (k : ℕ) → flows_over (network_requests network) (request_ring k) ≡ map flow_of (link_ways network k)
-  flows_there k = filter-map (goes_over (network_requests network) (request_ring k)) (has_link k) flow_of (network_ways network)
-      (λ i w below. let way = get_or (network_ways network) i w in let flow : FlowWay network (flow_of way) = way_flows network ways i w below in
-      goes_there network (flow_of way) flow k ∙ ap (is_in k) (sym flow.links ∙ ways.found i w below))
+  pub flows_there : (k : ℕ) → flows_over (network_requests network) (request_ring k) ≡ map way_flow (link_ways network k)
+  flows_there k = filter-map (goes_over (network_requests network) (request_ring k)) (has_link k) way_flow (network_ways network)
+      (λ i w below. let way = get_or (network_ways network) i w in let flow : FlowWay network (way_flow way) = way_flows network ways i w below in
+      goes_there network (way_flow way) flow k ∙ ap (is_in k) (sym flow.links ∙ ways.found i w below))
 
-  pub flows_back : (k : ℕ) → flows_over (network_answers network) (answer_ring k) ≡ map flow_of (link_ways network k)
-  flows_back k = filter-map (goes_over (network_answers network) (answer_ring k)) (has_link k) flow_of (network_ways network)
-      (λ i w below. let way = get_or (network_ways network) i w in let flow : FlowWay network (flow_of way) = way_flows network ways i w below in
-      goes_back network (flow_of way) flow k ∙ ap (is_in k) (sym flow.links ∙ ways.found i w below))
+  pub flows_back : (k : ℕ) → flows_over (network_answers network) (answer_ring k) ≡ map way_flow (link_ways network k)
+  flows_back k = filter-map (goes_over (network_answers network) (answer_ring k)) (has_link k) way_flow (network_ways network)
+      (λ i w below. let way = get_or (network_ways network) i w in let flow : FlowWay network (way_flow way) = way_flows network ways i w below in
+      goes_back network (way_flow way) flow k ∙ ap (is_in k) (sym flow.links ∙ ways.found i w below))
 
   pub request_ways : (k : ℕ) → k < length network.links → ring_ways network (request_ring k) ≡ link_ways network k
   request_ways k here =
@@ -83,30 +80,30 @@ module _ (network : Network) (ways : HasWays network) where
   pub up : (k : ℕ) → is_upward (answer_ring k) ≡ true
   up k = let odd : (2 * k + 1) % 2 ≡ 1 = omega arith in rw odd refl
 
-  link_asked : (k : ℕ) → All (λ way. way_accesses network way ≡ asked_of network (flow_of way)) (link_ways network k)
-  link_asked k = All-filter (has_link k) (λ way. way_accesses network way ≡ asked_of network (flow_of way)) (network_ways network) own_asked
+  link_asked : (k : ℕ) → All (λ way. way_accesses network way ≡ asked_words network (way_flow way)) (link_ways network k)
+  link_asked k = All-filter (has_link k) (λ way. way_accesses network way ≡ asked_words network (way_flow way)) (network_ways network) own_asked
 
   pub request_budget : (k : ℕ) → request_ring k < ring_count network → budget_over (network_requests network) (request_ring k) ≡ ring_budget network (request_ring k)
   request_budget k here =
       ap (sum_by (network_requests network).allowance) (flows_there k)
-      ∙ sum_by-map (network_requests network).allowance (λ way. length (counted_accesses network (request_ring k) way)) flow_of (link_ways network k)
-      (All-weaker (λ way. way_accesses network way ≡ asked_of network (flow_of way)) (λ way. length (asked_of network (flow_of way)) ≡ length (counted_accesses network (request_ring k) way))
+      ∙ sum_by-map (network_requests network).allowance (λ way. length (counted_accesses network (request_ring k) way)) way_flow (link_ways network k)
+      (All-weaker (λ way. way_accesses network way ≡ asked_words network (way_flow way)) (λ way. length (asked_words network (way_flow way)) ≡ length (counted_accesses network (request_ring k) way))
       (λ way e. ap length (sym e) ∙ ap (λ (b : Bool). length (cond b (filter (λ a. is_answered a.op) (way_accesses network way)) (way_accesses network way))) (sym (not_up k))) (link_ways network k) (link_asked k))
       ∙ ap (sum_by (λ way. length (counted_accesses network (request_ring k) way))) (sym (request_ways k (omega arith)))
 
   pub answer_budget : (k : ℕ) → answer_ring k < ring_count network → budget_over (network_answers network) (answer_ring k) ≡ ring_budget network (answer_ring k)
   answer_budget k here =
       ap (sum_by (network_answers network).allowance) (flows_back k)
-      ∙ sum_by-map (network_answers network).allowance (λ way. length (counted_accesses network (answer_ring k) way)) flow_of (link_ways network k)
-      (All-weaker (λ way. way_accesses network way ≡ asked_of network (flow_of way)) (λ way. length (answered_of network (flow_of way)) ≡ length (counted_accesses network (answer_ring k) way))
+      ∙ sum_by-map (network_answers network).allowance (λ way. length (counted_accesses network (answer_ring k) way)) way_flow (link_ways network k)
+      (All-weaker (λ way. way_accesses network way ≡ asked_words network (way_flow way)) (λ way. length (answered_of network (way_flow way)) ≡ length (counted_accesses network (answer_ring k) way))
       (λ way e. ap (λ (l : List Access). length (filter (λ a. is_answered a.op) l)) (sym e) ∙ ap (λ (b : Bool). length (cond b (filter (λ a. is_answered a.op) (way_accesses network way)) (way_accesses network way))) (sym (up k))) (link_ways network k) (link_asked k))
       ∙ ap (sum_by (λ way. length (counted_accesses network (answer_ring k) way))) (sym (answer_ways k (omega arith)))
 
   module _ (journal : List Entry) (m : Moment) (whole : IsWholeRun network (network_layout network) journal m) where
     -- all that came by a ring of some flows is of the ways of these
-    on_ways : (fs : List NetFlow) (ws : List NetWay) (list : List Access) → fs ≡ map flow_of ws → All (λ a. list_any (λ f. is_of network f a) fs ≡ true) list → All (λ a. IsTrue (list_any (is_on_way network a) ws)) list
+    on_ways : (fs : List NetFlow) (ws : List NetWay) (list : List Access) → fs ≡ map way_flow ws → All (λ a. list_any (λ f. is_of network f a) fs ≡ true) list → All (λ a. IsTrue (list_any (is_on_way network a) ws)) list
     on_ways fs ws list same all = All-weaker (λ a. list_any (λ f. is_of network f a) fs ≡ true) (λ a. IsTrue (list_any (is_on_way network a) ws))
-        (λ a e. sym (list_any-map (λ f. is_of network f a) flow_of ws) ∙ ap (list_any (λ f. is_of network f a)) (sym same) ∙ e) list all
+        (λ a e. sym (list_any-map (λ f. is_of network f a) way_flow ws) ∙ ap (list_any (λ f. is_of network f a)) (sym same) ∙ e) list all
 
     -- a ring carried its flows, if by the ways of its link it did
     carried_by : (ring k : ℕ) → ring_ways network ring ≡ link_ways network k → All (λ way. flow_part network way.host way.device (arrived m ring) ≡ carried_accesses network journal ring way) (link_ways network k) →
@@ -126,7 +123,7 @@ module _ (network : Network) (ways : HasWays network) where
         parts : All (λ way. flow_part network way.host way.device list ≡ carried_accesses network journal (request_ring k) way) (link_ways network k)
         parts i w below =
             let way = get_or (link_ways network k) i w in
-            let came = All-unmap (λ f. words_of network f list ≡ asked_of network f) flow_of (link_ways network k) (subst (All (λ f. words_of network f list ≡ asked_of network f)) (flows_there k) (whole.requests (request_ring k))) i w below in
+            let came = All-unmap (λ f. words_of_flow network f list ≡ asked_words network f) way_flow (link_ways network k) (subst (All (λ f. words_of_flow network f list ≡ asked_words network f)) (flows_there k) (whole.requests (request_ring k))) i w below in
             came ∙ sym (link_asked k i w below) ∙ ap (λ (b : Bool). cond b (flow_answers network journal way.host way.device) (way_accesses network way)) (sym (not_up k))
 
     carried_answer : (k : ℕ) → answer_ring k < ring_count network → IsCarried network journal (answer_ring k) (arrived m (answer_ring k))
@@ -139,7 +136,7 @@ module _ (network : Network) (ways : HasWays network) where
         parts : All (λ way. flow_part network way.host way.device list ≡ carried_accesses network journal (answer_ring k) way) (link_ways network k)
         parts i w below =
             let way = get_or (link_ways network k) i w in
-            let came = All-unmap (λ f. words_of network f list ≡ replies_to network journal f) flow_of (link_ways network k) (subst (All (λ f. words_of network f list ≡ replies_to network journal f)) (flows_back k) (whole.answers (answer_ring k))) i w below in
+            let came = All-unmap (λ f. words_of_flow network f list ≡ replies_to network journal f) way_flow (link_ways network k) (subst (All (λ f. words_of_flow network f list ≡ replies_to network journal f)) (flows_back k) (whole.answers (answer_ring k))) i w below in
             came ∙ ap (filter_map (access_reply network journal)) (sym (link_asked k i w below)) ∙ ap (λ (b : Bool). cond b (flow_answers network journal way.host way.device) (way_accesses network way)) (sym (up k))
 
     pub carried : (ring : ℕ) → ring < ring_count network → IsCarried network journal ring (arrived m ring)

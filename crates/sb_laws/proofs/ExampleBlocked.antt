@@ -15,6 +15,7 @@ use Rattle.sb_port.specs.Ports.{IsFit, IsSendable, PortSide}
 use Rattle.sb_node.specs.Idle.{IsIdleAt}
 use Rattle.sb_node.specs.Sides.{RingSide, has_ended, has_rest, is_drained, is_full}
 use Rattle.sb_node.specs.Steps.{IsBlockedPort}
+use Rattle.sb_node.proofs.Answering.{one_of}
 use Rattle.sb_host.specs.Steps.{IsIdleHost}
 use Rattle.sb_laws.specs.RoundSides.{ShowsPort, ShowsRing}
 use Rattle.sb_laws.specs.Standstills.{IsIdlePort, IsIdleReceiver, IsIdleSender, RoundEnd}
@@ -22,7 +23,6 @@ use Rattle.sb_laws.proofs.DeviceSides.{idle_receiver, idle_sender}
 use Rattle.sb_laws.proofs.HostSides.{idle_host_receives, idle_host_sends}
 use Rattle.sb_laws.proofs.SidePromises.{idle_port}
 use Rattle.sb_laws.proofs.ExampleNetwork.{small, posted, read_back, write, written}
-use Rattle.sb_laws.proofs.ExampleLayout.{of_one}
 use Rattle.sb_laws.proofs.ExampleRun.{end_of_small}
 use Rattle.sb_laws.proofs.ExampleStandstill.{small_stages}
 use Rattle.sb_laws.proofs.ExampleNodes.{fresh, ring_in, small_mark}
@@ -38,7 +38,7 @@ blocked_port r first second = record {
   plan = narrow r;
   mark = record (small_mark r) { plan = narrow r };
   taken = 0;
-  state = record { sent = items.Packet first ∷ []; waiting = record { width = 32; owed = message_of second ∷ []; held = None }; closing = false; shut = false; claimed = 2 };
+  state = record { sent = items.Packet first ∷ []; waiting = record { width = 32; owed = message_of second ∷ []; held = None }; close_requested = false; close_sent = false; words_offered = 2 };
 }
 
 -- the host's has sent the write and owes the posted write, and the device's has sent the answer to the write and owes that to the read
@@ -58,8 +58,8 @@ host_port_is_fit = record {
   none_owed = λ e. absurd (cc);
   none_held = λ e. absurd (cc);
   in_turn = one_packet (narrow 0) write refl refl (lit≤ tt) refl (lit≤ tt);
-  sound = of_one IsSound (message_of write) ((end_of_small.ports 0).sound 0 (message_of write) (lit< tt));
-  owed = of_one (IsSendable (narrow 0)) (message_of posted) (record {
+  sound = one_of IsSound (message_of write) ((end_of_small.ports 0).sound 0 (message_of write) (lit< tt));
+  owed = one_of (IsSendable (narrow 0)) (message_of posted) (record {
     fine = record { sound = (end_of_small.ports 0).sound 1 (message_of posted) (lit< tt); whole = packet_whole posted; narrow = lit≤ tt };
     planned = record { direction = refl; allowed = refl };
   });
@@ -78,8 +78,8 @@ device_port_is_fit = record {
   none_owed = λ e. absurd (cc);
   none_held = λ e. absurd (cc);
   in_turn = one_packet (narrow 3) written refl refl (lit≤ tt) refl (lit≤ tt);
-  sound = of_one IsSound (message_of written) ((end_of_small.ports 3).sound 0 (message_of written) (lit< tt));
-  owed = of_one (IsSendable (narrow 3)) (message_of read_back) (record {
+  sound = one_of IsSound (message_of written) ((end_of_small.ports 3).sound 0 (message_of written) (lit< tt));
+  owed = one_of (IsSendable (narrow 3)) (message_of read_back) (record {
     fine = record { sound = (end_of_small.ports 3).sound 1 (message_of read_back) (lit< tt); whole = packet_whole read_back; narrow = lit≤ tt };
     planned = record { direction = refl; allowed = refl };
   });
@@ -144,8 +144,8 @@ owing_ports_are_idle = (
 blocked_host : IsIdleHost host_port (ring_in fresh 1)
 blocked_host = record {
   at_rest = record {
-    owing_ports_are_full = of_one (λ port. has_rest port ≡ true → is_full port ≡ true) host_port (λ rest. refl);
-    open_rings_are_drained = of_one (λ ring. has_ended ring ≡ false → (is_drained ring ≡ true) ⊎ ⊥) (ring_in fresh 1) (λ unended. inl refl);
+    owing_ports_are_full = one_of (λ port. has_rest port ≡ true → is_full port ≡ true) host_port (λ rest. refl);
+    open_rings_are_drained = one_of (λ ring. has_ended ring ≡ false → (is_drained ring ≡ true) ⊎ ⊥) (ring_in fresh 1) (λ unended. inl refl);
   };
   open_host_is_blocked = λ untold. record { owing = refl; full = refl };
 }
@@ -158,8 +158,8 @@ idle_hosts_are_idle = (
 
 blocked_device : IsIdleAt (λ ring. IsBlockedPort device_port) (device_port ∷ []) (waiting_ring ∷ [])
 blocked_device = record {
-  owing_ports_are_full = of_one (λ port. has_rest port ≡ true → is_full port ≡ true) device_port (λ rest. refl);
-  open_rings_are_drained = of_one (λ ring. has_ended ring ≡ false → (is_drained ring ≡ true) ⊎ IsBlockedPort device_port) waiting_ring (λ unended. inr (record { owing = refl; full = refl }));
+  owing_ports_are_full = one_of (λ port. has_rest port ≡ true → is_full port ≡ true) device_port (λ rest. refl);
+  open_rings_are_drained = one_of (λ ring. has_ended ring ≡ false → (is_drained ring ≡ true) ⊎ IsBlockedPort device_port) waiting_ring (λ unended. inr (record { owing = refl; full = refl }));
 }
 
 pub idle_devices_are_idle : IsIdleReceiver small_stages blocked_round 2 × IsIdleSender small_stages blocked_round 3

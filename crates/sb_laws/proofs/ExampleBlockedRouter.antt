@@ -12,6 +12,7 @@ use Rattle.sb_packet.specs.declared.packet.Packet.{Packet}
 use Rattle.sb_packet.proofs.FineParts.{packet_whole}
 use Rattle.sb_port.specs.Ports.{IsFit, IsSendable, PortSide}
 use Rattle.sb_node.specs.Sides.{has_rest, is_full}
+use Rattle.sb_node.proofs.Answering.{one_of}
 use Rattle.sb_router.specs.Awaiting.{AwaitsFullPort}
 use Rattle.sb_router.specs.Lanes.{InletState, inlet_at, no_inlet, outlet_at}
 use Rattle.sb_router.specs.RouteOf.{route_of}
@@ -24,7 +25,6 @@ use Rattle.sb_laws.specs.RoundSides.{ShowsPort}
 use Rattle.sb_laws.specs.Standstills.{IsIdleReceiver, IsIdleSender, RoundEnd}
 use Rattle.sb_laws.proofs.RouterSides.{idle_receivers, idle_senders}
 use Rattle.sb_laws.proofs.ExampleNetwork.{small, posted, read, write}
-use Rattle.sb_laws.proofs.ExampleLayout.{of_one}
 use Rattle.sb_laws.proofs.ExampleRun.{end_of_small}
 use Rattle.sb_laws.proofs.ExampleStandstill.{small_stages}
 use Rattle.sb_laws.proofs.ExampleNodes.{fresh, ring_in}
@@ -54,8 +54,8 @@ full_port_is_fit = record {
   none_owed = λ e. absurd (cc);
   none_held = λ e. absurd (cc);
   in_turn = one_packet (narrow 2) write refl refl (lit≤ tt) refl (lit≤ tt);
-  sound = of_one IsSound (message_of write) ((end_of_small.ports 0).sound 0 (message_of write) (lit< tt));
-  owed = of_one (IsSendable (narrow 2)) (message_of posted) (record {
+  sound = one_of IsSound (message_of write) ((end_of_small.ports 0).sound 0 (message_of write) (lit< tt));
+  owed = one_of (IsSendable (narrow 2)) (message_of posted) (record {
     fine = record { sound = (end_of_small.ports 0).sound 1 (message_of posted) (lit< tt); whole = packet_whole posted; narrow = lit≤ tt };
     planned = record { direction = refl; allowed = refl };
   });
@@ -66,25 +66,25 @@ full_port_is_fit = record {
 
 is_whole : IsWholeDirection blocked
 is_whole = record {
-  inlets = of_one IsWholeInlet holding (record {
+  inlets = one_of IsWholeInlet holding (record {
     ended = refl;
     last = λ p e. (let same : read ≡ p = cc in subst (λ (x : Packet). IsLast x came) same (record { before = items.Packet write ∷ items.Packet posted ∷ []; joined = refl }));
     carriable = λ p e. (let same : read ≡ p = cc in subst (λ (x : Packet). IsCarriable (ring_plan small 0) (message_of x)) same from_host.read);
   });
-  outlets = of_one IsWholeOutlet full_port (record { fit = full_port_is_fit });
+  outlets = one_of IsWholeOutlet full_port (record { fit = full_port_is_fit });
   silent = silent;
   routed = within;
 }
   where
-    silent : (o : ℕ) → o < 1 → (outlet_at blocked.lane o).state.closing ≡ true → All IsSilent (holding ∷ [])
+    silent : (o : ℕ) → o < 1 → (outlet_at blocked.lane o).state.close_requested ≡ true → All IsSilent (holding ∷ [])
     silent zero inside told = absurd (cc)
     silent (suc o) inside told = absurd (omega arith)
 
 is_idle : IsIdleLane (route_of small_rows) blocked.lane
 is_idle = record {
   held_awaits_full = awaits;
-  owing_are_full = of_one (λ port. has_rest port ≡ true → is_full port ≡ true) full_port (λ rest. refl);
-  open_are_seen = of_one IsSeen holding (inr (inl (λ e. cc)));
+  owing_are_full = one_of (λ port. has_rest port ≡ true → is_full port ≡ true) full_port (λ rest. refl);
+  open_are_seen = one_of IsSeen holding (inr (inl (λ e. cc)));
 }
   where
     awaits : (i : ℕ) (p : Packet) → i < 1 → (inlet_at blocked.lane i).held ≡ Some p → AwaitsFullPort (route_of small_rows) blocked.lane i p
@@ -131,14 +131,14 @@ blocked_round = record {
 
 shows : ShowsLane blocked_round (route_of small_rows) blocked.lane
 shows = record {
-  inlets = of_one (ShowsInlet blocked_round (route_of small_rows) blocked.lane) holding (record { lists = record { ring = record { received = refl }; held = refl }; ring = record { lists = record { received = refl }; empty = refl }; holds = refl });
-  outlets = of_one (λ y. ShowsPort blocked_round y.plan.ring y) full_port (record { lists = record { sent = refl; offered = refl }; full = refl; owes = refl; merges = refl; told = refl });
+  inlets = one_of (ShowsInlet blocked_round (route_of small_rows) blocked.lane) holding (record { lists = record { ring = record { received = refl }; held = refl }; ring = record { lists = record { received = refl }; empty = refl }; holds = refl });
+  outlets = one_of (λ y. ShowsPort blocked_round y.plan.ring y) full_port (record { lists = record { sent = refl; offered = refl }; full = refl; owes = refl; merges = refl; told = refl });
 }
 
 stage : IsAtStage small_stages 1 blocked.lane
 stage = record {
-  ins = of_one (λ x. ComesInto small_stages 1 x.ring.plan.ring) holding (record { is_ring = lit< tt; to = refl; ends_here = refl });
-  outs = of_one (λ y. Leaves small_stages 1 y.plan.ring) full_port (record { is_ring = lit< tt; from = refl; no_host = refl });
+  ins = one_of (λ x. ComesInto small_stages 1 x.ring.plan.ring) holding (record { is_ring = lit< tt; to = refl; ends_here = refl });
+  outs = one_of (λ y. Leaves small_stages 1 y.plan.ring) full_port (record { is_ring = lit< tt; from = refl; no_host = refl });
 }
 
 pub idle_routers_are_idle : All (λ x. IsIdleReceiver small_stages blocked_round x.ring.plan.ring) (holding ∷ []) × All (λ y. IsIdleSender small_stages blocked_round y.plan.ring) (full_port ∷ [])

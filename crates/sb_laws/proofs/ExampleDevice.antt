@@ -10,6 +10,7 @@ use Rattle.sb_node.specs.Idle.{IsIdleAt}
 use Rattle.sb_node.specs.Sides.{has_ended, has_rest, is_drained, is_full}
 use Rattle.sb_node.specs.Steps.{IsBlockedPort}
 use Rattle.sb_node.proofs.Subsequences.{same_subsequence}
+use Rattle.sb_node.proofs.Answering.{one_of}
 use Rattle.sb_device.specs.Served.{HasServed}
 use Rattle.sb_device.specs.Sides.{DeviceSide}
 use Rattle.sb_laws.specs.DeviceSides.{IsDeviceAt}
@@ -21,7 +22,7 @@ use Rattle.sb_laws.proofs.DeviceSides.{device_promise, device_records, idle_rece
 use Rattle.sb_laws.proofs.DevicesInNetworks.{all_devices_promise}
 use Rattle.sb_laws.proofs.ExampleNetwork.{small, steps, answering}
 use Rattle.sb_laws.proofs.ExampleRouted.{small_is_routed}
-use Rattle.sb_laws.proofs.ExampleLayout.{small_layout, the_flow, of_one}
+use Rattle.sb_laws.proofs.ExampleLayout.{small_layout, the_flow}
 use Rattle.sb_laws.proofs.ExampleRun.{the_end}
 use Rattle.sb_laws.proofs.ExampleHalfway.{halfway, first_step}
 use Rattle.sb_laws.proofs.ExampleStandstill.{last_round, small_stages}
@@ -72,8 +73,8 @@ devices_record = (
 -- In the last round it does nothing: all has come and gone.
 pub idle : IsIdleAt (λ ring. IsBlockedPort (port_in the_end 3)) (port_in the_end 3 ∷ []) (ring_in the_end 2 ∷ [])
 idle = record {
-  owing_ports_are_full = of_one (λ port. has_rest port ≡ true → is_full port ≡ true) (port_in the_end 3) (at_rest 3 (lit< tt));
-  open_rings_are_drained = of_one (λ ring. has_ended ring ≡ false → (is_drained ring ≡ true) ⊎ IsBlockedPort (port_in the_end 3)) (ring_in the_end 2) (λ unended. absurd (cc));
+  owing_ports_are_full = one_of (λ port. has_rest port ≡ true → is_full port ≡ true) (port_in the_end 3) (at_rest 3 (lit< tt));
+  open_rings_are_drained = one_of (λ ring. has_ended ring ≡ false → (is_drained ring ≡ true) ⊎ IsBlockedPort (port_in the_end 3)) (ring_in the_end 2) (λ unended. absurd (cc));
 }
 
 pub idle_devices_are_idle : IsIdleReceiver small_stages last_round 2 × IsIdleSender small_stages last_round 3

@@ -9,18 +9,19 @@ use Rattle.sb_packet.specs.declared.entry.Entry.{Entry}
 use Rattle.sb_packet.specs.declared.item.Item.{Item}
 use Rattle.sb_packet.specs.declared.item.Item.TheVariants as items
 use Rattle.sb_packet.specs.Prefixes.{IsPrefix, IsSubsequence, none, kept, left_out}
-use Rattle.sb_laws.specs.Flows.{words_of, asked_of}
+use Rattle.sb_node.proofs.Answering.{one_of}
+use Rattle.sb_laws.specs.Flows.{words_of_flow, asked_words}
 use Rattle.sb_device.specs.Served.{AreSound}
 use Rattle.sb_laws.specs.Moments.{Moment}
-use Rattle.sb_laws.specs.Courses.{Course, CarriesItsFlows, is_carried, AlongWay}
-use Rattle.sb_laws.specs.Promises.{Forwards, KeepsOrder}
+use Rattle.sb_laws.specs.Courses.{Course, CarriesItsFlows, is_of_ring, AlongWay}
+use Rattle.sb_laws.specs.Promises.{ForwardsFlow, KeepsOrder}
 use Rattle.sb_laws.specs.Runs.{IsHost, IsDevice, IsMomentOf}
 use Rattle.sb_laws.specs.Endings.{MissesAnswer}
 use Rattle.sb_laws.proofs.ClosedLists.{EndsAtClose, closes_last}
 use Rattle.sb_node.proofs.Subsequences.{same_subsequence}
 use Rattle.sb_laws.proofs.Prefixes.{front_prefix, same_prefix}
 use Rattle.sb_laws.proofs.ExampleNetwork.{small, asking, write, posted, read, written}
-use Rattle.sb_laws.proofs.ExampleLayout.{the_flow, is_request_ring, is_answer_ring, small_layout, of_one}
+use Rattle.sb_laws.proofs.ExampleLayout.{the_flow, is_request_ring, is_answer_ring, small_layout}
 use Rattle.sb_laws.proofs.ExampleRun.{sound_write, sound_read, sound_written, sound_asking}
 
 -- The host has sent all. The router has taken two packets: one went on and was stepped, and the other is held. The first answer waits in its ring.
@@ -64,21 +65,21 @@ half_prefix (suc (suc (suc (suc n)))) = same_prefix refl
 half_sound : (r : ℕ) → AreSound (half_sent r)
 half_sound zero = sound_asking
 half_sound (suc zero) = All-nil IsSound
-half_sound (suc (suc zero)) = of_one IsSound (message_of write) sound_write
-half_sound (suc (suc (suc zero))) = of_one IsSound (message_of written) sound_written
+half_sound (suc (suc zero)) = one_of IsSound (message_of write) sound_write
+half_sound (suc (suc (suc zero))) = one_of IsSound (message_of written) sound_written
 half_sound (suc (suc (suc (suc n)))) = All-nil IsSound
 
 half_carried : (r : ℕ) → is_request_ring r ≡ true → CarriesItsFlows small small_layout.requests halfway r
-half_carried zero e = All-from_recursion (λ a. is_carried small small_layout.requests 0 a ≡ true) (item_accesses (half_received 0)) (refl, (refl, tt))
+half_carried zero e = All-from_recursion (λ a. is_of_ring small small_layout.requests 0 a ≡ true) (item_accesses (half_received 0)) (refl, (refl, tt))
 half_carried (suc zero) e = absurd (cc)
-half_carried (suc (suc zero)) e = All-from_recursion (λ a. is_carried small small_layout.requests 2 a ≡ true) (item_accesses (half_received 2)) (refl, tt)
+half_carried (suc (suc zero)) e = All-from_recursion (λ a. is_of_ring small small_layout.requests 2 a ≡ true) (item_accesses (half_received 2)) (refl, tt)
 half_carried (suc (suc (suc n))) e = absurd (cc)
 
 half_carried_back : (r : ℕ) → is_answer_ring r ≡ true → CarriesItsFlows small small_layout.answers halfway r
 half_carried_back zero e = absurd (cc)
-half_carried_back (suc zero) e = All-nil (λ a. is_carried small small_layout.answers 1 a ≡ true)
+half_carried_back (suc zero) e = All-nil (λ a. is_of_ring small small_layout.answers 1 a ≡ true)
 half_carried_back (suc (suc zero)) e = absurd (cc)
-half_carried_back (suc (suc (suc n))) e = All-nil (λ a. is_carried small small_layout.answers (suc (suc (suc n))) a ≡ true)
+half_carried_back (suc (suc (suc n))) e = All-nil (λ a. is_of_ring small small_layout.answers (suc (suc (suc n))) a ≡ true)
 
 -- All promises hold halfway.
 pub half_of_small : IsMomentOf small small_layout first_step halfway
@@ -88,11 +89,11 @@ half_of_small = record {
   carried = half_carried;
   carried_back = half_carried_back;
   recorded = λ d there. let first : d ≡ 0 = omega arith in rw first refl;
-  hosts = of_one (IsHost small small_layout halfway) the_flow (record { in_order = same_prefix refl; closed = λ e. refl });
-  devices = of_one (IsDevice small small_layout first_step halfway) the_flow (record { whole = λ sound few. refl });
-  routers = of_one (λ f. AlongWay (Forwards small small_layout.requests halfway f) 0 (2 ∷ [])) the_flow
+  hosts = one_of (IsHost small small_layout halfway) the_flow (record { in_order = same_prefix refl; closed = λ e. refl });
+  devices = one_of (IsDevice small small_layout first_step halfway) the_flow (record { whole = λ sound few. refl });
+  routers = one_of (λ f. AlongWay (ForwardsFlow small small_layout.requests halfway f) 0 (2 ∷ [])) the_flow
       (record { in_order = kept none; whole = λ sound few. refl; closed = λ e. absurd (cc) }, tt);
-  routers_back = of_one (λ f. AlongWay (Forwards small small_layout.answers halfway f) 3 (1 ∷ [])) the_flow
+  routers_back = one_of (λ f. AlongWay (ForwardsFlow small small_layout.answers halfway f) 3 (1 ∷ [])) the_flow
       (record { in_order = none; whole = λ sound few. refl; closed = λ e. refl }, tt);
 }
 
@@ -123,12 +124,12 @@ tight_sound (suc (suc zero)) = All-from_recursion IsSound (message_of write ∷ 
 tight_sound (suc (suc (suc n))) = All-nil IsSound
 
 -- What is promised whatever is dropped holds there.
-pub dropped_keeps_order : KeepsOrder small tight dropped (asked_of small)
+pub dropped_keeps_order : KeepsOrder small tight dropped (asked_words small)
 dropped_keeps_order = record {
   links = λ r. record { in_order = same_prefix refl; closes_last = closes_last (tight_items r) (tight_closes r) };
   ports = λ r. record { in_order = same_prefix refl; sound = tight_sound r; closed = λ e. refl };
-  sources = of_one (λ f. IsSubsequence (words_of small f (item_accesses asking)) (asked_of small f)) the_flow (same_subsequence (item_accesses asking));
-  routers = of_one (λ f. AlongWay (Forwards small tight dropped f) 0 (2 ∷ [])) the_flow
+  sources = one_of (λ f. IsSubsequence (words_of_flow small f (item_accesses asking)) (asked_words small f)) the_flow (same_subsequence (item_accesses asking));
+  routers = one_of (λ f. AlongWay (ForwardsFlow small tight dropped f) 0 (2 ∷ [])) the_flow
       (record { in_order = kept (left_out (kept none)); whole = λ sound few. absurd (omega arith); closed = λ e. refl }, tt);
 }
 

@@ -7,13 +7,13 @@ use Rattle.sb_packet.specs.Traffic.{has_close}
 use Rattle.sb_node.specs.Idle.{IsIdleAt}
 use Rattle.sb_node.specs.Sides.{has_ended, has_rest, is_drained, is_full}
 use Rattle.sb_node.specs.Steps.{IsBlockedPort}
+use Rattle.sb_node.proofs.Answering.{one_of}
 use Rattle.sb_host.specs.Hosts.{IsHostTurn}
 use Rattle.sb_host.specs.Steps.{IsIdleHost}
 use Rattle.sb_laws.specs.RoundSides.{ShowsPort, ShowsRing}
 use Rattle.sb_laws.specs.Standstills.{IsIdleReceiver, IsIdleSender, RoundEnd}
 use Rattle.sb_laws.proofs.DeviceSides.{idle_receiver, idle_sender}
 use Rattle.sb_laws.proofs.HostSides.{idle_host_receives, idle_host_sends, unmoved_receives, unmoved_sends}
-use Rattle.sb_laws.proofs.ExampleLayout.{of_one}
 use Rattle.sb_laws.proofs.ExampleHalfway.{halfway}
 use Rattle.sb_laws.proofs.ExampleStandstill.{small_stages}
 use Rattle.sb_laws.proofs.ExampleNodes.{port_in, ring_in}
@@ -53,8 +53,8 @@ device_port = record { lists = has_port halfway halfway_is_settled 3; full = ref
 idle_host : IsIdleHost (port_in halfway 0) (ring_in halfway 1)
 idle_host = record {
   at_rest = record {
-    owing_ports_are_full = of_one (λ port. has_rest port ≡ true → is_full port ≡ true) (port_in halfway 0) (λ rest. absurd (cc));
-    open_rings_are_drained = of_one (λ ring. has_ended ring ≡ false → (is_drained ring ≡ true) ⊎ ⊥) (ring_in halfway 1) (λ unended. inl refl);
+    owing_ports_are_full = one_of (λ port. has_rest port ≡ true → is_full port ≡ true) (port_in halfway 0) (λ rest. absurd (cc));
+    open_rings_are_drained = one_of (λ ring. has_ended ring ≡ false → (is_drained ring ≡ true) ⊎ ⊥) (ring_in halfway 1) (λ unended. inl refl);
   };
   open_host_is_blocked = λ untold. absurd (cc);
 }
@@ -87,8 +87,8 @@ module _ (heap : Global) where
 
 idle_device : IsIdleAt (λ ring. IsBlockedPort (port_in halfway 3)) (port_in halfway 3 ∷ []) (ring_in halfway 2 ∷ [])
 idle_device = record {
-  owing_ports_are_full = of_one (λ port. has_rest port ≡ true → is_full port ≡ true) (port_in halfway 3) (λ rest. absurd (cc));
-  open_rings_are_drained = of_one (λ ring. has_ended ring ≡ false → (is_drained ring ≡ true) ⊎ IsBlockedPort (port_in halfway 3)) (ring_in halfway 2) (λ unended. inl refl);
+  owing_ports_are_full = one_of (λ port. has_rest port ≡ true → is_full port ≡ true) (port_in halfway 3) (λ rest. absurd (cc));
+  open_rings_are_drained = one_of (λ ring. has_ended ring ≡ false → (is_drained ring ≡ true) ⊎ IsBlockedPort (port_in halfway 3)) (ring_in halfway 2) (λ unended. inl refl);
 }
 
 pub idle_devices_are_idle : IsIdleReceiver small_stages half_round 2 × IsIdleSender small_stages half_round 3

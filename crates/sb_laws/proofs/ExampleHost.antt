@@ -6,26 +6,27 @@ use Rattle.std.proofs.lemmas.List.Elements.{All-from_recursion, All-map}
 use Rattle.sb_packet.specs.Rings.{ring_plan}
 use Rattle.sb_packet.specs.Scripts.{IsTransaction}
 use Rattle.sb_packet.specs.Traffic.{IsPlanned, has_close, item_accesses}
+use Rattle.sb_node.proofs.Answering.{one_of}
 use Rattle.sb_host.specs.Asked.{asked_by, asked_packets, line_in}
 use Rattle.sb_host.specs.Hosts.{HostSide, IsWholeHost}
 use Rattle.sb_host.specs.Issuing.{IsMadeFor}
 use Rattle.sb_host.specs.Places.{AreIssuable}
-use Rattle.sb_host.specs.Rows.{IsRow, IsTable, answer_width, device_answers}
-use Rattle.sb_host.specs.declared.line.Line.{Line}
-use Rattle.sb_host.specs.declared.row.Row.{Row}
+use Rattle.sb_host.specs.Rows.{IsRow, IsTable, answer_width, line_answers}
+use Rattle.sb_host.specs.declared.transaction_plan.TransactionPlan.{TransactionPlan}
+use Rattle.sb_host.specs.declared.answer_row.AnswerRow.{AnswerRow}
 use Rattle.sb_laws.specs.HostSides.{IsHostBuiltFor, IsHostOf}
 use Rattle.sb_laws.specs.Layouts.{ring_home}
 use Rattle.sb_laws.specs.Moments.{Moment}
 use Rattle.sb_laws.specs.NetworkLayouts.{answer_ring, request_ring}
 use Rattle.sb_laws.proofs.ExampleNetwork.{small, cpu, one_to_eight, answering}
-use Rattle.sb_laws.proofs.ExampleLayout.{small_layout, the_flow, of_one, scripts_of_small}
+use Rattle.sb_laws.proofs.ExampleLayout.{small_layout, the_flow, scripts_of_small}
 use Rattle.sb_laws.proofs.ExampleRun.{the_end}
 use Rattle.sb_laws.proofs.ExampleHalfway.{halfway}
 use Rattle.sb_laws.proofs.ExampleNodes.{fresh, port_in, ring_in}
 use Rattle.sb_laws.proofs.ExamplePorts.{end_is_settled, fresh_is_settled, halfway_is_settled, is_fit}
 
 -- a row of one word: whether it is answered, and the bytes that answered it
-abbrev row_of : Global → (answered : Bool) → (bytes : List ℕ) → length bytes < 2 ^ 63 → Row
+abbrev row_of : Global → (answered : Bool) → (bytes : List ℕ) → length bytes < 2 ^ 63 → AnswerRow
 row_of heap answered bytes few = record {
   answered = record { ptr = null_ptr; len = 1; cap = 1; alloc = heap; items = answered ∷ []; ok = (refl, lit≤ tt); small = lit< tt };
   missing = if answered then 0 else 1;
@@ -34,14 +35,14 @@ row_of heap answered bytes few = record {
 }
 
 -- the rows of the three transactions before any answer, and behind all
-abbrev pub fresh_rows : Global → List Row
+abbrev pub fresh_rows : Global → List AnswerRow
 fresh_rows heap = row_of heap false [] (lit< tt) ∷ row_of heap false [] (lit< tt) ∷ row_of heap false (replicate 8 0) (lit< tt) ∷ []
 
-abbrev pub end_rows : Global → List Row
+abbrev pub end_rows : Global → List AnswerRow
 end_rows heap = row_of heap true [] (lit< tt) ∷ row_of heap false [] (lit< tt) ∷ row_of heap true one_to_eight (lit< tt) ∷ []
 
 -- the host at a moment, with these rows, which has offered so many of its three transactions
-abbrev pub host_in : Moment → List Row → ℕ → HostSide
+abbrev pub host_in : Moment → List AnswerRow → ℕ → HostSide
 host_in m rows next = record {
   transactions = record { asked = asked_by small cpu; rows = rows; next = next; part = 0; ended = has_close (m.received 1) };
   requests = port_in m 0;
@@ -78,7 +79,7 @@ module _ (heap : Global) where
   fresh_table : IsTable (asked_by small cpu) [] (fresh_rows heap)
   fresh_table = record { rows_of_lines = refl; each = each }
     where
-      each : (i : ℕ) (l : Line) (r : Row) → i < 3 → IsRow (answer_width (slice_index_or (asked_by small cpu).lines i l)) (device_answers (asked_by small cpu) [] i (slice_index_or (asked_by small cpu).lines i l)) (slice_index_or (fresh_rows heap) i r)
+      each : (i : ℕ) (l : TransactionPlan) (r : AnswerRow) → i < 3 → IsRow (answer_width (slice_index_or (asked_by small cpu).lines i l)) (line_answers (asked_by small cpu) [] i (slice_index_or (asked_by small cpu).lines i l)) (slice_index_or (fresh_rows heap) i r)
       each zero l r inside = record { answered = refl; counted = refl; code = refl; body = refl; wide = (refl, tt) }
       each (suc zero) l r inside = record { answered = refl; counted = refl; code = refl; body = refl; wide = (refl, tt) }
       each (suc (suc zero)) l r inside = record { answered = refl; counted = refl; code = refl; body = refl; wide = (refl, tt) }
@@ -87,7 +88,7 @@ module _ (heap : Global) where
   end_table : IsTable (asked_by small cpu) (item_accesses answering) (end_rows heap)
   end_table = record { rows_of_lines = refl; each = each }
     where
-      each : (i : ℕ) (l : Line) (r : Row) → i < 3 → IsRow (answer_width (slice_index_or (asked_by small cpu).lines i l)) (device_answers (asked_by small cpu) (item_accesses answering) i (slice_index_or (asked_by small cpu).lines i l)) (slice_index_or (end_rows heap) i r)
+      each : (i : ℕ) (l : TransactionPlan) (r : AnswerRow) → i < 3 → IsRow (answer_width (slice_index_or (asked_by small cpu).lines i l)) (line_answers (asked_by small cpu) (item_accesses answering) i (slice_index_or (asked_by small cpu).lines i l)) (slice_index_or (end_rows heap) i r)
       each zero l r inside = record { answered = refl; counted = refl; code = refl; body = refl; wide = (refl, tt) }
       each (suc zero) l r inside = record { answered = refl; counted = refl; code = refl; body = refl; wide = (refl, tt) }
       each (suc (suc zero)) l r inside = record { answered = refl; counted = refl; code = refl; body = refl; wide = (refl, tt) }
@@ -113,13 +114,13 @@ module _ (heap : Global) where
   }
 
 -- It is the network's, whatever it has done.
-module _ (m : Moment) (rows : List Row) (next : ℕ) where
+module _ (m : Moment) (rows : List AnswerRow) (next : ℕ) where
   pub host_of_small : IsHostOf small small_layout cpu (host_in m rows next)
   host_of_small = record {
     listed = (0, lit< tt, refl);
     asked = refl;
-    asks = of_one (λ f. f.host ≡ 0 → small_layout.requests.first f ≡ 0) the_flow (λ own. refl);
-    answered = of_one (λ f. f.host ≡ 0 → ring_home small_layout f ≡ 1) the_flow (λ own. refl);
+    asks = one_of (λ f. f.host ≡ 0 → small_layout.requests.first f ≡ 0) the_flow (λ own. refl);
+    answered = one_of (λ f. f.host ≡ 0 → ring_home small_layout f ≡ 1) the_flow (λ own. refl);
   }
 
   pub host_is_built : IsHostBuiltFor small 0 (host_in m rows next)

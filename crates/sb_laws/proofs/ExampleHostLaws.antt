@@ -9,13 +9,14 @@ use Rattle.sb_packet.specs.Traffic.{IsPlanned, item_accesses}
 use Rattle.sb_packet.specs.declared.transaction.Kind.TheVariants.{Write}
 use Rattle.sb_packet.specs.declared.transaction.Txn.{Txn}
 use Rattle.sb_node.specs.Sides.{has_ended, has_rest, is_drained, is_full}
+use Rattle.sb_node.proofs.Answering.{one_of}
 use Rattle.sb_host.specs.Asked.{asked_accesses, asked_by}
 use Rattle.sb_host.specs.Hosts.{IsHostTurn, IsKeptHost, IsWholeHost}
 use Rattle.sb_host.specs.Outcomes.{outcomes_so_far}
 use Rattle.sb_host.specs.Rows.{IsTable}
 use Rattle.sb_host.specs.Steps.{IsIdleHost}
 use Rattle.sb_host.proofs.Offering.{closes_behind_all, offers_in_order}
-use Rattle.sb_host.specs.declared.row.Row.{Row}
+use Rattle.sb_host.specs.declared.answer_row.AnswerRow.{AnswerRow}
 use Rattle.sb_laws.specs.Flows.{aimed_script}
 use Rattle.sb_laws.specs.HostSides.{IsHostAt, IsHostBuiltFor, IsHostOf}
 use Rattle.sb_laws.specs.Moments.{Moment}
@@ -28,7 +29,7 @@ use Rattle.sb_laws.proofs.HostRooms.{room_for_all}
 use Rattle.sb_laws.proofs.HostSides.{asked_script, host_promise, idle_host_receives, idle_host_sends, stays_built, table_of_ring, unmoved_receives, unmoved_sends}
 use Rattle.sb_laws.proofs.HostsInNetworks.{all_promises, belongs, first, link}
 use Rattle.sb_laws.proofs.ExampleNetwork.{small, cpu, steps, asking, answering, one_to_eight}
-use Rattle.sb_laws.proofs.ExampleLayout.{small_layout, small_is_laid_out, of_one, scripts_of_small}
+use Rattle.sb_laws.proofs.ExampleLayout.{small_layout, small_is_laid_out, scripts_of_small}
 use Rattle.sb_laws.proofs.ExampleRouted.{small_is_routed}
 use Rattle.sb_laws.proofs.ExampleRun.{the_end, end_of_small, small_has_ended}
 use Rattle.sb_laws.proofs.ExampleHalfway.{halfway}
@@ -42,7 +43,7 @@ pub hosts_keep_their_promise_script : asked_accesses (asked_by small cpu) ≡ ai
 hosts_keep_their_promise_script = asked_script small cpu scripts_of_small small_is_routed.pages (0, lit< tt, refl)
 
 -- the host in that state, at a moment at which its port and ring are as they stand there
-module _ (m : Moment) (settled : IsSettled m) (rows : List Row) (next : ℕ) (whole : IsWholeHost (host_in m rows next)) where
+module _ (m : Moment) (settled : IsSettled m) (rows : List AnswerRow) (next : ℕ) (whole : IsWholeHost (host_in m rows next)) where
   promise_at : All (λ f. f.host ≡ 0 → IsHost small small_layout m f) small_layout.requests.flows
   promise_at = host_promise offers_in_order closes_behind_all small small_layout m cpu (host_in m rows next) scripts_of_small small_is_routed.pages (host_of_small m rows next) whole (has_port m settled 0)
 
@@ -60,8 +61,8 @@ module _ (m : Moment) (settled : IsSettled m) (rows : List Row) (next : ℕ) (wh
 idle : IsIdleHost (port_in the_end 0) (ring_in the_end 1)
 idle = record {
   at_rest = record {
-    owing_ports_are_full = of_one (λ port. has_rest port ≡ true → is_full port ≡ true) (port_in the_end 0) (at_rest 0 (lit< tt));
-    open_rings_are_drained = of_one (λ ring. has_ended ring ≡ false → (is_drained ring ≡ true) ⊎ ⊥) (ring_in the_end 1) (λ unended. absurd (cc));
+    owing_ports_are_full = one_of (λ port. has_rest port ≡ true → is_full port ≡ true) (port_in the_end 0) (at_rest 0 (lit< tt));
+    open_rings_are_drained = one_of (λ ring. has_ended ring ≡ false → (is_drained ring ≡ true) ⊎ ⊥) (ring_in the_end 1) (λ unended. absurd (cc));
   };
   open_host_is_blocked = λ untold. absurd (cc);
 }

@@ -5,7 +5,8 @@ use Rattle.std.proofs.lemmas.List.Elements.{All-nil, All-from_recursion}
 use Rattle.sb_packet.specs.Scripts.{IsTransaction}
 use Rattle.sb_packet.specs.Plans.{NetFlow}
 use Rattle.sb_packet.proofs.FoundAnswers.{eq_below}
-use Rattle.sb_laws.specs.Flows.{is_among_flows, asked_of, answered_of}
+use Rattle.sb_node.proofs.Answering.{one_of}
+use Rattle.sb_laws.specs.Flows.{is_among_flows, asked_words, answered_of}
 use Rattle.sb_laws.specs.Courses.{Course, IsOneWay, goes_over, flows_over}
 use Rattle.sb_laws.specs.Layouts.{Layout, HasScripts, IsLayout, ring_home}
 use Rattle.sb_laws.proofs.ExampleNetwork.{cpu, small}
@@ -46,29 +47,25 @@ small_layout = record {
   into = λ d. 2;
 }
 
--- what holds of the one flow, or of the one host
-pub of_one : {A : Type 0} (P : A → Type 0) (x : A) → P x → All P (x ∷ [])
-of_one P x h = All-from_recursion P (x ∷ []) (h, tt)
-
 -- no two elements of one are to be compared
 no_pairs : {A : Type 0} (R : A → A → Type 0) (xs : List A) → length xs ≤ 1 → AllPairs R xs
 no_pairs R xs few i j d below inside = absurd (omega arith)
 
 pub scripts_of_small : HasScripts small
 scripts_of_small = record {
-  transactions = of_one (λ host. All IsTransaction host.script) cpu (All-from_recursion IsTransaction cpu.script (
+  transactions = one_of (λ host. All IsTransaction host.script) cpu (All-from_recursion IsTransaction cpu.script (
     record { size = lit≤ tt; some = lit< tt; most = lit≤ tt; atomic = tt; body = refl; aligned = refl; page = lit≤ tt; range = lit< tt },
     (
       record { size = lit≤ tt; some = lit< tt; most = lit≤ tt; atomic = tt; body = refl; aligned = refl; page = lit≤ tt; range = lit< tt },
       (record { size = lit≤ tt; some = lit< tt; most = lit≤ tt; atomic = tt; body = refl; aligned = refl; page = lit≤ tt; range = lit< tt }, tt),
     ),
   ));
-  few = of_one (λ host. length host.script ≤ 65536) cpu (lit≤ tt);
+  few = one_of (λ host. length host.script ≤ 65536) cpu (lit≤ tt);
   ids = no_pairs (λ a b. a.id ≢ b.id) (cpu ∷ []) (lit≤ tt);
 }
 
 -- a host or a device that there isn't asks for nothing, or is asked for nothing
-nothing_else : (h d : ℕ) → (let f : NetFlow = record { host = h; device = d } in is_among_flows f (the_flow ∷ []) ≡ false → asked_of small f ≡ [])
+nothing_else : (h d : ℕ) → (let f : NetFlow = record { host = h; device = d } in is_among_flows f (the_flow ∷ []) ≡ false → asked_words small f ≡ [])
 nothing_else zero zero e = absurd (cc)
 nothing_else zero (suc d) e = rw (eq_below 0 (suc d) (omega arith)) refl
 nothing_else (suc h) d e = rw (eq_below 0 (suc h) (omega arith)) refl
@@ -77,12 +74,12 @@ abbrev IsOnce : Course → ℕ → NetFlow → Type 0
 IsOnce c r f = AllPairs (λ j k. goes_over c j f ≡ true → goes_over c k f ≡ false) (c.ins r)
 
 one_way : (r : ℕ) → IsOneWay small_layout.requests r
-one_way r = record { here = here r; once = of_one (IsOnce small_layout.requests r) the_flow (no_pairs (λ j k. goes_over small_layout.requests j the_flow ≡ true → goes_over small_layout.requests k the_flow ≡ false) (request_ins r) (few r)) }
+one_way r = record { here = here r; once = one_of (IsOnce small_layout.requests r) the_flow (no_pairs (λ j k. goes_over small_layout.requests j the_flow ≡ true → goes_over small_layout.requests k the_flow ≡ false) (request_ins r) (few r)) }
   where
     here : (q : ℕ) → All (λ k. is_request_ring k ≡ true) (request_ins q)
     here zero = All-nil (λ k. is_request_ring k ≡ true)
     here (suc zero) = All-nil (λ k. is_request_ring k ≡ true)
-    here (suc (suc zero)) = of_one (λ k. is_request_ring k ≡ true) 0 refl
+    here (suc (suc zero)) = one_of (λ k. is_request_ring k ≡ true) 0 refl
     here (suc (suc (suc n))) = All-nil (λ k. is_request_ring k ≡ true)
 
     few : (q : ℕ) → length (request_ins q) ≤ 1
@@ -92,11 +89,11 @@ one_way r = record { here = here r; once = of_one (IsOnce small_layout.requests 
     few (suc (suc (suc n))) = lit≤ tt
 
 one_way_back : (r : ℕ) → IsOneWay small_layout.answers r
-one_way_back r = record { here = here r; once = of_one (IsOnce small_layout.answers r) the_flow (no_pairs (λ j k. goes_over small_layout.answers j the_flow ≡ true → goes_over small_layout.answers k the_flow ≡ false) (answer_ins r) (few r)) }
+one_way_back r = record { here = here r; once = one_of (IsOnce small_layout.answers r) the_flow (no_pairs (λ j k. goes_over small_layout.answers j the_flow ≡ true → goes_over small_layout.answers k the_flow ≡ false) (answer_ins r) (few r)) }
   where
     here : (q : ℕ) → All (λ k. is_answer_ring k ≡ true) (answer_ins q)
     here zero = All-nil (λ k. is_answer_ring k ≡ true)
-    here (suc zero) = of_one (λ k. is_answer_ring k ≡ true) 3 refl
+    here (suc zero) = one_of (λ k. is_answer_ring k ≡ true) 3 refl
     here (suc (suc n)) = All-nil (λ k. is_answer_ring k ≡ true)
 
     few : (q : ℕ) → length (answer_ins q) ≤ 1
@@ -109,16 +106,16 @@ pub small_is_laid_out : IsLayout small small_layout
 small_is_laid_out = record {
   scripts = scripts_of_small;
   same_flows = refl;
-  hosts = of_one (λ f. Contains (0 ∷ []) f.host) the_flow (0, lit< tt, refl);
-  devices = of_one (λ f. f.device < 1) the_flow (lit< tt);
+  hosts = one_of (λ f. Contains (0 ∷ []) f.host) the_flow (0, lit< tt, refl);
+  devices = one_of (λ f. f.device < 1) the_flow (lit< tt);
   all_flows = λ f e. nothing_else f.host f.device e;
-  asked = of_one (λ f. length (asked_of small f) ≤ 3) the_flow (lit≤ tt);
-  answered = of_one (λ f. length (answered_of small f) ≤ 2) the_flow (lit≤ tt);
+  asked = one_of (λ f. length (asked_words small f) ≤ 3) the_flow (lit≤ tt);
+  answered = one_of (λ f. length (answered_of small f) ≤ 2) the_flow (lit≤ tt);
   one_way = one_way;
   one_way_back = one_way_back;
   into_has = λ d there. refl;
-  into_flows = λ d there. of_one (λ f. f.device ≡ d) the_flow (omega arith);
-  leads = of_one (λ f. goes_over small_layout.requests 2 f ≡ true) the_flow refl;
-  back_flows = of_one (λ f. flows_over small_layout.answers 3 ≡ flows_over small_layout.requests 2) the_flow refl;
-  back_has = of_one (λ f. is_answer_ring (ring_home small_layout f) ≡ true) the_flow refl;
+  into_flows = λ d there. one_of (λ f. f.device ≡ d) the_flow (omega arith);
+  leads = one_of (λ f. goes_over small_layout.requests 2 f ≡ true) the_flow refl;
+  back_flows = one_of (λ f. flows_over small_layout.answers 3 ≡ flows_over small_layout.requests 2) the_flow refl;
+  back_has = one_of (λ f. is_answer_ring (ring_home small_layout f) ≡ true) the_flow refl;
 }

@@ -2,8 +2,8 @@
 use Rattle.std.proofs.Common.{◌≡◌, lit≤, lit<, ℕ, true, false, refl, List, [], ◌∷◌}
 use Rattle.std.specs.Prelude.{All}
 use Rattle.std.proofs.lemmas.List.Elements.{All-from_recursion}
-use Rattle.sb_laws.specs.Moves.{RingUse, IsKept, HasMoved, offers, sends, pops, sends_close, pops_close, IsWithinBudget, IsMovingRound, AreMovingRounds, move_bound}
-use Rattle.sb_laws.proofs.ExampleLayout.{of_one}
+use Rattle.sb_node.proofs.Answering.{one_of}
+use Rattle.sb_laws.specs.Moves.{RingUse, IsKept, IsMoveAtRing, offers, sends, pops, sends_close, pops_close, IsWithinBudget, IsMovingRound, AreMovingRounds, move_bound}
 
 abbrev pub unused : RingUse
 unused = record { offered = 0; let_go = 0; sent = 0; received = 0; handled = 0; closed = false; ended = false }
@@ -27,8 +27,8 @@ after_end = record after_close { ended = true }
 abbrev pub five_rounds : List (ℕ → RingUse)
 five_rounds = (λ r. after_offer) ∷ (λ r. after_send) ∷ (λ r. after_pop) ∷ (λ r. after_close) ∷ (λ r. after_end) ∷ []
 
-one_round : (a b : RingUse) → IsKept a b → HasMoved a b → IsMovingRound (0 ∷ []) (λ r. a) (λ r. b)
-one_round a b kept moved = record { kept = of_one (λ r. IsKept a b) 0 kept; moved = (0, 0, lit< tt, refl, moved) }
+one_round : (a b : RingUse) → IsKept a b → IsMoveAtRing a b → IsMovingRound (0 ∷ []) (λ r. a) (λ r. b)
+one_round a b kept moved = record { kept = one_of (λ r. IsKept a b) 0 kept; moved = (0, 0, lit< tt, refl, moved) }
 
 pub five_moving_rounds : AreMovingRounds (0 ∷ []) (λ r. unused) five_rounds
 five_moving_rounds = (
@@ -47,14 +47,14 @@ five_moving_rounds = (
 
 pub five_rounds_are_within : All (λ used. All (λ r. IsWithinBudget 1 (used r)) (0 ∷ [])) five_rounds
 five_rounds_are_within = All-from_recursion (λ used. All (λ r. IsWithinBudget 1 (used r)) (0 ∷ [])) five_rounds (
-  of_one (λ r. IsWithinBudget 1 after_offer) 0 (record { offered = lit≤ tt; let_go = lit≤ tt; sent = lit≤ tt; received = lit≤ tt; handled = lit≤ tt }),
+  one_of (λ r. IsWithinBudget 1 after_offer) 0 (record { offered = lit≤ tt; let_go = lit≤ tt; sent = lit≤ tt; received = lit≤ tt; handled = lit≤ tt }),
   (
-    of_one (λ r. IsWithinBudget 1 after_send) 0 (record { offered = lit≤ tt; let_go = lit≤ tt; sent = lit≤ tt; received = lit≤ tt; handled = lit≤ tt }),
+    one_of (λ r. IsWithinBudget 1 after_send) 0 (record { offered = lit≤ tt; let_go = lit≤ tt; sent = lit≤ tt; received = lit≤ tt; handled = lit≤ tt }),
     (
-      of_one (λ r. IsWithinBudget 1 after_pop) 0 (record { offered = lit≤ tt; let_go = lit≤ tt; sent = lit≤ tt; received = lit≤ tt; handled = lit≤ tt }),
+      one_of (λ r. IsWithinBudget 1 after_pop) 0 (record { offered = lit≤ tt; let_go = lit≤ tt; sent = lit≤ tt; received = lit≤ tt; handled = lit≤ tt }),
       (
-        of_one (λ r. IsWithinBudget 1 after_close) 0 (record { offered = lit≤ tt; let_go = lit≤ tt; sent = lit≤ tt; received = lit≤ tt; handled = lit≤ tt }),
-        (of_one (λ r. IsWithinBudget 1 after_end) 0 (record { offered = lit≤ tt; let_go = lit≤ tt; sent = lit≤ tt; received = lit≤ tt; handled = lit≤ tt }), tt),
+        one_of (λ r. IsWithinBudget 1 after_close) 0 (record { offered = lit≤ tt; let_go = lit≤ tt; sent = lit≤ tt; received = lit≤ tt; handled = lit≤ tt }),
+        (one_of (λ r. IsWithinBudget 1 after_end) 0 (record { offered = lit≤ tt; let_go = lit≤ tt; sent = lit≤ tt; received = lit≤ tt; handled = lit≤ tt }), tt),
       ),
     ),
   ),

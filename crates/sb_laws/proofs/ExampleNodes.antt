@@ -29,7 +29,7 @@ settled_port r sent taken = record {
   plan = ring_plan small r;
   mark = small_mark r;
   taken = taken;
-  state = record { sent = sent; waiting = nothing_waits 32; closing = has_close sent; shut = has_close sent; claimed = length (item_accesses sent) };
+  state = record { sent = sent; waiting = nothing_waits 32; close_requested = has_close sent; close_sent = has_close sent; words_offered = length (item_accesses sent) };
 }
 
 -- the two ends of a ring at a moment, once they have met

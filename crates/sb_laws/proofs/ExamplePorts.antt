@@ -15,11 +15,11 @@ use Rattle.sb_packet.specs.Traffic.{AreInTurn, IsCarriable, item_accesses, item_
 use Rattle.sb_packet.specs.declared.item.Item.TheVariants as items
 use Rattle.sb_packet.specs.declared.packet.Packet.{Packet}
 use Rattle.sb_port.specs.Ports.{IsFit, IsSendable, offered_words}
+use Rattle.sb_port.proofs.Items.{item_accesses-messages}
 use Rattle.sb_device.specs.Served.{AreSound}
 use Rattle.sb_laws.specs.Moments.{Moment}
 use Rattle.sb_laws.specs.RoundSides.{HasPort, HasRing}
 use Rattle.sb_laws.proofs.InTurn.{begins_in_turn, turn_words_are_few}
-use Rattle.sb_laws.proofs.PortSides.{words_of_messages}
 use Rattle.sb_laws.proofs.Prefixes.{same_prefix}
 use Rattle.sb_laws.proofs.ExampleNetwork.{small, asking, answering, write, posted, read, written, read_back}
 use Rattle.sb_laws.proofs.ExampleRun.{the_end, end_of_small}
@@ -147,7 +147,7 @@ small_ring (suc (suc (suc (suc r)))) here = absurd (omega arith)
 
 module _ (m : Moment) (settled : IsSettled m) (r : ℕ) where
   settled_words : item_accesses (m.sent r) ≡ offered_words (port_in m r)
-  settled_words = words_of_messages (m.sent r) ∙ ap (flat_map message_accesses) (sym (append-nil (item_messages (m.sent r))))
+  settled_words = item_accesses-messages (m.sent r) ∙ ap (flat_map message_accesses) (sym (append-nil (item_messages (m.sent r))))
 
   pub has_port : HasPort m r (port_in m r)
   has_port = record { sent = refl; offered = settled.offered r ∙ settled_words }

@@ -5,14 +5,15 @@ use Rattle.std.specs.Option.{option_map_or}
 use Rattle.std.proofs.lemmas.List.Elements.{All-from_recursion}
 use Rattle.sb_packet.specs.Networks.{NetHost, has_address}
 use Rattle.sb_packet.specs.Ways.{aims_at, route_at, router_before, router_after, way_links}
+use Rattle.sb_node.proofs.Answering.{one_of}
 use Rattle.sb_laws.specs.NetworkLayouts.{network_flows, network_requests, network_answers, network_layout}
 use Rattle.sb_laws.specs.NetworkStages.{network_stages}
 use Rattle.sb_laws.specs.NetworkWays.{is_link_to}
 use Rattle.sb_laws.specs.Routed.{IsFirstLink, IsRoute, IsRouted}
-use Rattle.sb_laws.specs.Courses.{way_of}
+use Rattle.sb_laws.specs.Courses.{way_rings}
 use Rattle.sb_laws.specs.RouterLayouts.{request_ins, request_outs, answer_ins, answer_outs}
 use Rattle.sb_laws.proofs.ExampleNetwork.{small}
-use Rattle.sb_laws.proofs.ExampleLayout.{the_flow, of_one, scripts_of_small}
+use Rattle.sb_laws.proofs.ExampleLayout.{the_flow, scripts_of_small}
 
 first_of_small : (h : ℕ) → h < 1 → (k : ℕ) × IsFirstLink small h k
 first_of_small zero inside = (0, record { there = lit< tt; first = refl; leaves = refl; router = 0; leads = refl })
@@ -64,7 +65,7 @@ small_is_routed = record {
   scripts = scripts_of_small;
   few = lit≤ tt;
   apart = apart_in_small;
-  pages = of_one (λ d. d.base % 4096 ≡ 0) _ refl;
+  pages = one_of (λ d. d.base % 4096 ≡ 0) _ refl;
   first = first_of_small;
   linked = linked_in_small;
   one_link = λ d j k e f. let one = the_link d j e in let other = the_link d k f in omega arith;
@@ -79,10 +80,10 @@ small_is_routed = record {
 pub flow_of_small : network_flows small ≡ the_flow ∷ []
 flow_of_small = refl
 
-pub way_of_small : way_of (network_requests small) the_flow ≡ 0 ∷ 2 ∷ []
+pub way_of_small : way_rings (network_requests small) the_flow ≡ 0 ∷ 2 ∷ []
 way_of_small = refl
 
-pub way_back_of_small : way_of (network_answers small) the_flow ≡ 3 ∷ 1 ∷ []
+pub way_back_of_small : way_rings (network_answers small) the_flow ≡ 3 ∷ 1 ∷ []
 way_back_of_small = refl
 
 -- To its router requests come by ring 0, and go on by ring 2 to the device; answers come by ring 3, and go on by ring 1.

@@ -1,8 +1,6 @@
 -- The example's router, fresh, halfway and at the end: each direction is built for the network, whole, and has forwarded what came.
 use Rattle.std.proofs.Common.{◌≡◌, ◌≤◌, ◌<◌, ◌+◌, lit<, ℕ, zero, suc, Bool, true, false, true≢false, List, [], ◌∷◌, ◌++◌, length, refl, sym, ap, ◌∙◌, subst, arith, Some, None}
-use Rattle.std.specs.Prelude.{All, Option, drop, not, slice_index_or, sum_by}
-use Rattle.std.specs.List.{list_all}
-use Rattle.std.proofs.lemmas.Bool.{and_parts}
+use Rattle.std.specs.Prelude.{All, Option, drop, slice_index_or, sum_by}
 use Rattle.std.proofs.lemmas.List.Elements.{filter-append}
 use Rattle.sb_packet.specs.Accesses.{Access}
 use Rattle.sb_packet.specs.Messages.{message_of}
@@ -12,11 +10,13 @@ use Rattle.sb_packet.specs.Rings.{flow_table, ring_plan, ring_ways}
 use Rattle.sb_packet.specs.Traffic.{IsCarriable, has_close}
 use Rattle.sb_packet.specs.declared.item.Item.TheVariants as items
 use Rattle.sb_packet.specs.declared.packet.Packet.{Packet}
+use Rattle.sb_link.proofs.Truths.{none_set, none_in_row}
 use Rattle.sb_port.specs.Ports.{offered_words}
 use Rattle.sb_node.specs.Sides.{received_words}
 use Rattle.sb_node.proofs.Subsequences.{same_subsequence}
+use Rattle.sb_node.proofs.Answering.{one_of}
 use Rattle.sb_router.specs.Forwarding.{Forwards, Passes, Words, held_for, part, popped_for}
-use Rattle.sb_router.specs.Lanes.{InletState, came_at, held_at, held_words, offered_at, outlet_at}
+use Rattle.sb_router.specs.Lanes.{InletState, came_at, held_words_at, held_words, offered_at, outlet_at}
 use Rattle.sb_router.specs.RouteOf.{route_of}
 use Rattle.sb_router.specs.Routers.{DirectionSide, IsWholeDirection}
 use Rattle.sb_router.specs.Steps.{IsSilent}
@@ -26,7 +26,6 @@ use Rattle.sb_laws.specs.RouterLayouts.{IsBuiltFor, LeadsByPlans, answer_ins, an
 use Rattle.sb_laws.specs.RouterSides.{HasInlet, HasLane}
 use Rattle.sb_laws.specs.RoundSides.{HasPort}
 use Rattle.sb_laws.proofs.ExampleNetwork.{small, posted, write}
-use Rattle.sb_laws.proofs.ExampleLayout.{of_one}
 use Rattle.sb_laws.proofs.ExampleRun.{the_end}
 use Rattle.sb_laws.proofs.ExampleHalfway.{halfway}
 use Rattle.sb_laws.proofs.ExampleNodes.{fresh, port_in, ring_in}
@@ -52,18 +51,6 @@ within f o e = by_place f.host f.device e
     by_place zero zero p = let same : 0 ≡ o = cc in omega arith
     by_place zero (suc d) p = absurd (cc)
     by_place (suc h) d p = absurd (cc)
-
--- where no bit is set, none is found
-pub none_set : (bits : List Bool) (d : ℕ) → list_all not bits ≡ true → slice_index_or bits d false ≡ false
-none_set [] d e = refl
-none_set (true ∷ bits) d e = absurd (true≢false (sym e))
-none_set (false ∷ bits) zero e = refl
-none_set (false ∷ bits) (suc d) e = none_set bits d e
-
-pub none_in_row : (rows : List (List Bool)) (h : ℕ) → list_all (list_all not) rows ≡ true → list_all not (slice_index_or rows h []) ≡ true
-none_in_row [] h e = refl
-none_in_row (row ∷ rows) zero e = (and_parts (list_all not row) (list_all (list_all not) rows) e).0
-none_in_row (row ∷ rows) (suc h) e = none_in_row rows h (and_parts (list_all not row) (list_all (list_all not) rows) e).1
 
 -- which flows go over the rings: over each the one flow
 abbrev pub small_table : List (List Bool)
@@ -106,8 +93,8 @@ pub requests_are_built : (m : Moment) (held : Option Packet) → IsBuiltFor smal
 requests_are_built m held = record {
   comes_by = refl;
   sends_by = refl;
-  in_plans = of_one (λ x. x.ring.plan ≡ ring_plan small x.ring.plan.ring) (inlet_in m 0 held) refl;
-  out_plans = of_one (λ y. y.plan ≡ ring_plan small y.plan.ring) (port_in m 2) refl;
+  in_plans = one_of (λ x. x.ring.plan ≡ ring_plan small x.ring.plan.ring) (inlet_in m 0 held) refl;
+  out_plans = one_of (λ y. y.plan ≡ ring_plan small y.plan.ring) (port_in m 2) refl;
   table = requests_are_led m held;
 }
 
@@ -115,8 +102,8 @@ pub answers_are_built : (m : Moment) (held : Option Packet) → IsBuiltFor small
 answers_are_built m held = record {
   comes_by = refl;
   sends_by = refl;
-  in_plans = of_one (λ x. x.ring.plan ≡ ring_plan small x.ring.plan.ring) (inlet_in m 3 held) refl;
-  out_plans = of_one (λ y. y.plan ≡ ring_plan small y.plan.ring) (port_in m 1) refl;
+  in_plans = one_of (λ x. x.ring.plan ≡ ring_plan small x.ring.plan.ring) (inlet_in m 3 held) refl;
+  out_plans = one_of (λ y. y.plan ≡ ring_plan small y.plan.ring) (port_in m 1) refl;
   table = answers_are_led m held;
 }
 
@@ -133,25 +120,25 @@ pub record HasPassed (m : Moment) (r q : ℕ) (held : Option Packet) : Type 0 wh
 module _ (m : Moment) (settled : IsSettled m) (r q : ℕ) (held : Option Packet) (passed : HasPassed m r q held) where
   pub direction_is_whole : IsWholeDirection (direction_in m r q held)
   direction_is_whole = record {
-    inlets = of_one IsWholeInlet (inlet_in m r held) (record { ended = refl; last = passed.last; carriable = passed.carriable });
-    outlets = of_one IsWholeOutlet (port_in m q) (record { fit = is_fit m settled q passed.goes_on });
+    inlets = one_of IsWholeInlet (inlet_in m r held) (record { ended = refl; last = passed.last; carriable = passed.carriable });
+    outlets = one_of IsWholeOutlet (port_in m q) (record { fit = is_fit m settled q passed.goes_on });
     silent = silent;
     routed = within;
   }
     where
-      silent : (o : ℕ) → o < 1 → (outlet_at (direction_in m r q held).lane o).state.closing ≡ true → All IsSilent (inlet_in m r held ∷ [])
-      silent zero inside told = of_one IsSilent (inlet_in m r held) (passed.closed told)
+      silent : (o : ℕ) → o < 1 → (outlet_at (direction_in m r q held).lane o).state.close_requested ≡ true → All IsSilent (inlet_in m r held ∷ [])
+      silent zero inside told = one_of IsSilent (inlet_in m r held) (passed.closed told)
       silent (suc o) inside told = absurd (omega arith)
 
   pub has_lane : HasLane m (direction_in m r q held).lane
   has_lane = record {
-    inlets = of_one (HasInlet m) (inlet_in m r held) (record { ring = has_ring m settled r; held = passed.keeps });
-    outlets = of_one (λ y. HasPort m y.plan.ring y) (port_in m q) (has_port m settled q);
+    inlets = one_of (HasInlet m) (inlet_in m r held) (record { ring = has_ring m settled r; held = passed.keeps });
+    outlets = one_of (λ y. HasPort m y.plan.ring y) (port_in m q) (has_port m settled q);
   }
 
   -- of each flow all is there, whichever words are the flow's
   pub all_parts : (words : Words) (f : NetFlow) (i o : ℕ) → Passes (route_of small_rows) (direction_in m r q held).lane f i o
-      → part words f (came_at (direction_in m r q held).lane i) ≡ part words f (offered_at (direction_in m r q held).lane o) ++ part words f (held_at (direction_in m r q held).lane i)
+      → part words f (came_at (direction_in m r q held).lane i) ≡ part words f (offered_at (direction_in m r q held).lane o) ++ part words f (held_words_at (direction_in m r q held).lane i)
   all_parts words f zero zero passes = ap (part words f) passed.all ∙ filter-append (words.is_of f) (offered_words (port_in m q)) (held_words held)
   all_parts words f zero (suc o) passes = absurd (let inside = passes.outlet in omega arith)
   all_parts words f (suc i) o passes = absurd (let inside = passes.inlet in omega arith)

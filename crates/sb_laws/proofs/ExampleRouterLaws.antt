@@ -2,6 +2,7 @@
 use Rattle.std.proofs.Common.{◌≤◌, ◌<◌, ◌+◌, lit≤, lit<, ℕ, zero, suc, length, refl, arith, Some, None}
 use Rattle.std.specs.Prelude.{All, Option, sum_by}
 use Rattle.sb_packet.specs.declared.packet.Packet.{Packet}
+use Rattle.sb_node.proofs.Answering.{one_of}
 use Rattle.sb_flow.proofs.AcceptedExample.{wide, wide_is_accepted}
 use Rattle.sb_router.specs.Forwarding.{IsLaid, Passes, Words, held_for, popped_for}
 use Rattle.sb_router.specs.Lanes.{offered_at}
@@ -10,7 +11,7 @@ use Rattle.sb_router.specs.Routers.{DirectionSide}
 use Rattle.sb_router.proofs.Forwards.{has_forwarded}
 use Rattle.sb_laws.specs.Moments.{Moment}
 use Rattle.sb_laws.specs.NetworkLayouts.{network_answers, network_requests}
-use Rattle.sb_laws.specs.Promises.{Forwards}
+use Rattle.sb_laws.specs.Promises.{ForwardsFlow}
 use Rattle.sb_laws.specs.RouterLayouts.{IsRouterAt, KeepsAlongWays, answer_ins, answer_outs, request_ins, request_outs}
 use Rattle.sb_laws.specs.RouterSides.{IsRouterOf, course_words}
 use Rattle.sb_laws.proofs.AcceptedNetworks.{low_ids}
@@ -18,7 +19,7 @@ use Rattle.sb_laws.proofs.NetworkRouters.{answers_laid, answers_router, requests
 use Rattle.sb_laws.proofs.RouterSides.{router_promise}
 use Rattle.sb_laws.proofs.RoutersAlongWays.{answers_along, requests_along}
 use Rattle.sb_laws.proofs.ExampleNetwork.{small, cpu, posted}
-use Rattle.sb_laws.proofs.ExampleLayout.{of_one, the_flow}
+use Rattle.sb_laws.proofs.ExampleLayout.{the_flow}
 use Rattle.sb_laws.proofs.ExampleRouted.{small_is_routed}
 use Rattle.sb_laws.proofs.ExampleRun.{the_end}
 use Rattle.sb_laws.proofs.ExampleHalfway.{halfway}
@@ -62,7 +63,7 @@ end_few_back zero = lit≤ tt
 end_few_back (suc o) = lit≤ tt
 
 ids_are_low : All (λ host. host.id < 32) small.hosts
-ids_are_low = of_one (λ host. host.id < 32) cpu (lit< tt)
+ids_are_low = one_of (λ host. host.id < 32) cpu (lit< tt)
 
 -- each direction at a moment, with a packet that is held or none
 module _ (m : Moment) (settled : IsSettled m) (held : Option Packet) where
@@ -81,7 +82,7 @@ module _ (m : Moment) (settled : IsSettled m) (held : Option Packet) where
     passes : Passes (route_of small_rows) (direction_in m 0 2 held).lane the_flow 0 0
     passes = record { inlet = lit< tt; outlet = lit< tt; through = refl; route_to = refl }
 
-    request_promise : Forwards small (network_requests small) m the_flow 0 2
+    request_promise : ForwardsFlow small (network_requests small) m the_flow 0 2
     request_promise = router_promise small (network_requests small) m (request_outs small 0) (route_of small_rows) (direction_in m 0 2 held).lane requests_stand.has
         (requests_router small small_is_routed 0 (direction_in m 0 2 held) (requests_are_built m held)) requests_stand.whole the_flow 0 0 passes (has_forwarded requests_stand.forwards.forwards the_flow 0 0 passes)
 
@@ -107,7 +108,7 @@ module _ (m : Moment) (settled : IsSettled m) (held : Option Packet) where
     passes_back : Passes (route_of small_rows) (direction_in m 3 1 held).lane the_flow 0 0
     passes_back = record { inlet = lit< tt; outlet = lit< tt; through = refl; route_to = refl }
 
-    answer_promise : Forwards small (network_answers small) m the_flow 3 1
+    answer_promise : ForwardsFlow small (network_answers small) m the_flow 3 1
     answer_promise = router_promise small (network_answers small) m (answer_outs small 0) (route_of small_rows) (direction_in m 3 1 held).lane answers_stand.has
         (answers_router small small_is_routed 0 (direction_in m 3 1 held) (answers_are_built m held)) answers_stand.whole the_flow 0 0 passes_back (has_forwarded answers_stand.forwards.forwards the_flow 0 0 passes_back)
 
@@ -118,14 +119,14 @@ module _ (m : Moment) (settled : IsSettled m) (held : Option Packet) where
         all_stand zero inside = answers_stand
         all_stand (suc r) inside = absurd (omega arith)
 
-pub routers_keep_their_promise : Forwards small (network_requests small) fresh the_flow 0 2 × Forwards small (network_requests small) halfway the_flow 0 2 × Forwards small (network_requests small) the_end the_flow 0 2
+pub routers_keep_their_promise : ForwardsFlow small (network_requests small) fresh the_flow 0 2 × ForwardsFlow small (network_requests small) halfway the_flow 0 2 × ForwardsFlow small (network_requests small) the_end the_flow 0 2
 routers_keep_their_promise = (
   request_promise fresh fresh_is_settled None fresh_requests fresh_few,
   request_promise halfway halfway_is_settled (Some posted) halfway_requests halfway_few,
   request_promise the_end end_is_settled None end_requests end_few,
 )
 
-pub routers_keep_their_promise_back : Forwards small (network_answers small) fresh the_flow 3 1 × Forwards small (network_answers small) halfway the_flow 3 1 × Forwards small (network_answers small) the_end the_flow 3 1
+pub routers_keep_their_promise_back : ForwardsFlow small (network_answers small) fresh the_flow 3 1 × ForwardsFlow small (network_answers small) halfway the_flow 3 1 × ForwardsFlow small (network_answers small) the_end the_flow 3 1
 routers_keep_their_promise_back = (
   answer_promise fresh fresh_is_settled None fresh_answers fresh_few_back,
   answer_promise halfway halfway_is_settled None halfway_answers halfway_few_back,

@@ -7,8 +7,9 @@ use Rattle.sb_packet.specs.Prefixes.{IsSubsequence}
 use Rattle.sb_packet.specs.Rings.{ring_plan}
 use Rattle.sb_port.specs.Ports.{PortSide}
 use Rattle.sb_node.proofs.Subsequences.{same_subsequence}
+use Rattle.sb_node.proofs.Answering.{one_of}
 use Rattle.sb_router.specs.Forwarding.{Passes, held_for, part, popped_for}
-use Rattle.sb_router.specs.Lanes.{InletState, came_at, held_at, inlet_at, offered_at, outlet_at}
+use Rattle.sb_router.specs.Lanes.{InletState, came_at, held_words_at, inlet_at, offered_at, outlet_at}
 use Rattle.sb_router.specs.RouteOf.{route_of}
 use Rattle.sb_router.specs.Routers.{DirectionSide, ForwardsAll, IsWholeDirection}
 use Rattle.sb_router.specs.Steps.{IsSilent}
@@ -19,7 +20,6 @@ use Rattle.sb_node.specs.Kept.{IsPortMet}
 use Rattle.sb_laws.proofs.NetworkRouters.{requests_laid}
 use Rattle.sb_laws.proofs.RouterEnds.{met_direction, met_whole}
 use Rattle.sb_laws.proofs.ExampleNetwork.{small, posted}
-use Rattle.sb_laws.proofs.ExampleLayout.{of_one}
 use Rattle.sb_laws.proofs.ExampleRouted.{small_is_routed}
 use Rattle.sb_laws.proofs.ExampleHalfway.{halfway}
 use Rattle.sb_laws.proofs.ExampleNodes.{port_in, ring_in}
@@ -53,13 +53,13 @@ has_met = record { rows = refl; inlet_count = refl; outlet_count = refl; inlets 
 
 early_is_whole : IsWholeDirection early
 early_is_whole = record {
-  inlets = of_one IsWholeInlet early_inlet (record { ended = refl; last = halfway_requests.last; carriable = halfway_requests.carriable });
-  outlets = of_one IsWholeOutlet early_port (record { fit = is_fit halfway halfway_is_settled 2 (lit< tt) });
+  inlets = one_of IsWholeInlet early_inlet (record { ended = refl; last = halfway_requests.last; carriable = halfway_requests.carriable });
+  outlets = one_of IsWholeOutlet early_port (record { fit = is_fit halfway halfway_is_settled 2 (lit< tt) });
   silent = silent;
   routed = within;
 }
   where
-    silent : (o : ℕ) → o < 1 → (outlet_at early.lane o).state.closing ≡ true → All IsSilent (early_inlet ∷ [])
+    silent : (o : ℕ) → o < 1 → (outlet_at early.lane o).state.close_requested ≡ true → All IsSilent (early_inlet ∷ [])
     silent zero inside told = absurd (cc)
     silent (suc o) inside told = absurd (omega arith)
 
@@ -79,8 +79,8 @@ early_is_built : IsBuiltFor small (request_ins small 0) (request_outs small 0) e
 early_is_built = record {
   comes_by = refl;
   sends_by = refl;
-  in_plans = of_one (λ x. x.ring.plan ≡ ring_plan small x.ring.plan.ring) early_inlet refl;
-  out_plans = of_one (λ y. y.plan ≡ ring_plan small y.plan.ring) early_port refl;
+  in_plans = one_of (λ x. x.ring.plan ≡ ring_plan small x.ring.plan.ring) early_inlet refl;
+  out_plans = one_of (λ y. y.plan ≡ ring_plan small y.plan.ring) early_port refl;
   table = leads_early (requests_are_built halfway (Some posted)).table;
 }
 
@@ -99,7 +99,7 @@ early_forwards = record {
     few (suc o) = lit≤ tt
 
     all : (f : NetFlow) (i o : ℕ) → Passes (route_of small_rows) early.lane f i o
-        → part request_words f (came_at early.lane i) ≡ part request_words f (offered_at early.lane o) ++ part request_words f (held_at early.lane i)
+        → part request_words f (came_at early.lane i) ≡ part request_words f (offered_at early.lane o) ++ part request_words f (held_words_at early.lane i)
     all f zero zero passes = all_parts halfway halfway_is_settled 0 2 (Some posted) halfway_requests request_words f 0 0 (record { inlet = lit< tt; outlet = lit< tt; through = passes.through; route_to = passes.route_to })
     all f zero (suc o) passes = absurd (let inside = passes.outlet in omega arith)
     all f (suc i) o passes = absurd (let inside = passes.inlet in omega arith)

@@ -7,6 +7,7 @@ use Rattle.sb_packet.specs.declared.packet.Packet.{Packet}
 use Rattle.sb_packet.specs.Traffic.{has_close}
 use Rattle.sb_packet.proofs.FoundAnswers.{eq_below}
 use Rattle.sb_node.specs.Sides.{has_rest, is_full}
+use Rattle.sb_node.proofs.Answering.{one_of}
 use Rattle.sb_router.specs.Lanes.{inlet_at}
 use Rattle.sb_router.specs.RouteOf.{route_of}
 use Rattle.sb_router.specs.Routers.{ClosesWhenDue, DirectionSide, IsRouterTurn, IsWholeRouter, RouterSide}
@@ -20,7 +21,6 @@ use Rattle.sb_laws.specs.Standstills.{IsIdleReceiver, IsIdleSender}
 use Rattle.sb_laws.proofs.RouterSides.{idle_receivers, idle_senders, unmoved_answers, unmoved_requests}
 use Rattle.sb_laws.proofs.RouterTables.{answer_tables, request_tables}
 use Rattle.sb_laws.proofs.ExampleNetwork.{small, cpu}
-use Rattle.sb_laws.proofs.ExampleLayout.{of_one}
 use Rattle.sb_laws.proofs.ExampleRouted.{small_is_routed}
 use Rattle.sb_laws.proofs.ExampleRun.{the_end}
 use Rattle.sb_laws.proofs.ExampleStandstill.{last_round, small_stages}
@@ -39,26 +39,26 @@ end_router_is_whole = record { requests = direction_is_whole the_end end_is_sett
 -- after the last round each direction is as its ends say, and stands at its stage
 shows_requests : ShowsLane last_round (route_of small_rows) end_router.requests.lane
 shows_requests = record {
-  inlets = of_one (ShowsInlet last_round (route_of small_rows) end_router.requests.lane) (inlet_in the_end 0 None) (record { lists = record { ring = has_ring the_end end_is_settled 0; held = refl }; ring = shows_ring 0 (lit< tt); holds = refl });
-  outlets = of_one (λ y. ShowsPort last_round y.plan.ring y) (port_in the_end 2) (shows_port 2 (lit< tt));
+  inlets = one_of (ShowsInlet last_round (route_of small_rows) end_router.requests.lane) (inlet_in the_end 0 None) (record { lists = record { ring = has_ring the_end end_is_settled 0; held = refl }; ring = shows_ring 0 (lit< tt); holds = refl });
+  outlets = one_of (λ y. ShowsPort last_round y.plan.ring y) (port_in the_end 2) (shows_port 2 (lit< tt));
 }
 
 shows_answers : ShowsLane last_round (route_of small_rows) end_router.answers.lane
 shows_answers = record {
-  inlets = of_one (ShowsInlet last_round (route_of small_rows) end_router.answers.lane) (inlet_in the_end 3 None) (record { lists = record { ring = has_ring the_end end_is_settled 3; held = refl }; ring = shows_ring 3 (lit< tt); holds = refl });
-  outlets = of_one (λ y. ShowsPort last_round y.plan.ring y) (port_in the_end 1) (shows_port 1 (lit< tt));
+  inlets = one_of (ShowsInlet last_round (route_of small_rows) end_router.answers.lane) (inlet_in the_end 3 None) (record { lists = record { ring = has_ring the_end end_is_settled 3; held = refl }; ring = shows_ring 3 (lit< tt); holds = refl });
+  outlets = one_of (λ y. ShowsPort last_round y.plan.ring y) (port_in the_end 1) (shows_port 1 (lit< tt));
 }
 
 requests_stage : IsAtStage small_stages 1 end_router.requests.lane
 requests_stage = record {
-  ins = of_one (λ x. ComesInto small_stages 1 x.ring.plan.ring) (inlet_in the_end 0 None) (record { is_ring = lit< tt; to = refl; ends_here = refl });
-  outs = of_one (λ y. Leaves small_stages 1 y.plan.ring) (port_in the_end 2) (record { is_ring = lit< tt; from = refl; no_host = refl });
+  ins = one_of (λ x. ComesInto small_stages 1 x.ring.plan.ring) (inlet_in the_end 0 None) (record { is_ring = lit< tt; to = refl; ends_here = refl });
+  outs = one_of (λ y. Leaves small_stages 1 y.plan.ring) (port_in the_end 2) (record { is_ring = lit< tt; from = refl; no_host = refl });
 }
 
 answers_stage : IsAtStage small_stages 3 end_router.answers.lane
 answers_stage = record {
-  ins = of_one (λ x. ComesInto small_stages 3 x.ring.plan.ring) (inlet_in the_end 3 None) (record { is_ring = lit< tt; to = refl; ends_here = refl });
-  outs = of_one (λ y. Leaves small_stages 3 y.plan.ring) (port_in the_end 1) (record { is_ring = lit< tt; from = refl; no_host = refl });
+  ins = one_of (λ x. ComesInto small_stages 3 x.ring.plan.ring) (inlet_in the_end 3 None) (record { is_ring = lit< tt; to = refl; ends_here = refl });
+  outs = one_of (λ y. Leaves small_stages 3 y.plan.ring) (port_in the_end 1) (record { is_ring = lit< tt; from = refl; no_host = refl });
 }
 
 -- a direction whose ring has ended, which holds nothing, and has told its port to close
@@ -73,8 +73,8 @@ module _ (r q : ℕ) (goes_on : q < 4) (ended : has_close (the_end.received r) �
   is_idle : IsIdleLane (route_of small_rows) ended_direction.lane
   is_idle = record {
     held_awaits_full = λ i p inside e. absurd (none_held i p e);
-    owing_are_full = of_one (λ port. has_rest port ≡ true → is_full port ≡ true) (port_in the_end q) (at_rest q goes_on);
-    open_are_seen = of_one IsSeen (inlet_in the_end r None) (inl ended);
+    owing_are_full = one_of (λ port. has_rest port ≡ true → is_full port ≡ true) (port_in the_end q) (at_rest q goes_on);
+    open_are_seen = one_of IsSeen (inlet_in the_end r None) (inl ended);
   }
 
   closes : ClosesWhenDue ended_direction
@@ -150,10 +150,10 @@ answers_table = record { table = λ f host device. table f.host f.device; within
     table (suc h) d = rw (eq_below 0 (suc h) (omega arith)) refl
 
 ids_are_low : All (λ host. host.id < 32) small.hosts
-ids_are_low = of_one (λ host. host.id < 32) cpu (lit< tt)
+ids_are_low = one_of (λ host. host.id < 32) cpu (lit< tt)
 
 pub tables_lead_by_plans : LeadsByPlans (direction_in fresh 0 2 None) × LeadsByPlans (direction_in fresh 3 1 None)
 tables_lead_by_plans = (
-  request_tables small 0 (direction_in fresh 0 2 None) small_is_routed ids_are_low refl (of_one (λ y. y.plan ≡ ring_plan small y.plan.ring) (port_in fresh 2) refl) requests_table,
-  answer_tables small 0 (direction_in fresh 3 1 None) small_is_routed ids_are_low refl (of_one (λ y. y.plan ≡ ring_plan small y.plan.ring) (port_in fresh 1) refl) answers_table,
+  request_tables small 0 (direction_in fresh 0 2 None) small_is_routed ids_are_low refl (one_of (λ y. y.plan ≡ ring_plan small y.plan.ring) (port_in fresh 2) refl) requests_table,
+  answer_tables small 0 (direction_in fresh 3 1 None) small_is_routed ids_are_low refl (one_of (λ y. y.plan ≡ ring_plan small y.plan.ring) (port_in fresh 1) refl) answers_table,
 )

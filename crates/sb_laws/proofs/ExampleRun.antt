@@ -8,10 +8,11 @@ use Rattle.sb_packet.specs.Networks.{width_to}
 use Rattle.sb_packet.specs.Journals.{IsLawful}
 use Rattle.sb_packet.specs.Traffic.{has_close, item_accesses}
 use Rattle.sb_packet.specs.declared.item.Item.{Item}
+use Rattle.sb_node.proofs.Answering.{one_of}
 use Rattle.sb_device.specs.Served.{AreSound}
 use Rattle.sb_laws.specs.Moments.{Moment}
-use Rattle.sb_laws.specs.Courses.{CarriesItsFlows, is_carried, AlongWay}
-use Rattle.sb_laws.specs.Promises.{Forwards}
+use Rattle.sb_laws.specs.Courses.{CarriesItsFlows, is_of_ring, AlongWay}
+use Rattle.sb_laws.specs.Promises.{ForwardsFlow}
 use Rattle.sb_laws.specs.Arrivals.{HasEnded}
 use Rattle.sb_laws.specs.Runs.{IsHost, IsDevice, IsMomentOf, HasEntries}
 use Rattle.sb_laws.specs.Wholes.{HasAllEnded}
@@ -20,7 +21,7 @@ use Rattle.sb_laws.proofs.ClosedLists.{EndsAtClose, closes_last}
 use Rattle.sb_node.proofs.Subsequences.{same_subsequence}
 use Rattle.sb_laws.proofs.Prefixes.{same_prefix}
 use Rattle.sb_laws.proofs.ExampleNetwork.{small, steps, asking, answering, write, posted, read, written, read_back}
-use Rattle.sb_laws.proofs.ExampleLayout.{small_is_laid_out, the_flow, is_request_ring, is_answer_ring, small_layout, of_one}
+use Rattle.sb_laws.proofs.ExampleLayout.{small_is_laid_out, the_flow, is_request_ring, is_answer_ring, small_layout}
 
 -- what went over each ring in the end
 abbrev pub all_items : ℕ → List Item
@@ -71,16 +72,16 @@ all_sound (suc (suc (suc zero))) = sound_answering
 all_sound (suc (suc (suc (suc n)))) = All-nil IsSound
 
 carried : (r : ℕ) → is_request_ring r ≡ true → CarriesItsFlows small small_layout.requests the_end r
-carried zero e = All-from_recursion (λ a. is_carried small small_layout.requests 0 a ≡ true) (item_accesses asking) (refl, (refl, (refl, tt)))
+carried zero e = All-from_recursion (λ a. is_of_ring small small_layout.requests 0 a ≡ true) (item_accesses asking) (refl, (refl, (refl, tt)))
 carried (suc zero) e = absurd (cc)
-carried (suc (suc zero)) e = All-from_recursion (λ a. is_carried small small_layout.requests 2 a ≡ true) (item_accesses asking) (refl, (refl, (refl, tt)))
+carried (suc (suc zero)) e = All-from_recursion (λ a. is_of_ring small small_layout.requests 2 a ≡ true) (item_accesses asking) (refl, (refl, (refl, tt)))
 carried (suc (suc (suc n))) e = absurd (cc)
 
 carried_back : (r : ℕ) → is_answer_ring r ≡ true → CarriesItsFlows small small_layout.answers the_end r
 carried_back zero e = absurd (cc)
-carried_back (suc zero) e = All-from_recursion (λ a. is_carried small small_layout.answers 1 a ≡ true) (item_accesses answering) (refl, (refl, tt))
+carried_back (suc zero) e = All-from_recursion (λ a. is_of_ring small small_layout.answers 1 a ≡ true) (item_accesses answering) (refl, (refl, tt))
 carried_back (suc (suc zero)) e = absurd (cc)
-carried_back (suc (suc (suc zero))) e = All-from_recursion (λ a. is_carried small small_layout.answers 3 a ≡ true) (item_accesses answering) (refl, (refl, tt))
+carried_back (suc (suc (suc zero))) e = All-from_recursion (λ a. is_of_ring small small_layout.answers 3 a ≡ true) (item_accesses answering) (refl, (refl, tt))
 carried_back (suc (suc (suc (suc n)))) e = absurd (cc)
 
 -- All promises hold at the end.
@@ -91,19 +92,19 @@ end_of_small = record {
   carried = carried;
   carried_back = carried_back;
   recorded = λ d there. let first : d ≡ 0 = omega arith in rw first refl;
-  hosts = of_one (IsHost small small_layout the_end) the_flow (record { in_order = same_prefix refl; closed = λ e. refl });
-  devices = of_one (IsDevice small small_layout steps the_end) the_flow (record { whole = λ sound few. refl });
-  routers = of_one (λ f. AlongWay (Forwards small small_layout.requests the_end f) 0 (2 ∷ [])) the_flow
+  hosts = one_of (IsHost small small_layout the_end) the_flow (record { in_order = same_prefix refl; closed = λ e. refl });
+  devices = one_of (IsDevice small small_layout steps the_end) the_flow (record { whole = λ sound few. refl });
+  routers = one_of (λ f. AlongWay (ForwardsFlow small small_layout.requests the_end f) 0 (2 ∷ [])) the_flow
       (record { in_order = same_subsequence (item_accesses asking); whole = λ sound few. refl; closed = λ e. refl }, tt);
-  routers_back = of_one (λ f. AlongWay (Forwards small small_layout.answers the_end f) 3 (1 ∷ [])) the_flow
+  routers_back = one_of (λ f. AlongWay (ForwardsFlow small small_layout.answers the_end f) 3 (1 ∷ [])) the_flow
       (record { in_order = same_subsequence (item_accesses answering); whole = λ sound few. refl; closed = λ e. refl }, tt);
 }
 
 -- And each ring has given its Close.
 pub small_has_ended : HasAllEnded small_layout the_end
 small_has_ended = record {
-  there = of_one (HasEnded small_layout.requests the_end) the_flow (All-from_recursion (λ r. has_close (all_items r) ≡ true) (0 ∷ 2 ∷ []) (refl, (refl, tt)));
-  back = of_one (HasEnded small_layout.answers the_end) the_flow (All-from_recursion (λ r. has_close (all_items r) ≡ true) (3 ∷ 1 ∷ []) (refl, (refl, tt)));
+  there = one_of (HasEnded small_layout.requests the_end) the_flow (All-from_recursion (λ r. has_close (all_items r) ≡ true) (0 ∷ 2 ∷ []) (refl, (refl, tt)));
+  back = one_of (HasEnded small_layout.answers the_end) the_flow (All-from_recursion (λ r. has_close (all_items r) ≡ true) (3 ∷ 1 ∷ []) (refl, (refl, tt)));
 }
 
 -- The entries are at their device, and the journal is one legal history.

@@ -5,11 +5,12 @@ use Rattle.std.proofs.lemmas.List.Elements.{All-from_recursion}
 use Rattle.sb_packet.specs.Traffic.{has_close, item_accesses}
 use Rattle.sb_packet.specs.declared.item.Item.{Item}
 use Rattle.sb_packet.specs.declared.item.Item.TheVariants as items
+use Rattle.sb_node.proofs.Answering.{one_of}
 use Rattle.sb_laws.specs.Stages.{Stages}
 use Rattle.sb_laws.specs.Standstills.{RoundEnd, IsStandstill}
-use Rattle.sb_laws.specs.Endings.{HasLearnt, IsFinished, IsWaiting, IsWithin, IsWholeStandstill}
+use Rattle.sb_laws.specs.Endings.{HasLearnt, IsFinished, IsHostWaiting, IsWithin, IsWholeStandstill}
 use Rattle.sb_laws.proofs.ExampleNetwork.{small, steps, read}
-use Rattle.sb_laws.proofs.ExampleLayout.{the_flow, small_layout, of_one}
+use Rattle.sb_laws.proofs.ExampleLayout.{the_flow, small_layout}
 use Rattle.sb_laws.proofs.ExampleRun.{all_items, the_end, end_of_small}
 
 -- ring 0 leads from the host to the router, 2 to the device, 3 back to the router and 1 to the host
@@ -66,7 +67,7 @@ small_stands_still = record {
   still = last_round_is_a_standstill;
   moment = end_of_small;
   inside = λ r here. (refl, refl);
-  within = of_one (IsWithin small_stages small_layout) the_flow (record {
+  within = one_of (IsWithin small_stages small_layout) the_flow (record {
     there = All-from_recursion (λ r. r < 4) (0 ∷ 2 ∷ []) (lit< tt, (lit< tt, tt));
     back = All-from_recursion (λ r. r < 4) (3 ∷ 1 ∷ []) (lit< tt, (lit< tt, tt));
   });
@@ -117,7 +118,7 @@ waiting_is_a_standstill = record {
     not_open (suc n) here o e = cc
 
 -- So the host waits, and its ring is not done.
-pub waiting_waits : IsWaiting side_stages waiting
+pub waiting_waits : IsHostWaiting side_stages waiting
 waiting_waits = record { at = 0; is_ring = lit< tt; waits = refl }
 
 pub waiting_is_not_finished : IsFinished side_stages waiting 0 → ⊥

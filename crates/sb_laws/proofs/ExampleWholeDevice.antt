@@ -5,6 +5,7 @@ use Rattle.std.proofs.lemmas.List.Elements.{All-nil, All-from_recursion}
 use Rattle.sb_packet.specs.Memories.{memory_after}
 use Rattle.sb_packet.specs.Networks.{opening_memory}
 use Rattle.sb_packet.specs.Rings.{ring_plan}
+use Rattle.sb_link.proofs.Truths.{none_set, none_in_row}
 use Rattle.sb_device.specs.Devices.{IsWholeDevice}
 use Rattle.sb_device.specs.Plans.{IsPlannedFor}
 use Rattle.sb_device.specs.Served.{entry_accesses}
@@ -13,7 +14,7 @@ use Rattle.sb_laws.proofs.ExampleRun.{the_end}
 use Rattle.sb_laws.proofs.ExampleHalfway.{halfway, first_step}
 use Rattle.sb_laws.proofs.ExampleNodes.{fresh, device_in}
 use Rattle.sb_laws.proofs.ExamplePorts.{end_is_settled, fresh_is_settled, halfway_is_settled, is_fit}
-use Rattle.sb_laws.proofs.ExampleRouter.{none_in_row, none_set, small_table}
+use Rattle.sb_laws.proofs.ExampleRouter.{small_table}
 
 -- all flows over its rings are to it
 own : (h d : ℕ) → slice_index_or (slice_index_or small_table h []) d false ≡ true → d ≡ 0

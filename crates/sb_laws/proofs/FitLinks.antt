@@ -2,17 +2,16 @@
 use Rattle.std.proofs.Common.{◌≡◌, ◌≤◌, ◌<◌, ℕ, Bool, true, false, cond, List, [], ◌∷◌, ◌++◌, length, refl, ap, ◌∙◌, arith, inl, inr}
 use Rattle.std.specs.Prelude.{◌==◌, ◌||◌, ◌&&◌, ◌⊎◌, not, All, AllPairs, Some, None, slice_get}
 use Rattle.std.specs.List.{list_any}
-use Rattle.std.proofs.lemmas.Bool.{cases_lt}
+use Rattle.std.proofs.lemmas.Bool.{cases_lt, and_parts}
 use Rattle.std.proofs.lemmas.Bool.Decides.{nat_tests}
 use Rattle.std.proofs.lemmas.List.Elements.{All-nil, All-cons, All-head, All-weaker}
 use Rattle.std.proofs.lemmas.List.Kept.{AllPairs-cons}
 use Rattle.sb_packet.specs.Networks.{NetPlace, NetLink, Network, at_host, at_router, at_device, leads_to}
 use Rattle.sb_packet.specs.Sides.{leaves_from}
-use Rattle.sb_packet.specs.Ways.{router_of, is_some_number}
+use Rattle.sb_packet.specs.Ways.{is_some_number}
 use Rattle.sb_packet.proofs.Lists.{All-left, All-right}
 use Rattle.sb_flow.specs.Ends.{joins, keeps_sides, same_device, same_host, share_an_end, is_fit_link, unfit_behind, unfit_link}
 use Rattle.sb_laws.specs.NetworkWays.{is_link_to}
-use Rattle.sb_laws.proofs.FlowMembers.{and_parts}
 use Rattle.sb_laws.proofs.NoFaults.{none_of_any, at_place, AllPairs-at}
 
 pub is_false : (b : Bool) → not b ≡ true → b ≡ false
@@ -63,11 +62,6 @@ host_start h link e = by_end link.from refl
     by_end (at_host k) is = let test = rw is at e in let same : k ≡ h = grind (arith, nat_tests) in is ∙ ap at_host same
     by_end (at_router q) is = absurd (let never = rw is at e in cc)
     by_end (at_device k) is = absurd (let never = rw is at e in cc)
-
-pub router_end : (p : NetPlace) (r : ℕ) → router_of p ≡ Some r → p ≡ at_router r
-router_end (at_host h) r e = absurd (cc)
-router_end (at_router q) r e = let same : q ≡ r = cc in ap at_router same
-router_end (at_device d) r e = absurd (cc)
 
 -- two links to one device share an end
 shared : (d : ℕ) (x y : NetLink) → leads_to d x ≡ true → leads_to d y ≡ true → share_an_end x y ≡ true

@@ -1,10 +1,11 @@
 -- Which flows a word is of, and which flows are among others.
 use Rattle.std.proofs.Common.{◌≡◌, ℕ, zero, suc, Bool, true, false, List, [], ◌∷◌, refl, sym, ◌∙◌, arith, subst}
-use Rattle.std.specs.Prelude.{◌==◌, ◌||◌, ◌&&◌, filter, All, Option, Some, None}
+use Rattle.std.specs.Prelude.{◌==◌, ◌||◌, filter, All, Option, Some, None}
 use Rattle.std.specs.List.{list_any}
 use Rattle.std.specs.Option.{option_map_or}
 use Rattle.std.proofs.lemmas.Bool.Decides.{nat_tests}
 use Rattle.std.proofs.lemmas.List.Elements.{All-head, All-tail, All-filter, filter_passes}
+use Rattle.std.proofs.lemmas.Bool.{and_parts}
 use Rattle.sb_packet.specs.Accesses.{Access}
 use Rattle.sb_packet.specs.Networks.{Network, device_at}
 use Rattle.sb_packet.specs.Journals.{device_address}
@@ -32,11 +33,6 @@ one_number (Some k) d e p q = grind (arith, nat_tests)
 
 pub same_flow_from : (f g : NetFlow) → f.host ≡ g.host → (f.device == g.device) ≡ true → is_same_flow f g ≡ true
 same_flow_from f g e d = let same : (f.host == g.host) ≡ true = grind (arith, nat_tests) in rw (same, d) refl
-
-pub and_parts : (a b : Bool) → (a && b) ≡ true → (a ≡ true) × (b ≡ true)
-and_parts true true e = (refl, refl)
-and_parts true false e = absurd (cc)
-and_parts false b e = absurd (cc)
 
 module _ (network : Network) where
   -- what it is that a word is of a flow

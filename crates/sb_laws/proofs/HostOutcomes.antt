@@ -1,11 +1,12 @@
 -- What has become of a host's transactions, by the words that came to it in a whole run, is what the journal says.
 use Rattle.std.proofs.Common.{◌≡◌, ◌<◌, ℕ, Bool, ◌+◌, ◌%◌, true, false, cond, List, [], ◌∷◌, length, refl, sym, ap, ◌∙◌, arith, subst}
-use Rattle.std.specs.Prelude.{◌&&◌, ◌==◌, nat_lt, filter, filter_map, map, All, Contains, Option, Some, None, is_some, get_or}
+use Rattle.std.specs.Prelude.{◌==◌, nat_lt, filter, filter_map, map, All, Contains, Option, Some, None, is_some, get_or}
 use Rattle.std.specs.List.{enumerate_from, find, list_all}
 use Rattle.std.specs.Option.{option_map_or}
 use Rattle.std.proofs.lemmas.Bool.Decides.{nat_tests}
 use Rattle.std.proofs.lemmas.List.{length-map}
 use Rattle.std.proofs.lemmas.List.Elements.{All-filter, All-head, All-nil, All-tail}
+use Rattle.std.proofs.lemmas.Bool.{and_from}
 use Rattle.sb_word.specs.declared.command.Op.{Op}
 use Rattle.sb_word.specs.declared.command.Op.TheVariants.{ReqRd, ReqWr, ReqWrPosted, ReqAtomic, RespRd, RespWr}
 use Rattle.sb_packet.specs.Accesses.{Access, access_at}
@@ -23,12 +24,14 @@ use Rattle.sb_packet.specs.declared.transaction.Kind.{Kind}
 use Rattle.sb_packet.specs.declared.transaction.Kind.TheVariants.{Read, Write, Posted, Atomic}
 use Rattle.sb_packet.specs.declared.transaction.Txn.{Txn}
 use Rattle.sb_packet.proofs.Lists.{All-kept, All-made, All-pieces}
-use Rattle.sb_host.specs.declared.line.Line.{Line}
+use Rattle.sb_link.proofs.Truths.{same_number}
+use Rattle.sb_flow.proofs.FlowWords.{request_asks}
+use Rattle.sb_host.specs.declared.transaction_plan.TransactionPlan.{TransactionPlan}
 use Rattle.sb_host.specs.Asked.{Asked, asked_by, line_in}
 use Rattle.sb_host.specs.Hosts.{HostSide, IsWholeHost}
 use Rattle.sb_host.specs.Outcomes.{answer_so_far, first_answer, is_answer_to, line_outcome, outcome_so_far, outcomes_so_far}
 use Rattle.sb_node.specs.Sides.{received_words}
-use Rattle.sb_laws.specs.Flows.{asked_of, is_among_flows, is_of}
+use Rattle.sb_laws.specs.Flows.{asked_words, is_among_flows, is_of}
 use Rattle.sb_laws.specs.HostSides.{IsHostOf}
 use Rattle.sb_laws.specs.Layouts.{IsLayout, Layout, ring_home}
 use Rattle.sb_laws.specs.Moments.{Moment, arrived}
@@ -42,7 +45,7 @@ use Rattle.sb_laws.proofs.HostAnswers.{host_answers_law}
 use Rattle.sb_laws.proofs.HostSides.{at_listed, told_at_end}
 use Rattle.sb_laws.proofs.Journals.{journal_differs}
 use Rattle.sb_laws.proofs.ListPlaces.{All-enumerated}
-use Rattle.sb_laws.proofs.ScriptFacts.{asked_asks, asks, found_by_id}
+use Rattle.sb_laws.proofs.ScriptFacts.{asked_asks, found_by_id}
 use Rattle.sb_laws.proofs.WholeRuns.{replies_at_first, whole_history}
 
 -- a word that asks and is answered has an answer, of its device or of none
@@ -80,7 +83,7 @@ same_outcome Posted known answers all = refl
 same_outcome (Atomic type) known answers all = let told = all refl in rw (told.0, told.1) refl
 
 -- line by line
-same_lines : (network : Network) (of_line : ℕ → Line → Outcome) (of_pair : ℕ × Txn → Outcome) (n : ℕ) (txns : List Txn) → All (λ p. of_line p.0 (line_in network p.1) ≡ of_pair p) (enumerate_from n txns) →
+same_lines : (network : Network) (of_line : ℕ → TransactionPlan → Outcome) (of_pair : ℕ × Txn → Outcome) (n : ℕ) (txns : List Txn) → All (λ p. of_line p.0 (line_in network p.1) ≡ of_pair p) (enumerate_from n txns) →
     map (λ p. of_line p.0 p.1) (enumerate_from n (map (line_in network) txns)) ≡ map of_pair (enumerate_from n txns)
 same_lines network of_line of_pair n [] same = refl
 same_lines network of_line of_pair n (t ∷ txns) same =
@@ -88,12 +91,6 @@ same_lines network of_line of_pair n (t ∷ txns) same =
     let first : of_line n (line_in network t) ≡ of_pair p = All-head (λ p. of_line p.0 (line_in network p.1) ≡ of_pair p) p (enumerate_from (n + 1) txns) same in
     let rest = same_lines network of_line of_pair (n + 1) txns (All-tail (λ p. of_line p.0 (line_in network p.1) ≡ of_pair p) p (enumerate_from (n + 1) txns) same) in
     rw (first, rest) refl
-
-both : (a b : Bool) → a ≡ true → b ≡ true → (a && b) ≡ true
-both a b e f = rw (e, f) refl
-
-same_number : (n : ℕ) → (n == n) ≡ true
-same_number n = grind (arith, nat_tests)
 
 module _ (network : Network) (layout : Layout) (journal : List Entry) (m : Moment) (laid : IsLayout network layout) (now : IsMomentOf network layout journal m) (ended : HasAllEnded layout m)
     (pages : All (λ d. d.base % 4096 ≡ 0) network.devices) (host : NetHost) (inside : Contains network.hosts host) (home : ℕ) (at_home : All (λ f. f.host ≡ host.id → ring_home layout f ≡ home) layout.requests.flows) where
@@ -103,9 +100,9 @@ module _ (network : Network) (layout : Layout) (journal : List Entry) (m : Momen
     pub memory : MemoryState
     pub given : access_reply network journal a ≡ access_answer memory a
 
-  flow_found : (f : NetFlow) → f.host ≡ host.id → is_among_flows f layout.requests.flows ≡ true → All IsFound (asked_of network f)
+  flow_found : (f : NetFlow) → f.host ≡ host.id → is_among_flows f layout.requests.flows ≡ true → All IsFound (asked_words network f)
   flow_found f mine among i d below =
-      let word = get_or (asked_of network f) i d in
+      let word = get_or (asked_words network f) i d in
       let there = at_flow (λ g. g.device < length network.devices) f layout.requests.flows laid.devices among in
       let opening = opening_memory network f.device in
       let words = journal_accesses journal f.device in
@@ -124,10 +121,10 @@ module _ (network : Network) (layout : Layout) (journal : List Entry) (m : Momen
   abbrev flow_to : ℕ → NetFlow
   flow_to d = record { host = host.id; device = d }
 
-  device_found : (d : ℕ) → All IsFound (asked_of network (flow_to d))
+  device_found : (d : ℕ) → All IsFound (asked_words network (flow_to d))
   device_found d = by_test (is_among_flows (flow_to d) layout.requests.flows) refl
     where
-      by_test : (b : Bool) → is_among_flows (flow_to d) layout.requests.flows ≡ b → All IsFound (asked_of network (flow_to d))
+      by_test : (b : Bool) → is_among_flows (flow_to d) layout.requests.flows ≡ b → All IsFound (asked_words network (flow_to d))
       by_test true e = flow_found (flow_to d) refl e
       by_test false e = subst (All IsFound) (sym (laid.all_flows (flow_to d) e)) (All-nil IsFound)
 
@@ -146,8 +143,8 @@ module _ (network : Network) (layout : Layout) (journal : List Entry) (m : Momen
     own_words d e = All-made (λ a. is_of network (flow_to d) a ≡ true) (access_at (transaction_message host i t)) t.count
         (λ j below.
         let a = access_at (transaction_message host i t) j in
-        let at : device_at network (device_address a) ≡ Some d = ap (λ (b : Bool). device_at network (cond b a.dst a.src)) (asks t.kind) ∙ word_device network pages t is j below ∙ e in
-        both (a.host == host.id) (is_at network d a) (same_number host.id) (ap (λ (o : Option ℕ). option_map_or (λ k. k == d) o false) at ∙ same_number d))
+        let at : device_at network (device_address a) ≡ Some d = ap (λ (b : Bool). device_at network (cond b a.dst a.src)) (request_asks t.kind) ∙ word_device network pages t is j below ∙ e in
+        and_from (a.host == host.id) (is_at network d a) (same_number host.id) (ap (λ (o : Option ℕ). option_map_or (λ k. k == d) o false) at ∙ same_number d))
 
     -- so what is known of each word is what the journal replies
     pub known_words : is_answered (request_of t.kind) ≡ true →
@@ -160,12 +157,12 @@ module _ (network : Network) (layout : Layout) (journal : List Entry) (m : Momen
             (λ j below.
             let a = access_at (transaction_message host i t) j in
             let same : unreached_by a.op a ≡ access_reply network journal a = ap (answer_from network journal a) (sym (word_device network pages t is j below ∙ e)) in
-            (same, ap is_some (sym same) ∙ unreached_is_some (request_of t.kind) a (asks t.kind) answered))
+            (same, ap is_some (sym same) ∙ unreached_is_some (request_of t.kind) a (request_asks t.kind) answered))
         by_place (Some d) e = λ k x below.
             let a = get_or (transaction_accesses host i t) k x in
             let at = found d k x below (own_words d e k x below) in
             let op : a.op ≡ request_of t.kind = All-made (λ a. a.op ≡ request_of t.kind) (access_at (transaction_message host i t)) t.count (λ j less. refl) k x below in
-            (at.reply, ap is_some at.given ∙ ap (λ (o : Op). is_some (answer_by o at.memory a)) op ∙ answer_is_some (request_of t.kind) at.memory a (asks t.kind) answered)
+            (at.reply, ap is_some at.given ∙ ap (λ (o : Op). is_some (answer_by o at.memory a)) op ∙ answer_is_some (request_of t.kind) at.memory a (request_asks t.kind) answered)
 
     pub line_is_told : line_outcome (asked_by network host) (arrived m home) true i (line_in network t) ≡ outcome_of t.kind (transaction_answers network journal host i t)
     line_is_told = same_outcome t.kind (map (answer_so_far (arrived m home) (is_some (device_at network t.addr)) true) (transaction_accesses host i t)) (transaction_answers network journal host i t)
@@ -189,7 +186,7 @@ module _ (network : Network) (layout : Layout) (journal : List Entry) (m : Momen
 -- So does a host that told its port to close, by the words that came to it.
 pub outcomes_found : (network : Network) (layout : Layout) (journal : List Entry) (m : Moment) (host : NetHost) (h : HostSide) →
     IsLayout network layout → All (λ d. d.base % 4096 ≡ 0) network.devices → IsMomentOf network layout journal m → HasAllEnded layout m → IsHostOf network layout host h → IsWholeHost h →
-    h.requests.state.closing ≡ true → HasRing m h.answers.plan.ring h.answers → outcomes_so_far h.transactions.asked (received_words h.answers) h.transactions.next ≡ host_outcomes network journal host
+    h.requests.state.close_requested ≡ true → HasRing m h.answers.plan.ring h.answers → outcomes_so_far h.transactions.asked (received_words h.answers) h.transactions.next ≡ host_outcomes network journal host
 outcomes_found network layout journal m host h laid pages now ended of whole told got =
     let t = h.transactions in
     let ring = h.answers.plan.ring in

@@ -9,6 +9,7 @@ use Rattle.std.proofs.lemmas.List.{get_or-take, length-take-le}
 use Rattle.std.proofs.lemmas.List.Elements.{All-weaker}
 use Rattle.std.proofs.lemmas.List.FromFn.{length-map-range_with_len}
 use Rattle.std.proofs.lemmas.Option.{slice_get-get_or}
+use Rattle.std.proofs.lemmas.Bool.{and_parts}
 use Rattle.sb_packet.specs.Cuts.{cut_parts}
 use Rattle.sb_packet.specs.Journals.{is_request}
 use Rattle.sb_packet.specs.Messages.{Message, message_span}
@@ -21,13 +22,12 @@ use Rattle.sb_packet.specs.Traffic.{IsPlanned}
 use Rattle.sb_packet.specs.declared.transaction.Txn.{Txn}
 use Rattle.sb_packet.proofs.PacketsOfTransactions.{transaction_is_even}
 use Rattle.sb_flow.proofs.AcceptedLinks.{got_below}
+use Rattle.sb_flow.proofs.FlowWords.{request_asks}
 use Rattle.sb_laws.specs.Routed.{IsRouted}
-use Rattle.sb_laws.proofs.FlowMembers.{and_parts}
 use Rattle.sb_laws.proofs.HostParts.{IsPart, parts_lie_within}
 use Rattle.sb_laws.proofs.LinksToDevices.{found_place, none_found}
 use Rattle.sb_laws.proofs.NoFaults.{All-at, at_place}
 use Rattle.sb_laws.proofs.PlannedWords.{in_span, span_device, table_at}
-use Rattle.sb_laws.proofs.ScriptFacts.{asks}
 
 -- a part of what lies in a page of a device is in the device
 part_held : (base pages addr span from bytes : ℕ) → base % 4096 ≡ 0 → addr % 4096 + span ≤ 4096 → addr ≤ from → from + bytes ≤ addr + span → (nat_le base addr && nat_lt addr (base + pages * 4096)) ≡ true →
@@ -79,7 +79,7 @@ module _ (network : Network) (routed : IsRouted network) where
         (p : Message) → IsPart (transaction_message host i t) p → IsPlanned (ring_plan network ring) p
     packet_planned ring down through p part =
         let device = found.0 in
-        let asked : is_request p.op ≡ true = ap is_request part.op ∙ asks t.kind in
+        let asked : is_request p.op ≡ true = ap is_request part.op ∙ request_asks t.kind in
         let from = part.from in
         let to = part.to in
         let whole : device.base % 4096 ≡ 0 = All-at (λ e. e.base % 4096 ≡ 0) network.devices d device routed.pages found.2 in

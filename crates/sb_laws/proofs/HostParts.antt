@@ -1,12 +1,11 @@
 -- The packets of a transaction lie within it, so the ring from its host is made for them.
-use Rattle.std.proofs.Common.{◌≡◌, ◌≤◌, ◌<◌, ℕ, zero, suc, ◌+◌, ◌-◌, ◌*◌, ◌^◌, Bool, true, false, cond, [], ◌∷◌, refl, ap, ◌∙◌, arith, inl, inr}
-use Rattle.std.specs.Prelude.{◌⊎◌, ◌||◌, nat_le, All}
-use Rattle.std.proofs.Math.Nat.{mul-le-mul_right, div-mul-le_self}
-use Rattle.std.proofs.lemmas.Bool.{cases_lt}
-use Rattle.std.proofs.lemmas.Bool.Decides.{nat_tests}
+use Rattle.std.proofs.Common.{◌≡◌, ◌≤◌, ◌<◌, ℕ, zero, suc, ◌+◌, ◌-◌, ◌*◌, ◌^◌, Bool, true, false, cond, [], ◌∷◌, refl, ap, ◌∙◌, arith}
+use Rattle.std.specs.Prelude.{◌||◌, All}
+use Rattle.std.proofs.Math.Nat.{mul-le-mul_right}
 use Rattle.std.proofs.lemmas.List.Elements.{All-cons, All-nil, All-weaker}
-use Rattle.sb_packet.specs.Cuts.{cut_parts, first_part, is_indivisible, is_one_part, other_parts, parts_in, words_in}
+use Rattle.sb_packet.specs.Cuts.{cut_parts, first_part, is_one_part, other_parts, parts_in, words_in}
 use Rattle.sb_packet.specs.Messages.{Message, message_span}
+use Rattle.sb_packet.proofs.CutWords.{more_than_fit}
 
 -- a message asks for some of the bytes of another
 pub record IsPart (whole part : Message) : Type 0 where
@@ -33,19 +32,6 @@ part_of_part x y z a b = record {
 wide : (a b : Bool) → (a || b) ≡ false → b ≡ false
 wide true b e = absurd (cc)
 wide false b e = e
-
--- so few words fill a part of a message that is wider
-fewer_words : (width : ℕ) (m : Message) → is_one_part width m ≡ false → words_in width m < m.count
-fewer_words width m e = by_order (cases_lt (words_in width m) m.count)
-  where
-    by_order : (words_in width m < m.count) ⊎ (m.count ≤ words_in width m) → words_in width m < m.count
-    by_order (inl less) = less
-    by_order (inr more) =
-        let test : nat_le (message_span m) width ≡ false = wide (is_indivisible m) (nat_le (message_span m) width) e in
-        let long : width < message_span m = grind (arith, nat_tests) in
-        let spread : m.count * 2 ^ m.size ≤ words_in width m * 2 ^ m.size = mul-le-mul_right (2 ^ m.size) more in
-        let fits : words_in width m * 2 ^ m.size ≤ width = div-mul-le_self width (2 ^ m.size) in
-        absurd (omega (arith, long, spread, fits))
 
 first_is_part : (width : ℕ) (m : Message) → 0 < words_in width m → words_in width m < m.count → IsPart m (first_part width m)
 first_is_part width m word less = record {
@@ -77,7 +63,7 @@ parts_are_within (suc n) width m some word = by_test (is_one_part width m) refl 
     by_test : (b : Bool) → is_one_part width m ≡ b → (words_in width m < m.count → All (IsPart (other_parts width m)) (parts_in n width (other_parts width m))) → All (IsPart m) (cond b (m ∷ []) (first_part width m ∷ parts_in n width (other_parts width m)))
     by_test true e later = All-cons (IsPart m) m [] (part_of_itself m some) (All-nil (IsPart m))
     by_test false e later =
-        let less = fewer_words width m e in
+        let less = more_than_fit width m e in
         All-cons (IsPart m) (first_part width m) (parts_in n width (other_parts width m)) (first_is_part width m word less)
         (All-weaker (IsPart (other_parts width m)) (IsPart m) (λ p part. part_of_part m (other_parts width m) p (others_are_part width m less) part) (parts_in n width (other_parts width m)) (later less))
 

@@ -6,6 +6,7 @@ use Rattle.std.specs.Option.{option_map_or}
 use Rattle.std.proofs.lemmas.Bool.Decides.{nat_tests}
 use Rattle.std.proofs.lemmas.List.Elements.{All-filter, All-head, All-map, All-nil, All-tail, filter_passes}
 use Rattle.std.proofs.lemmas.Option.{get_or_from_slice_get}
+use Rattle.std.proofs.lemmas.Bool.{and_from}
 use Rattle.sb_packet.specs.Accesses.{Access, access_at}
 use Rattle.sb_packet.specs.Journals.{is_at, is_request}
 use Rattle.sb_packet.specs.Networks.{NetHost, Network, device_at}
@@ -14,10 +15,11 @@ use Rattle.sb_packet.specs.Rings.{ring_budget}
 use Rattle.sb_packet.specs.Scripts.{script_accesses, transaction_accesses, transaction_message}
 use Rattle.sb_packet.specs.Ways.{network_ways}
 use Rattle.sb_packet.proofs.Lists.{All-joined, All-kept, All-made, filter_all, filter_none}
+use Rattle.sb_link.proofs.Truths.{same_number}
 use Rattle.sb_host.specs.Asked.{asked_accesses, asked_by}
 use Rattle.sb_laws.specs.Courses.{flows_over, goes_over}
-use Rattle.sb_laws.specs.Flows.{aimed_script, asked_of, is_among_flows, is_of, is_same_flow, script_of, words_of}
-use Rattle.sb_laws.specs.NetworkLayouts.{flow_of, network_flows, network_requests, request_ring}
+use Rattle.sb_laws.specs.Flows.{aimed_script, asked_words, is_among_flows, is_of, is_same_flow, words_of_script, words_of_flow}
+use Rattle.sb_laws.specs.NetworkLayouts.{way_flow, network_flows, network_requests, request_ring}
 use Rattle.sb_laws.specs.Routed.{IsRouted}
 use Rattle.sb_laws.proofs.CarriedRings.{request_budget}
 use Rattle.sb_laws.proofs.Counts.{flows_cover, is_of_some}
@@ -29,15 +31,9 @@ use Rattle.sb_laws.proofs.ScriptFacts.{found_by_id, script_asks}
 use Rattle.sb_laws.proofs.Sums.{sum_by_le}
 use Rattle.sb_laws.proofs.WaysOfRouted.{ways_of_routed}
 
-both : (a b : Bool) → a ≡ true → b ≡ true → (a && b) ≡ true
-both a b e f = rw (e, f) refl
-
 or_right : (a b : Bool) → b ≡ true → (a || b) ≡ true
 or_right true b e = refl
 or_right false b e = e
-
-same_number : (n : ℕ) → (n == n) ≡ true
-same_number n = grind (arith, nat_tests)
 
 -- a word of a flow that is among others which pass a test is of one that passes
 some_passing : (network : Network) (q : NetFlow → Bool) (f : NetFlow) (a : Access) (fs : List NetFlow) → is_of network f a ≡ true → All (λ g. g.host ≡ f.host → q g ≡ true) fs → is_among_flows f fs ≡ true → is_of_some network (filter q fs) a ≡ true
@@ -74,7 +70,7 @@ module _ (network : Network) (routed : IsRouted network) (place : ℕ) (host : N
   abbrev carried : List NetFlow
   carried = flows_over (network_requests network) ring
 
-  own_script : script_of network host.id ≡ script_accesses host
+  own_script : words_of_script network host.id ≡ script_accesses host
   own_script = ap (λ (o : Option NetHost). option_map_or script_accesses o []) (at_listed (λ h. find (λ x. x.id == h.id) network.hosts ≡ Some h) network.hosts host (found_by_id network.hosts routed.scripts.ids) (place, inside network routed place host at, get_or_from_slice_get network.hosts place host host at))
 
   -- all words of a script are of its host
@@ -84,9 +80,9 @@ module _ (network : Network) (routed : IsRouted network) (place : ℕ) (host : N
 
   -- each flow of the host goes over its ring
   goes_by_ring : All (λ f. f.host ≡ host.id → goes_over (network_requests network) ring f ≡ true) (network_flows network)
-  goes_by_ring = All-map (λ f. f.host ≡ host.id → goes_over (network_requests network) ring f ≡ true) flow_of (network_ways network)
+  goes_by_ring = All-map (λ f. f.host ≡ host.id → goes_over (network_requests network) ring f ≡ true) way_flow (network_ways network)
       (λ k d below mine.
-      let f = flow_of (get_or (network_ways network) k d) in
+      let f = way_flow (get_or (network_ways network) k d) in
       ap (λ (r : ℕ). (r == ring) || list_any (λ j. j == ring) ((network_requests network).rest f)) (way_first network routed place host at k d below mine)
       ∙ ap (λ (b : Bool). b || list_any (λ j. j == ring) ((network_requests network).rest f)) (same_number ring))
 
@@ -111,7 +107,7 @@ module _ (network : Network) (routed : IsRouted network) (place : ℕ) (host : N
           asks = subst (All (λ x. is_request x.op ≡ true)) own_script (script_asks network routed.scripts host.id) i d below
 
           of_f : is_of network f a ≡ true
-          of_f = both (a.host == host.id) (is_at network k a) (ap (λ (n : ℕ). n == host.id) (own_words i d below) ∙ same_number host.id)
+          of_f = and_from (a.host == host.id) (is_at network k a) (ap (λ (n : ℕ). n == host.id) (own_words i d below) ∙ same_number host.id)
               (ap (λ (b : Bool). option_map_or (λ n. n == k) (device_at network (cond b a.dst a.src)) false) asks ∙ ap (λ (o : Option ℕ). option_map_or (λ n. n == k) o false) e ∙ same_number k)
 
           among : (b : Bool) → is_among_flows f (network_flows network) ≡ b → is_among_flows f (network_flows network) ≡ true
@@ -127,15 +123,15 @@ module _ (network : Network) (routed : IsRouted network) (place : ℕ) (host : N
   aimed_carried i d below = All-filter (is_aimed network) (λ a. is_aimed network a ≡ true → is_of_some network carried a ≡ true) (script_accesses host) word_carried i d below (filter_passes (is_aimed network) (script_accesses host) i d below)
 
   -- of each flow no more than the flow may bring
-  flow_within : (f : NetFlow) → length (words_of network f (filter (is_aimed network) (script_accesses host))) ≤ length (asked_of network f)
+  flow_within : (f : NetFlow) → length (words_of_flow network f (filter (is_aimed network) (script_accesses host))) ≤ length (asked_words network f)
   flow_within f = by_test (host.id == f.host) refl
     where
-      by_test : (b : Bool) → (host.id == f.host) ≡ b → length (words_of network f (filter (is_aimed network) (script_accesses host))) ≤ length (asked_of network f)
+      by_test : (b : Bool) → (host.id == f.host) ≡ b → length (words_of_flow network f (filter (is_aimed network) (script_accesses host))) ≤ length (asked_words network f)
       by_test true t =
           let mine : host.id ≡ f.host = grind (arith, nat_tests) in
-          subst (λ (l : List Access). length (words_of network f (filter (is_aimed network) (script_accesses host))) ≤ length (words_of network f l)) (sym own_script ∙ ap (script_of network) mine) (fewer_pass (is_of network f) (is_aimed network) (script_accesses host))
+          subst (λ (l : List Access). length (words_of_flow network f (filter (is_aimed network) (script_accesses host))) ≤ length (words_of_flow network f l)) (sym own_script ∙ ap (words_of_script network) mine) (fewer_pass (is_of network f) (is_aimed network) (script_accesses host))
       by_test false t =
-          let none : words_of network f (filter (is_aimed network) (script_accesses host)) ≡ [] = filter_none (is_of network f) (filter (is_aimed network) (script_accesses host))
+          let none : words_of_flow network f (filter (is_aimed network) (script_accesses host)) ≡ [] = filter_none (is_of network f) (filter (is_aimed network) (script_accesses host))
           (All-filter (is_aimed network) (λ a. is_of network f a ≡ false) (script_accesses host) (λ i d below. ap (λ (b : Bool). b && is_at network f.device (get_or (script_accesses host) i d)) (ap (λ (n : ℕ). n == f.host) (own_words i d below) ∙ t))) in
           rw none (omega arith)
 
@@ -146,6 +142,6 @@ module _ (network : Network) (routed : IsRouted network) (place : ℕ) (host : N
       let asked = ap length (asked_script network host routed.scripts routed.pages listed ∙ aimed) in
       let all = ap length (filter_all (is_of_some network carried) words aimed_carried) in
       let covered = flows_cover network carried words in
-      let within = sum_by_le (λ f. length (words_of network f words)) (λ f. length (asked_of network f)) carried (λ i d below. flow_within (get_or carried i d)) in
+      let within = sum_by_le (λ f. length (words_of_flow network f words)) (λ f. length (asked_words network f)) carried (λ i d below. flow_within (get_or carried i d)) in
       let budget = request_budget network (ways_of_routed network routed) (link network routed place host at) (first_link_there network routed place host at) in
       omega (arith, asked, all, covered, within, budget)

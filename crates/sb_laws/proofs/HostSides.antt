@@ -28,7 +28,7 @@ use Rattle.sb_laws.specs.Moments.{Moment, arrived}
 use Rattle.sb_laws.specs.RoundSides.{HasPort, HasRing, ShowsPort, ShowsRing}
 use Rattle.sb_laws.specs.Runs.{IsHost}
 use Rattle.sb_laws.specs.Stages.{Stages}
-use Rattle.sb_laws.specs.Standstills.{IsBlocked, IsIdleReceiver, IsIdleSender, RoundEnd}
+use Rattle.sb_laws.specs.Standstills.{IsReceiverBlocked, IsIdleReceiver, IsIdleSender, RoundEnd}
 use Rattle.sb_laws.proofs.AskedWays.{word_device}
 use Rattle.sb_laws.proofs.ScriptFacts.{found_by_id}
 use Rattle.sb_laws.proofs.SidePromises.{idle_port}
@@ -90,7 +90,7 @@ host_promise offer offer_all network layout m host h scripts pages of whole has 
     let begins = offer h whole in
     record {
       in_order = record { rest = begins.rest; joined = ap (λ (l : List Access). l ++ begins.rest) offered ∙ begins.joined ∙ script };
-      closed = λ shut. offered ∙ offer_all h whole (ap has_close (sym sent) ∙ shut) ∙ script;
+      closed = λ close_sent. offered ∙ offer_all h whole (ap has_close (sym sent) ∙ close_sent) ∙ script;
     }
 
 pub idle_host_sends : (stages : Stages) (s : RoundEnd) (r : ℕ) (port : PortSide) (ring : RingSide) → ShowsPort s r port → stages.leaves_host r ≡ true → IsFit port.plan port.state → IsIdleHost port ring → IsIdleSender stages s r
@@ -107,7 +107,7 @@ idle_host_receives stages s r port ring got holds none idle = record {
   drained = λ unended. by_cause (All-head (λ x. has_ended x ≡ false → (is_drained x ≡ true) ⊎ ⊥) ring [] idle.at_rest.open_rings_are_drained (ap has_close (sym got.lists.received) ∙ unended));
 }
   where
-    by_cause : (is_drained ring ≡ true) ⊎ ⊥ → (s.empty r ≡ true) ⊎ (((p : ℕ) × (s.holds r ≡ Some p)) ⊎ IsBlocked stages s r)
+    by_cause : (is_drained ring ≡ true) ⊎ ⊥ → (s.empty r ≡ true) ⊎ (((p : ℕ) × (s.holds r ≡ Some p)) ⊎ IsReceiverBlocked stages s r)
     by_cause (inl empty) = inl (got.empty ∙ empty)
     by_cause (inr never) = absurd never
 
@@ -121,7 +121,7 @@ pub unmoved_receives : (stages : Stages) (s : RoundEnd) (before after : HostSide
 unmoved_receives stages s before after round answer whole turn still got holds none = idle_host_receives stages s after.answers.plan.ring after.requests after.answers got holds none (turn.idle still)
 
 -- a whole host that told its port to close has come to the end of its script
-pub told_at_end : (h : HostSide) → IsWholeHost h → h.requests.state.closing ≡ true → h.transactions.next ≡ length h.transactions.asked.lines
+pub told_at_end : (h : HostSide) → IsWholeHost h → h.requests.state.close_requested ≡ true → h.transactions.next ≡ length h.transactions.asked.lines
 told_at_end h whole told = whole.in_order.closes told
 
 -- its table has the answers to its words among those that came by its ring

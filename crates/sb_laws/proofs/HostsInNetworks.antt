@@ -14,7 +14,7 @@ use Rattle.sb_laws.specs.Courses.{last_of}
 use Rattle.sb_laws.specs.HostSides.{IsHostAt, IsHostBuiltFor, IsHostOf}
 use Rattle.sb_laws.specs.Layouts.{ring_home}
 use Rattle.sb_laws.specs.Moments.{Moment}
-use Rattle.sb_laws.specs.NetworkLayouts.{answer_ring, first_ring, flow_of, network_flows, network_layout, request_ring, ring_count}
+use Rattle.sb_laws.specs.NetworkLayouts.{answer_ring, first_ring, way_flow, network_flows, network_layout, request_ring, ring_count}
 use Rattle.sb_laws.specs.Routed.{IsRouted}
 use Rattle.sb_laws.specs.Runs.{IsHost}
 use Rattle.sb_laws.proofs.HostSides.{HostsOffer, HostsOfferAll, host_promise}
@@ -67,21 +67,21 @@ module _ (network : Network) (routed : IsRouted network) where
     first_link_there = let there = (routed.first place inside).1.there in omega (arith, there)
 
     -- each way of the host begins with it
-    begins : (way : NetWay) → HostWay network way → flow_links network (flow_of way) ≡ way.links → way.host.id ≡ host.id →
-        flow_links network (flow_of way) ≡ link ∷ links_from (length network.routers) network way.device (next_link network way.device link)
+    begins : (way : NetWay) → HostWay network way → flow_links network (way_flow way) ≡ way.links → way.host.id ≡ host.id →
+        flow_links network (way_flow way) ≡ link ∷ links_from (length network.routers) network way.device (next_link network way.device link)
     begins way w found mine =
         found ∙ w.links ∙ ap (λ (p : ℕ). way_links network p way.device) (one_place w.place place way.host host w.at at mine)
         ∙ ap (links_from (suc (length network.routers)) network way.device) first
 
-    pub way_first : All (λ way. way.host.id ≡ host.id → (network_layout network).requests.first (flow_of way) ≡ request_ring link) (network_ways network)
+    pub way_first : All (λ way. way.host.id ≡ host.id → (network_layout network).requests.first (way_flow way) ≡ request_ring link) (network_ways network)
     way_first k d below mine =
         let way = get_or (network_ways network) k d in
-        ap first_ring (ring_by_ring network (flow_of way)) ∙ ap (λ (l : List ℕ). first_ring (map request_ring l)) (begins way (all_host_ways network k d below) (found_ways network routed.scripts.ids k d below) mine)
+        ap first_ring (ring_by_ring network (way_flow way)) ∙ ap (λ (l : List ℕ). first_ring (map request_ring l)) (begins way (all_host_ways network k d below) (found_ways network routed.scripts.ids k d below) mine)
 
-    way_home : All (λ way. way.host.id ≡ host.id → ring_home (network_layout network) (flow_of way) ≡ answer_ring link) (network_ways network)
+    way_home : All (λ way. way.host.id ≡ host.id → ring_home (network_layout network) (way_flow way) ≡ answer_ring link) (network_ways network)
     way_home k d below mine =
         let way = get_or (network_ways network) k d in
-        ap last_of_rings (ring_by_ring_back network (flow_of way))
+        ap last_of_rings (ring_by_ring_back network (way_flow way))
         ∙ ap (λ (l : List ℕ). last_of_rings (map answer_ring (reverse l))) (begins way (all_host_ways network k d below) (found_ways network routed.scripts.ids k d below) mine)
         ∙ home_ring link (links_from (length network.routers) network way.device (next_link network way.device link))
 
@@ -89,18 +89,18 @@ module _ (network : Network) (routed : IsRouted network) where
     belongs h built = record {
       listed = (place, inside, get_or_from_slice_get network.hosts place host host at);
       asked = built.asked host at;
-      asks = All-map (λ f. f.host ≡ host.id → (network_layout network).requests.first f ≡ h.requests.plan.ring) flow_of (network_ways network) (λ k d below mine. way_first k d below mine ∙ sym (built.asks_by link first));
-      answered = All-map (λ f. f.host ≡ host.id → ring_home (network_layout network) f ≡ h.answers.plan.ring) flow_of (network_ways network) (λ k d below mine. way_home k d below mine ∙ sym (built.answered_by link first));
+      asks = All-map (λ f. f.host ≡ host.id → (network_layout network).requests.first f ≡ h.requests.plan.ring) way_flow (network_ways network) (λ k d below mine. way_first k d below mine ∙ sym (built.asks_by link first));
+      answered = All-map (λ f. f.host ≡ host.id → ring_home (network_layout network) f ≡ h.answers.plan.ring) way_flow (network_ways network) (λ k d below mine. way_home k d below mine ∙ sym (built.answered_by link first));
     }
 
   -- where each host stands so, each flow's host keeps its promise
   pub all_promises : HostsOffer → HostsOfferAll → (m : Moment) (hosts : ℕ → HostSide) → ((n : ℕ) → n < length network.hosts → IsHostAt network m n (hosts n)) → All (IsHost network (network_layout network) m) (network_flows network)
-  all_promises offer offer_all m hosts stand = All-map (IsHost network (network_layout network) m) flow_of (network_ways network)
+  all_promises offer offer_all m hosts stand = All-map (IsHost network (network_layout network) m) way_flow (network_ways network)
       (λ k d below.
       let way = get_or (network_ways network) k d in
       let w = all_host_ways network k d below in
       let n = w.place in
       let s = stand n w.inside in
       let of_all = host_promise offer offer_all network (network_layout network) m way.host (hosts n) routed.scripts routed.pages (belongs n way.host w.at (hosts n) s.built) s.whole s.has in
-      let at = of_all k (flow_of d) (omega (arith, below, length-map (network_ways network) flow_of)) in
-      subst (λ (f : NetFlow). f.host ≡ way.host.id → IsHost network (network_layout network) m f) (get_or-map flow_of (network_ways network) k d (flow_of d) below) at refl)
+      let at = of_all k (way_flow d) (omega (arith, below, length-map (network_ways network) way_flow)) in
+      subst (λ (f : NetFlow). f.host ≡ way.host.id → IsHost network (network_layout network) m f) (get_or-map way_flow (network_ways network) k d (way_flow d) below) at refl)

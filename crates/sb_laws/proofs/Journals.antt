@@ -13,10 +13,10 @@ use Rattle.sb_packet.specs.Plans.{NetFlow}
 use Rattle.sb_packet.specs.declared.entry.Entry.{Entry}
 use Rattle.sb_packet.proofs.Lists.{filter_none, All-kept, AllPairs-kept}
 use Rattle.sb_packet.specs.Prefixes.{IsPrefix}
-use Rattle.sb_laws.specs.Flows.{is_of, words_of, is_among_flows, script_of, aimed_script, asked_of}
+use Rattle.sb_laws.specs.Flows.{is_of, words_of_flow, is_among_flows, words_of_script, aimed_script, asked_words}
 use Rattle.sb_laws.specs.Moments.{Moment, arrived}
-use Rattle.sb_laws.specs.Courses.{way_of, goes_over, flows_over, is_carried}
-use Rattle.sb_laws.specs.Promises.{Offers, KeepsPromises}
+use Rattle.sb_laws.specs.Courses.{way_rings, goes_over, flows_over, is_of_ring}
+use Rattle.sb_laws.specs.Promises.{IsFlowSource, KeepsPromises}
 use Rattle.sb_laws.specs.Layouts.{Layout, IsLayout}
 use Rattle.sb_laws.specs.Runs.{IsHost, IsMomentOf}
 use Rattle.sb_laws.specs.Wholes.{IsHistorySoFar}
@@ -60,7 +60,7 @@ module _ (network : Network) where
       by_place (Some k) e = refl
 
   -- a word is of no flow to a device that there isn't
-  pub no_device : (f : NetFlow) (list : List Access) → length network.devices ≤ f.device → words_of network f list ≡ []
+  pub no_device : (f : NetFlow) (list : List Access) → length network.devices ≤ f.device → words_of_flow network f list ≡ []
   no_device f list beyond = filter_none (is_of network f) list (λ i d below. not_true (is_of network f (get_or list i d)) (λ e. by_place (device_address (get_or list i d)) (device_at network (device_address (get_or list i d))) refl (of_device network f (get_or list i d) e)))
     where
       by_place : (address : ℕ) (o : Option ℕ) → device_at network address ≡ o → option_map_or (λ k. k == f.device) o false ≡ true → ⊥
@@ -75,66 +75,66 @@ module _ (network : Network) where
     pub of_flow : is_of network flow a ≡ true
 
 module _ (network : Network) (layout : Layout) (journal : List Entry) (m : Moment) (laid : IsLayout network layout) (now : IsMomentOf network layout journal m) where
-  host_offers : (f : NetFlow) → IsHost network layout m f → Offers network layout.requests m (asked_of network) f
+  host_offers : (f : NetFlow) → IsHost network layout m f → IsFlowSource network layout.requests m (asked_words network) f
   host_offers f h =
-      let aimed : words_of network f (aimed_script network f.host) ≡ asked_of network f =
-      filter_within (is_of network f) (λ a. option_map_or (λ d. true) (device_at network a.dst) false) (script_of network f.host)
-      (All-weaker (λ a. is_request a.op ≡ true) (λ a. is_of network f a ≡ true → option_map_or (λ d. true) (device_at network a.dst) false ≡ true) (λ a asks e. asked_is_aimed network f a asks e) (script_of network f.host) (script_asks network laid.scripts f.host)) in
+      let aimed : words_of_flow network f (aimed_script network f.host) ≡ asked_words network f =
+      filter_within (is_of network f) (λ a. option_map_or (λ d. true) (device_at network a.dst) false) (words_of_script network f.host)
+      (All-weaker (λ a. is_request a.op ≡ true) (λ a. is_of network f a ≡ true → option_map_or (λ d. true) (device_at network a.dst) false ≡ true) (λ a asks e. asked_is_aimed network f a asks e) (words_of_script network f.host) (script_asks network laid.scripts f.host)) in
       let first = layout.requests.first f in
       record {
-        in_order = subst (IsPrefix (words_of network f (m.offered first))) aimed (IsPrefix-filter (is_of network f) h.in_order);
-        closed = λ shut. ap (words_of network f) (h.closed shut) ∙ aimed;
+        in_order = subst (IsPrefix (words_of_flow network f (m.offered first))) aimed (IsPrefix-filter (is_of network f) h.in_order);
+        closed = λ close_sent. ap (words_of_flow network f) (h.closed close_sent) ∙ aimed;
       }
 
-  pub request_course : KeepsPromises network layout.requests m (asked_of network)
+  pub request_course : KeepsPromises network layout.requests m (asked_words network)
   request_course = record {
     links = now.links;
     ports = now.ports;
     one_way = laid.one_way;
     carried = now.carried;
     allowed = laid.asked;
-    sources = All-weaker (IsHost network layout m) (Offers network layout.requests m (asked_of network)) host_offers layout.requests.flows now.hosts;
+    sources = All-weaker (IsHost network layout m) (IsFlowSource network layout.requests m (asked_words network)) host_offers layout.requests.flows now.hosts;
     routers = now.routers;
   }
 
   -- what is no flow has no words at its device
-  no_words : (f : NetFlow) → is_among_flows f layout.requests.flows ≡ false → words_of network f (journal_accesses journal f.device) ≡ []
+  no_words : (f : NetFlow) → is_among_flows f layout.requests.flows ≡ false → words_of_flow network f (journal_accesses journal f.device) ≡ []
   no_words f none = by_device (cases_lt f.device (length network.devices))
     where
-      by_device : (f.device < length network.devices) ⊎ (length network.devices ≤ f.device) → words_of network f (journal_accesses journal f.device) ≡ []
+      by_device : (f.device < length network.devices) ⊎ (length network.devices ≤ f.device) → words_of_flow network f (journal_accesses journal f.device) ≡ []
       by_device (inl inside) =
           let ring = layout.into f.device in
-          ap (words_of network f) (now.recorded f.device inside)
+          ap (words_of_flow network f) (now.recorded f.device inside)
           ∙ none_of_others network layout.requests m ring f (now.carried ring (laid.into_has f.device inside))
           (not_true (is_among_flows f (flows_over layout.requests ring)) (λ e. let some = among_all (goes_over layout.requests ring) f layout.requests.flows e in cc))
       by_device (inr beyond) = no_device network f (journal_accesses journal f.device) beyond
 
   -- a fact of what came by the ring into its device is one of the journal
-  pub at_device : (P : NetFlow → List Access → Type 0) → All (λ f. All (λ r. P f (words_of network f (arrived m r))) (way_of layout.requests f)) layout.requests.flows →
-      All (λ f. P f (words_of network f (journal_accesses journal f.device))) layout.requests.flows
+  pub at_device : (P : NetFlow → List Access → Type 0) → All (λ f. All (λ r. P f (words_of_flow network f (arrived m r))) (way_rings layout.requests f)) layout.requests.flows →
+      All (λ f. P f (words_of_flow network f (journal_accesses journal f.device))) layout.requests.flows
   at_device P along i d below =
       let f = get_or layout.requests.flows i d in
-      subst (λ (list : List Access). P f (words_of network f list)) (sym (now.recorded f.device (laid.devices i d below)))
-      (at_number (λ r. P f (words_of network f (arrived m r))) (layout.into f.device) (way_of layout.requests f) (along i d below) (laid.leads i d below))
+      subst (λ (list : List Access). P f (words_of_flow network f list)) (sym (now.recorded f.device (laid.devices i d below)))
+      (at_number (λ r. P f (words_of_flow network f (arrived m r))) (layout.into f.device) (way_rings layout.requests f) (along i d below) (laid.leads i d below))
 
   -- the journal's part of each flow, where the flows have it, and where there is no such flow
-  pub each_flow : (P : NetFlow → List Access → Type 0) → ((f : NetFlow) → asked_of network f ≡ [] → P f []) → All (λ f. P f (words_of network f (journal_accesses journal f.device))) layout.requests.flows →
-      (f : NetFlow) → P f (words_of network f (journal_accesses journal f.device))
+  pub each_flow : (P : NetFlow → List Access → Type 0) → ((f : NetFlow) → asked_words network f ≡ [] → P f []) → All (λ f. P f (words_of_flow network f (journal_accesses journal f.device))) layout.requests.flows →
+      (f : NetFlow) → P f (words_of_flow network f (journal_accesses journal f.device))
   each_flow P none all f = by_test (is_among_flows f layout.requests.flows) refl
     where
-      by_test : (b : Bool) → is_among_flows f layout.requests.flows ≡ b → P f (words_of network f (journal_accesses journal f.device))
-      by_test true t = at_flow (λ g. P g (words_of network g (journal_accesses journal g.device))) f layout.requests.flows all t
+      by_test : (b : Bool) → is_among_flows f layout.requests.flows ≡ b → P f (words_of_flow network f (journal_accesses journal f.device))
+      by_test true t = at_flow (λ g. P g (words_of_flow network g (journal_accesses journal g.device))) f layout.requests.flows all t
       by_test false t = rw (no_words f t) (none f (laid.all_flows f t))
 
-  pub history : (f : NetFlow) → IsPrefix (words_of network f (journal_accesses journal f.device)) (asked_of network f)
-  history = each_flow (λ f list. IsPrefix list (asked_of network f)) (λ f none. same_prefix (sym none))
-      (at_device (λ f list. IsPrefix list (asked_of network f)) (prefix_law network layout.requests m (asked_of network) request_course))
+  pub history : (f : NetFlow) → IsPrefix (words_of_flow network f (journal_accesses journal f.device)) (asked_words network f)
+  history = each_flow (λ f list. IsPrefix list (asked_words network f)) (λ f none. same_prefix (sym none))
+      (at_device (λ f list. IsPrefix list (asked_words network f)) (prefix_law network layout.requests m (asked_words network) request_course))
 
   pub history_law : IsHistorySoFar network journal
   history_law k h below d =
       let host = get_or network.hosts k h in
       let f : NetFlow = record { host = host.id; device = d } in
-      subst (IsPrefix (words_of network f (journal_accesses journal d))) (sym (own_script network laid.scripts k h below d)) (history f)
+      subst (IsPrefix (words_of_flow network f (journal_accesses journal d))) (sym (own_script network laid.scripts k h below d)) (history f)
 
   -- each word of the journal is of a flow to its device
   pub origin : (d : ℕ) → d < length network.devices → All (Origin network d) (journal_accesses journal d)
@@ -142,8 +142,8 @@ module _ (network : Network) (layout : Layout) (journal : List Entry) (m : Momen
       let ring = layout.into d in
       let fs = flows_over layout.requests ring in
       let hosts = All-filter (goes_over layout.requests ring) (λ f. Contains (map (λ h. h.id) network.hosts) f.host) layout.requests.flows laid.hosts in
-      let carried = subst (All (λ a. is_carried network layout.requests ring a ≡ true)) (sym (now.recorded d inside)) (now.carried ring (laid.into_has d inside)) in
-      All-weaker (λ a. is_carried network layout.requests ring a ≡ true) (Origin network d) (λ a e.
+      let carried = subst (All (λ a. is_of_ring network layout.requests ring a ≡ true)) (sym (now.recorded d inside)) (now.carried ring (laid.into_has d inside)) in
+      All-weaker (λ a. is_of_ring network layout.requests ring a ≡ true) (Origin network d) (λ a e.
       let some = some_flow network a fs e in
       record {
         flow = some.0;
@@ -155,7 +155,7 @@ module _ (network : Network) (layout : Layout) (journal : List Entry) (m : Momen
   -- the reply address of a word of the journal tells the host that asked
   told : (d i : ℕ) (x : Access) → i < length (journal_accesses journal d) → (o : Origin network d (get_or (journal_accesses journal d) i x)) → (get_or (journal_accesses journal d) i x).src / 2 ^ 40 ≡ o.flow.host
   told d i x inside o =
-      let part = subst (λ (e : ℕ). All (λ a. a.src / 2 ^ 40 ≡ o.flow.host) (words_of network o.flow (journal_accesses journal e))) o.device
+      let part = subst (λ (e : ℕ). All (λ a. a.src / 2 ^ 40 ≡ o.flow.host) (words_of_flow network o.flow (journal_accesses journal e))) o.device
       (All-prefix (λ (a : Access). a.src / 2 ^ 40 ≡ o.flow.host) (history o.flow) (asked_told network laid.scripts o.flow)) in
       All-kept (is_of network o.flow) (λ a. a.src / 2 ^ 40 ≡ o.flow.host) (journal_accesses journal d) part i x inside o.of_flow
 
@@ -167,6 +167,6 @@ module _ (network : Network) (layout : Layout) (journal : List Entry) (m : Momen
       let b = origin d there j x inside in
       let host : a.flow.host ≡ b.flow.host = sym (told d i x (omega arith) a) ∙ ap (λ n. n / 2 ^ 40) same ∙ told d j x inside b in
       let one : b.flow ≡ a.flow = same_flow a.flow b.flow (same_flow_from a.flow b.flow host (let devices : a.flow.device ≡ b.flow.device = a.device ∙ sym b.device in grind (arith, nat_tests))) in
-      let rises = subst (λ (e : ℕ). AllPairs (λ x y. x.src < y.src) (words_of network a.flow (journal_accesses journal e))) a.device (AllPairs-prefix (λ (x y : Access). x.src < y.src) (history a.flow) (asked_rises network laid.scripts a.flow)) in
+      let rises = subst (λ (e : ℕ). AllPairs (λ x y. x.src < y.src) (words_of_flow network a.flow (journal_accesses journal e))) a.device (AllPairs-prefix (λ (x y : Access). x.src < y.src) (history a.flow) (asked_rises network laid.scripts a.flow)) in
       let apart = AllPairs-kept (λ x y. x.src < y.src) (is_of network a.flow) words rises i j x below inside a.of_flow (subst (λ (g : NetFlow). is_of network g (get_or words j x) ≡ true) one b.of_flow) in
       absurd (omega arith)

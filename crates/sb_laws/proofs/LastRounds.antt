@@ -5,7 +5,7 @@ use Rattle.std.proofs.lemmas.List.Elements.{All-weaker}
 use Rattle.sb_packet.specs.Networks.{Network}
 use Rattle.sb_packet.specs.Traffic.{has_close}
 use Rattle.sb_packet.specs.declared.entry.Entry.{Entry}
-use Rattle.sb_laws.specs.Courses.{way_of}
+use Rattle.sb_laws.specs.Courses.{way_rings}
 use Rattle.sb_laws.specs.Layouts.{Layout, IsLayout}
 use Rattle.sb_laws.specs.Wholes.{HasAllEnded, IsWholeRun}
 use Rattle.sb_laws.specs.Stages.{Stages}
@@ -27,8 +27,8 @@ module _ (network : Network) (layout : Layout) (journal : List Entry) (stages : 
 
   pub all_ended : HasAllEnded layout s.at
   all_ended = record {
-    there = λ i d below. All-weaker (λ r. r < stages.rings) (λ r. has_close (s.at.received r) ≡ true) ended (way_of layout.requests (get_or layout.requests.flows i d)) (whole.within i d below).there;
-    back = λ i d below. All-weaker (λ r. r < stages.rings) (λ r. has_close (s.at.received r) ≡ true) ended (way_of layout.answers (get_or layout.requests.flows i d)) (whole.within i d below).back;
+    there = λ i d below. All-weaker (λ r. r < stages.rings) (λ r. has_close (s.at.received r) ≡ true) ended (way_rings layout.requests (get_or layout.requests.flows i d)) (whole.within i d below).there;
+    back = λ i d below. All-weaker (λ r. r < stages.rings) (λ r. has_close (s.at.received r) ≡ true) ended (way_rings layout.answers (get_or layout.requests.flows i d)) (whole.within i d below).back;
   }
 
   pub standstill_run : IsWholeRun network layout journal s.at

@@ -5,6 +5,7 @@ use Rattle.std.specs.List.{list_any, position_from}
 use Rattle.std.proofs.Math.Pow.{pow_pos}
 use Rattle.std.proofs.lemmas.Bool.Decides.{nat_tests}
 use Rattle.std.proofs.lemmas.List.{length-take}
+use Rattle.std.proofs.lemmas.Bool.{and_parts}
 use Rattle.sb_packet.specs.Accesses.{Access, access_at, message_accesses}
 use Rattle.sb_packet.specs.Messages.{Message, message_span}
 use Rattle.sb_packet.specs.Soundness.{device_place}
@@ -15,11 +16,11 @@ use Rattle.sb_packet.specs.Ways.{NetWay}
 use Rattle.sb_packet.specs.Rings.{network_ranges, ring_flows, ring_ways}
 use Rattle.sb_packet.proofs.Lists.{All-made}
 use Rattle.sb_packet.proofs.ReplyAddresses.{word_within}
+use Rattle.sb_flow.proofs.LinkMarks.{list_any-map}
 use Rattle.sb_laws.specs.Flows.{is_of, is_among_flows, is_same_flow}
-use Rattle.sb_laws.specs.NetworkLayouts.{flow_of}
+use Rattle.sb_laws.specs.NetworkLayouts.{way_flow}
 use Rattle.sb_laws.specs.Routed.{IsRouted}
-use Rattle.sb_laws.proofs.CarriedRings.{list_any-map}
-use Rattle.sb_laws.proofs.FlowMembers.{and_parts, same_flow}
+use Rattle.sb_laws.proofs.FlowMembers.{same_flow}
 use Rattle.sb_laws.proofs.LinksToDevices.{found_place}
 use Rattle.sb_laws.proofs.ListPlaces.{or_left, or_right}
 use Rattle.sb_laws.proofs.PlannedWords.{any_weaker, in_table, span_device, at_one_device}
@@ -80,11 +81,11 @@ module _ (network : Network) (routed : IsRouted network) where
       by_home false e = absurd (cc)
 
 -- a flow that goes over a ring by its plan is that of one of the ring's ways
-pub flow_through : (network : Network) (ring : ℕ) (ws : List NetWay) (fs : List NetFlow) (f : NetFlow) → ring_ways network ring ≡ ws → fs ≡ map flow_of ws → goes_through (ring_flows network ring) f ≡ true → is_among_flows f fs ≡ true
+pub flow_through : (network : Network) (ring : ℕ) (ws : List NetWay) (fs : List NetFlow) (f : NetFlow) → ring_ways network ring ≡ ws → fs ≡ map way_flow ws → goes_through (ring_flows network ring) f ≡ true → is_among_flows f fs ≡ true
 flow_through network ring ws fs f same flows through =
     let there = in_table (ring_ways network ring) f through in
-    ap (is_among_flows f) flows ∙ list_any-map (is_same_flow f) flow_of ws
-    ∙ any_weaker (λ way. (way.host.id == f.host) && (way.device == f.device)) (λ way. is_same_flow f (flow_of way))
+    ap (is_among_flows f) flows ∙ list_any-map (is_same_flow f) way_flow ws
+    ∙ any_weaker (λ way. (way.host.id == f.host) && (way.device == f.device)) (λ way. is_same_flow f (way_flow way))
     (λ way e. let parts = and_parts (way.host.id == f.host) (way.device == f.device) e in
     let host_test = parts.0 in
     let device_test = parts.1 in

@@ -10,9 +10,10 @@ use Rattle.sb_packet.specs.Networks.{NetHost, Network}
 use Rattle.sb_packet.specs.Plans.{NetFlow}
 use Rattle.sb_packet.specs.Ways.{network_ways, flow_links, is_some_number, router_before, router_after}
 use Rattle.sb_packet.specs.Rings.{is_upward}
-use Rattle.sb_laws.specs.Courses.{way_of, goes_over, flows_over, IsOneWay, last_of}
+use Rattle.sb_flow.proofs.WayCourses.{some_number-is}
+use Rattle.sb_laws.specs.Courses.{way_rings, goes_over, flows_over, IsOneWay, last_of}
 use Rattle.sb_laws.specs.Layouts.{IsLayout, ring_home}
-use Rattle.sb_laws.specs.NetworkLayouts.{flow_of, network_flows, request_ring, answer_ring, first_ring, links_into, links_out_of, network_requests, network_answers, link_into, network_layout}
+use Rattle.sb_laws.specs.NetworkLayouts.{way_flow, network_flows, request_ring, answer_ring, first_ring, links_into, links_out_of, network_requests, network_answers, link_into, network_layout}
 use Rattle.sb_laws.specs.NetworkWays.{IsWayTo, HasWays}
 use Rattle.sb_laws.proofs.Ways.{at_last}
 use Rattle.sb_laws.proofs.LinksOfWays.{is_in, links_there, last_leads, only_to_device, one_into, one_out_of}
@@ -26,10 +27,6 @@ pub record FlowWay (network : Network) (f : NetFlow) : Type 0 where
   pub links : flow_links network f ≡ head ∷ tail
   pub way : IsWayTo network f.device (head ∷ tail)
   pub start : router_before network head ≡ None
-
-pub named : (r : ℕ) (o : Option ℕ) → is_some_number r o ≡ true → o ≡ Some r
-named r None e = absurd (cc)
-named r (Some k) e = let same : k ≡ r = grind (arith, nat_tests) in ap Some same
 
 -- tests that agree at each element keep the same
 filter_same : (p q : NetFlow → Bool) (fs : List NetFlow) → All (λ f. p f ≡ q f) fs → filter p fs ≡ filter q fs
@@ -46,13 +43,13 @@ module _ (network : Network) where
   flow_way f (k ∷ js) is way start = record { head = k; tail = js; links = is; way = way; start = start }
 
   -- by the rings of requests a flow takes its links, and by the rings of answers the same
-  pub requests_way : (f : NetFlow) (w : FlowWay network f) → way_of (network_requests network) f ≡ map request_ring (w.head ∷ w.tail)
+  pub requests_way : (f : NetFlow) (w : FlowWay network f) → way_rings (network_requests network) f ≡ map request_ring (w.head ∷ w.tail)
   requests_way f w = ap (λ (l : List ℕ). first_ring l ∷ drop 1 l) (ring_by_ring network f ∙ ap (map request_ring) w.links)
 
   back_links : (f : NetFlow) (w : FlowWay network f) → reverse (flow_links network f) ≡ last_of w.head w.tail ∷ (reversed w.head w.tail).rest
   back_links f w = ap reverse w.links ∙ (reversed w.head w.tail).is
 
-  pub answers_way : (f : NetFlow) (w : FlowWay network f) → way_of (network_answers network) f ≡ map answer_ring (reverse (w.head ∷ w.tail))
+  pub answers_way : (f : NetFlow) (w : FlowWay network f) → way_rings (network_answers network) f ≡ map answer_ring (reverse (w.head ∷ w.tail))
   answers_way f w =
       ap (λ (l : List ℕ). first_ring l ∷ drop 1 l) (ring_by_ring_back network f ∙ ap (map answer_ring) (back_links f w))
       ∙ ap (map answer_ring) (sym (reversed w.head w.tail).is)
@@ -108,13 +105,13 @@ module _ (network : Network) where
   none_once goes i j d below inside = absurd (omega arith)
 
   module _ (ways : HasWays network) where
-    pub way_flows : All (λ way. FlowWay network (flow_of way)) (network_ways network)
+    pub way_flows : All (λ way. FlowWay network (way_flow way)) (network_ways network)
     way_flows k w below =
         let way = get_or (network_ways network) k w in
-        flow_way (flow_of way) way.links (ways.found k w below) (ways.ways k w below) (ways.starts k w below)
+        flow_way (way_flow way) way.links (ways.found k w below) (ways.ways k w below) (ways.starts k w below)
 
     pub flow_ways : All (FlowWay network) (network_flows network)
-    flow_ways = All-map (FlowWay network) flow_of (network_ways network) way_flows
+    flow_ways = All-map (FlowWay network) way_flow (network_ways network) way_flows
 
     one_way : (r : ℕ) → IsOneWay (network_requests network) r
     one_way r = record {
@@ -125,7 +122,7 @@ module _ (network : Network) where
       once = All-weaker (FlowWay network) (λ f. AllPairs (λ j k. goes_over (network_requests network) j f ≡ true → goes_over (network_requests network) k f ≡ false) ((network_requests network).ins r)) (λ f w.
           request_ins (λ ins. AllPairs (λ j k. goes_over (network_requests network) j f ≡ true → goes_over (network_requests network) k f ≡ false) ins) (none_once (λ j. goes_over (network_requests network) j f))
           (λ q. once_among (λ k. is_some_number q (router_after network k)) (λ j. goes_over (network_requests network) j f) request_ring (λ a b s t x y.
-          one_into network f.device q a b (w.head ∷ w.tail) w.way (sym (goes_there f w a) ∙ x) (sym (goes_there f w b) ∙ y) (named q (router_after network a) s) (named q (router_after network b) t)) 0 (length network.links)) r)
+          one_into network f.device q a b (w.head ∷ w.tail) w.way (sym (goes_there f w a) ∙ x) (sym (goes_there f w b) ∙ y) (some_number-is q (router_after network a) s) (some_number-is q (router_after network b) t)) 0 (length network.links)) r)
           (network_flows network) flow_ways;
     }
 
@@ -138,7 +135,7 @@ module _ (network : Network) where
       once = All-weaker (FlowWay network) (λ f. AllPairs (λ j k. goes_over (network_answers network) j f ≡ true → goes_over (network_answers network) k f ≡ false) ((network_answers network).ins r)) (λ f w.
           answer_ins (λ ins. AllPairs (λ j k. goes_over (network_answers network) j f ≡ true → goes_over (network_answers network) k f ≡ false) ins) (none_once (λ j. goes_over (network_answers network) j f))
           (λ q. once_among (λ k. is_some_number q (router_before network k)) (λ j. goes_over (network_answers network) j f) answer_ring (λ a b s t x y.
-          one_out_of network f.device q a b w.head w.tail w.way w.start (sym (goes_back f w a) ∙ x) (sym (goes_back f w b) ∙ y) (named q (router_before network a) s) (named q (router_before network b) t)) 0 (length network.links)) r)
+          one_out_of network f.device q a b w.head w.tail w.way w.start (sym (goes_back f w a) ∙ x) (sym (goes_back f w b) ∙ y) (some_number-is q (router_before network a) s) (some_number-is q (router_before network b) t)) 0 (length network.links)) r)
           (network_flows network) flow_ways;
     }
 
@@ -147,7 +144,7 @@ module _ (network : Network) where
     last_link f w there = ways.one_link f.device (last_of w.head w.tail) (link_into network f.device) (last_leads network f.device w.head w.tail w.way) (link_into_leads network ways f.device there).leads
 
     pub flow_devices : All (λ f. f.device < length network.devices) (network_flows network)
-    flow_devices = All-map (λ f. f.device < length network.devices) flow_of (network_ways network) ways.devices
+    flow_devices = All-map (λ f. f.device < length network.devices) way_flow (network_ways network) ways.devices
 
     into_flows : (d : ℕ) → d < length network.devices → All (λ f. f.device ≡ d) (flows_over (network_requests network) (request_ring (link_into network d)))
     into_flows d there k f below =
@@ -193,7 +190,7 @@ module _ (network : Network) where
     laid_out = record {
       scripts = ways.scripts;
       same_flows = refl;
-      hosts = All-map (λ f. Contains (map (λ h. h.id) network.hosts) f.host) flow_of (network_ways network) (λ k way below. Contains-map (λ h. h.id) network.hosts (get_or (network_ways network) k way).host (ways.hosts k way below));
+      hosts = All-map (λ f. Contains (map (λ h. h.id) network.hosts) f.host) way_flow (network_ways network) (λ k way below. Contains-map (λ h. h.id) network.hosts (get_or (network_ways network) k way).host (ways.hosts k way below));
       devices = flow_devices;
       all_flows = ways.all_ways;
       asked = λ k f below. omega arith;

@@ -7,6 +7,7 @@ use Rattle.sb_packet.specs.Networks.{Network}
 use Rattle.sb_packet.specs.Plans.{RingPlan}
 use Rattle.sb_packet.specs.Rings.{link_ways, ring_budget}
 use Rattle.sb_packet.specs.Ways.{is_some_number, router_after, router_before}
+use Rattle.sb_flow.proofs.WayCourses.{some_number-is}
 use Rattle.sb_router.specs.Forwarding.{IsLaid}
 use Rattle.sb_port.specs.Ports.{PortSide}
 use Rattle.sb_router.specs.Lanes.{}
@@ -22,7 +23,7 @@ use Rattle.sb_laws.proofs.BuiltRouters.{IsRingOf, built_is_laid}
 use Rattle.sb_laws.proofs.CarriedRings.{All-unmap, answer_budget, answer_ways, flows_back, flows_there, not_up, request_budget, request_ways, up}
 use Rattle.sb_laws.proofs.LinksOfWays.{one_into, one_out_of}
 use Rattle.sb_laws.proofs.MessageFlows.{flow_through}
-use Rattle.sb_laws.proofs.NetworkLaidOut.{FlowWay, counted, flow_ways, goes_back, goes_there, named}
+use Rattle.sb_laws.proofs.NetworkLaidOut.{FlowWay, counted, flow_ways, goes_back, goes_there}
 use Rattle.sb_laws.proofs.RingsOfWays.{once_among}
 use Rattle.sb_laws.proofs.WaysOfRouted.{ways_of_routed}
 
@@ -50,13 +51,13 @@ module _ (network : Network) (routed : IsRouted network) where
   in_links r i d below =
       let test : ℕ → Bool = λ k. is_some_number r (router_after network k) in
       let all = range_with_len 0 (length network.links) in
-      (All-filter test (λ k. k < length network.links) all (counted network) i d below, named r (router_after network (get_or (filter test all) i d)) (filter_passes test all i d below))
+      (All-filter test (λ k. k < length network.links) all (counted network) i d below, some_number-is r (router_after network (get_or (filter test all) i d)) (filter_passes test all i d below))
 
   out_links : (r : ℕ) → All (λ k. (k < length network.links) × (router_before network k ≡ Some r)) (links_out_of network (Some r))
   out_links r i d below =
       let test : ℕ → Bool = λ k. is_some_number r (router_before network k) in
       let all = range_with_len 0 (length network.links) in
-      (All-filter test (λ k. k < length network.links) all (counted network) i d below, named r (router_before network (get_or (filter test all) i d)) (filter_passes test all i d below))
+      (All-filter test (λ k. k < length network.links) all (counted network) i d below, some_number-is r (router_before network (get_or (filter test all) i d)) (filter_passes test all i d below))
 
   -- the rings of a link
   request_of : (k : ℕ) → k < length network.links → IsRingOf network (network_requests network) false (request_ring k)
@@ -84,13 +85,13 @@ module _ (network : Network) (routed : IsRouted network) where
     once_there : All (λ f. AllPairs (λ j k. goes_over (network_requests network) j f ≡ true → goes_over (network_requests network) k f ≡ false) (request_ins network r)) (network_flows network)
     once_there = All-weaker (FlowWay network) (λ f. AllPairs (λ j k. goes_over (network_requests network) j f ≡ true → goes_over (network_requests network) k f ≡ false) (request_ins network r))
         (λ f w. once_among (λ k. is_some_number r (router_after network k)) (λ j. goes_over (network_requests network) j f) request_ring (λ a b s t x y.
-        one_into network f.device r a b (w.head ∷ w.tail) w.way (sym (goes_there network f w a) ∙ x) (sym (goes_there network f w b) ∙ y) (named r (router_after network a) s) (named r (router_after network b) t)) 0 (length network.links))
+        one_into network f.device r a b (w.head ∷ w.tail) w.way (sym (goes_there network f w a) ∙ x) (sym (goes_there network f w b) ∙ y) (some_number-is r (router_after network a) s) (some_number-is r (router_after network b) t)) 0 (length network.links))
         (network_flows network) (flow_ways network ways)
 
     once_back : All (λ f. AllPairs (λ j k. goes_over (network_answers network) j f ≡ true → goes_over (network_answers network) k f ≡ false) (answer_ins network r)) (network_flows network)
     once_back = All-weaker (FlowWay network) (λ f. AllPairs (λ j k. goes_over (network_answers network) j f ≡ true → goes_over (network_answers network) k f ≡ false) (answer_ins network r))
         (λ f w. once_among (λ k. is_some_number r (router_before network k)) (λ j. goes_over (network_answers network) j f) answer_ring (λ a b s t x y.
-        one_out_of network f.device r a b w.head w.tail w.way w.start (sym (goes_back network f w a) ∙ x) (sym (goes_back network f w b) ∙ y) (named r (router_before network a) s) (named r (router_before network b) t)) 0 (length network.links))
+        one_out_of network f.device r a b w.head w.tail w.way w.start (sym (goes_back network f w a) ∙ x) (sym (goes_back network f w b) ∙ y) (some_number-is r (router_before network a) s) (some_number-is r (router_before network b) t)) 0 (length network.links))
         (network_flows network) (flow_ways network ways)
 
     request_out : (k : ℕ) → k < length network.links → router_before network k ≡ Some r → IsOutRing network (network_requests network) (request_ins network r) (request_ring k)

@@ -2,22 +2,14 @@
 use Rattle.std.proofs.Common.{◌≡◌, ◌<◌, ℕ, zero, suc, ◌+◌, Bool, true, false, cond, List, [], ◌∷◌, ◌++◌, length, refl, sym, ap, ◌∙◌, arith, subst}
 use Rattle.std.specs.Prelude.{◌||◌, All, AllPairs, Option, Some, None, get_or, slice_get, option_map}
 use Rattle.std.specs.List.{list_any, list_all, find, position_from}
-use Rattle.std.specs.Option.{option_or, option_map_or}
+use Rattle.std.specs.Option.{option_map_or}
 use Rattle.std.proofs.lemmas.Option.{slice_get-get_or}
 use Rattle.std.proofs.lemmas.List.Elements.{All-nil, All-cons, All-head, All-tail, All-weaker}
 use Rattle.std.proofs.lemmas.List.Kept.{AllPairs-cons}
+use Rattle.std.proofs.lemmas.Bool.{and_parts}
 use Rattle.sb_packet.proofs.Lists.{All-left, All-right}
 use Rattle.sb_flow.specs.Firsts.{first_told, Clash, clash_behind, first_clash}
-use Rattle.sb_laws.proofs.FlowMembers.{and_parts}
-
--- of two searches neither finds
-pub neither : {A : Type 0} (o p : Option A) → option_or o p ≡ None → (o ≡ None) × (p ≡ None)
-neither None p e = (refl, e)
-neither (Some x) p e = absurd (cc)
-
-pub not_mapped : {A B : Type 0} (f : A → B) (o : Option A) → option_map f o ≡ None → o ≡ None
-not_mapped f None e = refl
-not_mapped f (Some x) e = absurd (cc)
+use Rattle.sb_flow.proofs.Clashes.{option_or-None, option_map-None}
 
 module _ {A : Type 0} where
   pub none_passes : (test : A → Bool) (i : ℕ) (xs : List A) → position_from test i xs ≡ None → All (λ x. test x ≡ false) xs
@@ -50,7 +42,7 @@ module _ {A : Type 0} where
 
   pub nothing_told : {B : Type 0} (tell : A → Option B) (xs : List A) → first_told tell xs ≡ None → All (λ x. tell x ≡ None) xs
   nothing_told tell [] e = All-nil (λ x. tell x ≡ None)
-  nothing_told tell (x ∷ xs) e = let parts = neither (tell x) (first_told tell xs) e in All-cons (λ x. tell x ≡ None) x xs parts.0 (nothing_told tell xs parts.1)
+  nothing_told tell (x ∷ xs) e = let parts = option_or-None (tell x) (first_told tell xs) e in All-cons (λ x. tell x ≡ None) x xs parts.0 (nothing_told tell xs parts.1)
 
   -- an element that a test finds by its place
   pub at_place : (test : A → Bool) (xs : List A) (k : ℕ) → option_map_or test (slice_get xs k) false ≡ true → (x : A) × (k < length xs) × (slice_get xs k ≡ Some x) × (test x ≡ true)
@@ -86,8 +78,8 @@ module _ {A : Type 0} where
   pub no_clash_behind : (clash : A → A → Bool) (before xs : List A) → clash_behind clash before xs ≡ None → All (λ x. All (λ y. clash x y ≡ false) before) xs × AllPairs (λ y x. clash x y ≡ false) xs
   no_clash_behind clash before [] e = (All-nil (λ x. All (λ y. clash x y ≡ false) before), λ i j d below inside. absurd (omega arith))
   no_clash_behind clash before (x ∷ xs) e =
-      let parts = neither (option_map (λ earlier. record { at = length before; earlier = earlier }) (position_from (λ y. clash x y) 0 before)) (clash_behind clash (before ++ x ∷ []) xs) e in
-      let here = none_passes (λ y. clash x y) 0 before (not_mapped (λ (earlier : ℕ). (let c : Clash = record { at = length before; earlier = earlier } in c)) (position_from (λ y. clash x y) 0 before) parts.0) in
+      let parts = option_or-None (option_map (λ earlier. record { at = length before; earlier = earlier }) (position_from (λ y. clash x y) 0 before)) (clash_behind clash (before ++ x ∷ []) xs) e in
+      let here = none_passes (λ y. clash x y) 0 before (option_map-None (λ (earlier : ℕ). (let c : Clash = record { at = length before; earlier = earlier } in c)) (position_from (λ y. clash x y) 0 before) parts.0) in
       let rest = no_clash_behind clash (before ++ x ∷ []) xs parts.1 in (
         All-cons (λ z. All (λ y. clash z y ≡ false) before) x xs here (All-weaker (λ z. All (λ y. clash z y ≡ false) (before ++ x ∷ [])) (λ z. All (λ y. clash z y ≡ false) before) (λ z h. All-left (λ y. clash z y ≡ false) before (x ∷ []) h) xs rest.0),
         AllPairs-cons (λ y z. clash z y ≡ false) x xs (All-weaker (λ z. All (λ y. clash z y ≡ false) (before ++ x ∷ [])) (λ z. clash z x ≡ false) (λ z h. All-head (λ y. clash z y ≡ false) x [] (All-right (λ y. clash z y ≡ false) before (x ∷ []) h)) xs rest.0) rest.1,

@@ -4,7 +4,7 @@ use Rattle.std.specs.Prelude.{◌==◌, ◌||◌, ◌&&◌, ◌⊎◌, nat_le, n
 use Rattle.std.specs.List.{list_any, position_from, range_with_len}
 use Rattle.std.specs.Option.{option_map_or}
 use Rattle.std.proofs.Math.Pow.{pow_pos}
-use Rattle.std.proofs.lemmas.Bool.{cases_lt}
+use Rattle.std.proofs.lemmas.Bool.{cases_lt, and_parts}
 use Rattle.std.proofs.lemmas.Bool.Decides.{nat_tests}
 use Rattle.std.proofs.lemmas.List.{get_or_past, get_or-take, length-take-le}
 use Rattle.std.proofs.lemmas.Option.{slice_get-get_or}
@@ -24,9 +24,8 @@ use Rattle.sb_packet.specs.declared.item.Item.TheVariants as items
 use Rattle.sb_packet.proofs.Lists.{All-made}
 use Rattle.sb_packet.proofs.ReplyAddresses.{word_within}
 use Rattle.sb_laws.specs.Flows.{is_of}
-use Rattle.sb_laws.specs.NetworkLayouts.{flow_of}
+use Rattle.sb_laws.specs.NetworkLayouts.{way_flow}
 use Rattle.sb_laws.specs.Routed.{IsRouted}
-use Rattle.sb_laws.proofs.FlowMembers.{and_parts}
 use Rattle.sb_laws.proofs.ListPlaces.{or_left, or_right}
 use Rattle.sb_laws.proofs.LinksToDevices.{Passes, found_place, none_found}
 
@@ -146,20 +145,20 @@ module _ (network : Network) (routed : IsRouted network) where
           ap Some (same ∙ routed.apart address place.0 d place.2.passes has)
 
   -- so each word of an allowed message is of one of the ring's flows
-  allowed_words : (ring : ℕ) (m : Message) → is_allowed (ring_flows network ring) m ≡ true → All (λ a. list_any (λ way. is_of network (flow_of way) a) (ring_ways network ring) ≡ true) (message_accesses m)
-  allowed_words ring m allowed = All-made (λ a. list_any (λ way. is_of network (flow_of way) a) (ring_ways network ring) ≡ true) (access_at m) m.count (λ j below. of_word j below)
+  allowed_words : (ring : ℕ) (m : Message) → is_allowed (ring_flows network ring) m ≡ true → All (λ a. list_any (λ way. is_of network (way_flow way) a) (ring_ways network ring) ≡ true) (message_accesses m)
+  allowed_words ring m allowed = All-made (λ a. list_any (λ way. is_of network (way_flow way) a) (ring_ways network ring) ≡ true) (access_at m) m.count (λ j below. of_word j below)
     where
       flow : FlowOf (ring_flows network ring) m
       flow = flow_of_allowed (ring_flows network ring) m allowed
 
-      of_word : (j : ℕ) → j < m.count → list_any (λ way. is_of network (flow_of way) (access_at m j)) (ring_ways network ring) ≡ true
+      of_word : (j : ℕ) → j < m.count → list_any (λ way. is_of network (way_flow way) (access_at m j)) (ring_ways network ring) ≡ true
       of_word j below =
           let within = word_within m.size m.count j below in
           let some : 0 < 2 ^ m.size = pow_pos m.size in
           let has = span_device flow.device (device_place m) (message_span m) (j * 2 ^ m.size) flow.found (omega (arith, within, some)) in
           let address : device_address (access_at m j) ≡ device_place m + j * 2 ^ m.size = elim (is_request m.op) as (λ b. cond b (m.dst + j * 2 ^ m.size) (m.src + j * 2 ^ m.size) ≡ cond b m.dst m.src + j * 2 ^ m.size) [ true ↦ refl | false ↦ refl ] in
           let at : device_at network (device_address (access_at m j)) ≡ Some flow.device = ap (device_at network) address ∙ at_one_device flow.device (device_place m + j * 2 ^ m.size) has in
-          any_weaker (λ way. (way.host.id == m.host) && (way.device == flow.device)) (λ way. is_of network (flow_of way) (access_at m j))
+          any_weaker (λ way. (way.host.id == m.host) && (way.device == flow.device)) (λ way. is_of network (way_flow way) (access_at m j))
           (λ way e. let parts = and_parts (way.host.id == m.host) (way.device == flow.device) e in
           let host_test = parts.0 in
           let device_test = parts.1 in
@@ -169,12 +168,12 @@ module _ (network : Network) (routed : IsRouted network) where
           (in_table (ring_ways network ring) (record { host = m.host; device = flow.device }) flow.through)
 
   -- and so each word of items that went in turn
-  pub words_in_turn : (ring : ℕ) (before rest : List Item) → AreInTurn (ring_plan network ring) (before ++ rest) → All (λ a. list_any (λ way. is_of network (flow_of way) a) (ring_ways network ring) ≡ true) (item_accesses rest)
-  words_in_turn ring before [] turn = All-nil (λ a. list_any (λ way. is_of network (flow_of way) a) (ring_ways network ring) ≡ true)
+  pub words_in_turn : (ring : ℕ) (before rest : List Item) → AreInTurn (ring_plan network ring) (before ++ rest) → All (λ a. list_any (λ way. is_of network (way_flow way) a) (ring_ways network ring) ≡ true) (item_accesses rest)
+  words_in_turn ring before [] turn = All-nil (λ a. list_any (λ way. is_of network (way_flow way) a) (ring_ways network ring) ≡ true)
   words_in_turn ring before (item ∷ rest) turn =
-      All-append (λ a. list_any (λ way. is_of network (flow_of way) a) (ring_ways network ring) ≡ true) (accesses_of_item item) (item_accesses rest) (of_item item (turn before rest item refl))
+      All-append (λ a. list_any (λ way. is_of network (way_flow way) a) (ring_ways network ring) ≡ true) (accesses_of_item item) (item_accesses rest) (of_item item (turn before rest item refl))
       (words_in_turn ring (before ++ item ∷ []) rest (subst (AreInTurn (ring_plan network ring)) (sym (append_assoc before (item ∷ []) rest)) turn))
     where
-      of_item : (i : Item) → MayFollow (ring_plan network ring) before i → All (λ a. list_any (λ way. is_of network (flow_of way) a) (ring_ways network ring) ≡ true) (accesses_of_item i)
+      of_item : (i : Item) → MayFollow (ring_plan network ring) before i → All (λ a. list_any (λ way. is_of network (way_flow way) a) (ring_ways network ring) ≡ true) (accesses_of_item i)
       of_item (items.Packet p) may = allowed_words ring (message_of p) (may.fit p refl).planned.allowed
-      of_item items.Close may = All-nil (λ a. list_any (λ way. is_of network (flow_of way) a) (ring_ways network ring) ≡ true)
+      of_item items.Close may = All-nil (λ a. list_any (λ way. is_of network (way_flow way) a) (ring_ways network ring) ≡ true)

@@ -14,14 +14,9 @@ use Rattle.sb_packet.specs.declared.item.Item.TheVariants as items
 use Rattle.sb_packet.proofs.Opcodes.{some_words}
 use Rattle.sb_port.specs.Waiting.{listed}
 use Rattle.sb_port.specs.Ports.{PortState, port_accesses, let_go, IsFit, IsSendable}
+use Rattle.sb_port.proofs.Items.{item_accesses-messages}
 use Rattle.sb_laws.specs.Moments.{ClosesLast}
 use Rattle.sb_laws.proofs.InTurn.{turn_closes_last, turn_words_are_few}
-
--- the words of items are those of their messages
-pub words_of_messages : (list : List Item) → item_accesses list ≡ flat_map message_accesses (item_messages list)
-words_of_messages [] = refl
-words_of_messages (items.Packet p ∷ list) = ap (λ (l : List Access). message_accesses (message_of p) ++ l) (words_of_messages list)
-words_of_messages (items.Close ∷ list) = words_of_messages list
 
 -- each message of items has a word
 packets_have_words : (list : List Item) → All (λ m. 0 < m.count) (item_messages list)
@@ -48,7 +43,7 @@ items_are_few (items.Close ∷ (item ∷ list)) last = absurd (let never : true 
 pub received_are_few : (plan : RingPlan) (list : List Item) → AreInTurn plan list → length list ≤ plan.budget + 1
 received_are_few plan list turn =
     let words = turn_words_are_few plan list turn in
-    let same = ap length (words_of_messages list) in
+    let same = ap length (item_accesses-messages list) in
     let messages = messages_are_few (item_messages list) (packets_have_words list) in
     let all = items_are_few list (turn_closes_last plan list turn) in
     omega arith
@@ -56,7 +51,7 @@ received_are_few plan list turn =
 module _ (plan : RingPlan) (s : PortState) (fit : IsFit plan s) where
   -- the words of what was sent, and of the rest
   split_words : port_accesses s ≡ item_accesses s.sent ++ flat_map message_accesses (s.waiting.owed ++ listed s.waiting.held)
-  split_words = flat_map-append message_accesses (item_messages s.sent) (s.waiting.owed ++ listed s.waiting.held) ∙ ap (λ (l : List Access). l ++ flat_map message_accesses (s.waiting.owed ++ listed s.waiting.held)) (sym (words_of_messages s.sent))
+  split_words = flat_map-append message_accesses (item_messages s.sent) (s.waiting.owed ++ listed s.waiting.held) ∙ ap (λ (l : List Access). l ++ flat_map message_accesses (s.waiting.owed ++ listed s.waiting.held)) (sym (item_accesses-messages s.sent))
 
   pub sent_in_order : IsPrefix (item_accesses s.sent) (port_accesses s)
   sent_in_order = record { rest = flat_map message_accesses (s.waiting.owed ++ listed s.waiting.held); joined = sym split_words }
@@ -68,7 +63,7 @@ module _ (plan : RingPlan) (s : PortState) (fit : IsFit plan s) where
       sym (append-nil (item_accesses s.sent)) ∙ ap (λ (l : List Message). item_accesses s.sent ++ flat_map message_accesses l) (sym nothing) ∙ sym split_words
 
   pub closed_all_sent : has_close s.sent ≡ true → item_accesses s.sent ≡ port_accesses s
-  closed_all_sent closed = let shut : s.shut ≡ true = fit.close ∙ closed in all_sent (fit.none_owed shut) (fit.none_held shut)
+  closed_all_sent closed = let close_sent : s.close_sent ≡ true = fit.close ∙ closed in all_sent (fit.none_owed close_sent) (fit.none_held close_sent)
 
   pub moves_are_few : AreInTurn plan s.sent → length (port_accesses s) + length (let_go s) + length s.sent ≤ 3 * plan.budget + 1
   moves_are_few turn =

@@ -10,7 +10,7 @@ use Rattle.std.proofs.lemmas.List.Kept.{AllPairs-filter}
 use Rattle.sb_packet.specs.Networks.{NetHost, Network}
 use Rattle.sb_packet.specs.Ways.{NetWay, aims_at, next_link, links_from, way_links, host_ways, network_ways, is_way_of, flow_links, router_before}
 use Rattle.sb_packet.proofs.Lists.{All-joined, AllPairs-head, AllPairs-tail}
-use Rattle.sb_laws.specs.NetworkLayouts.{flow_of}
+use Rattle.sb_laws.specs.NetworkLayouts.{way_flow}
 use Rattle.sb_laws.specs.NetworkWays.{IsWayTo}
 use Rattle.sb_laws.specs.Routed.{IsFirstLink, IsRouted}
 use Rattle.sb_laws.proofs.ListPlaces.{All-enumerated, AllPairs-enumerated, AllPairs-map, AllPairs-joined, range_rises, range_below}
@@ -44,8 +44,8 @@ module _ (network : Network) where
           })
 
   -- no two ways are of one flow
-  ways_apart : AllPairs (λ a b. a.id ≢ b.id) network.hosts → AllPairs (λ a b. is_way_of (flow_of b) a ≡ false) (network_ways network)
-  ways_apart ids = AllPairs-joined (λ a b. is_way_of (flow_of b) a ≡ false) (λ p. host_ways network p.0 p.1) (enumerate_from 0 network.hosts)
+  ways_apart : AllPairs (λ a b. a.id ≢ b.id) network.hosts → AllPairs (λ a b. is_way_of (way_flow b) a ≡ false) (network_ways network)
+  ways_apart ids = AllPairs-joined (λ a b. is_way_of (way_flow b) a ≡ false) (λ p. host_ways network p.0 p.1) (enumerate_from 0 network.hosts)
       (λ k p below. of_host (get_or (enumerate_from 0 network.hosts) k p).0 (get_or (enumerate_from 0 network.hosts) k p).1)
       (λ i j p below inside. of_others (get_or (enumerate_from 0 network.hosts) i p).0 (get_or (enumerate_from 0 network.hosts) j p).0 (get_or (enumerate_from 0 network.hosts) i p).1 (get_or (enumerate_from 0 network.hosts) j p).1
       (AllPairs-enumerated (λ a b. a.id ≢ b.id) 0 network.hosts ids i j p below inside))
@@ -53,34 +53,34 @@ module _ (network : Network) where
       other_device : (h a b : ℕ) (host : NetHost) → a < b → ((host.id == host.id) && (a == b)) ≡ false
       other_device h a b host below = let apart : (a == b) ≡ false = grind (arith, nat_tests) in let same : (host.id == host.id) ≡ true = grind (arith, nat_tests) in rw (same, apart) refl
 
-      of_host : (h : ℕ) (host : NetHost) → AllPairs (λ a b. is_way_of (flow_of b) a ≡ false) (host_ways network h host)
-      of_host h host = AllPairs-map (λ a b. is_way_of (flow_of b) a ≡ false) (λ d. record { host = host; device = d; links = way_links network h d }) (filter (aims_at network host) (range_with_len 0 (length network.devices)))
+      of_host : (h : ℕ) (host : NetHost) → AllPairs (λ a b. is_way_of (way_flow b) a ≡ false) (host_ways network h host)
+      of_host h host = AllPairs-map (λ a b. is_way_of (way_flow b) a ≡ false) (λ d. record { host = host; device = d; links = way_links network h d }) (filter (aims_at network host) (range_with_len 0 (length network.devices)))
           (λ i j d below inside. other_device h _ _ host (AllPairs-filter (λ x y. x < y) (aims_at network host) (range_with_len 0 (length network.devices)) (range_rises 0 (length network.devices)) i j d below inside))
 
       other_host : (a b : NetHost) (c d : ℕ) → a.id ≢ b.id → ((a.id == b.id) && (c == d)) ≡ false
       other_host a b c d apart = let other : (a.id == b.id) ≡ false = grind (arith, nat_tests) in rw other refl
 
-      of_others : (h k : ℕ) (a b : NetHost) → a.id ≢ b.id → All (λ x. All (λ y. is_way_of (flow_of y) x ≡ false) (host_ways network k b)) (host_ways network h a)
+      of_others : (h k : ℕ) (a b : NetHost) → a.id ≢ b.id → All (λ x. All (λ y. is_way_of (way_flow y) x ≡ false) (host_ways network k b)) (host_ways network h a)
       of_others h k a b apart =
-          All-map (λ x. All (λ y. is_way_of (flow_of y) x ≡ false) (host_ways network k b)) (λ d. record { host = a; device = d; links = way_links network h d }) (filter (aims_at network a) (range_with_len 0 (length network.devices)))
-          (λ i c below. All-map (λ y. is_way_of (flow_of y) (record { host = a; device = get_or (filter (aims_at network a) (range_with_len 0 (length network.devices))) i c; links = way_links network h (get_or (filter (aims_at network a) (range_with_len 0 (length network.devices))) i c) }) ≡ false)
+          All-map (λ x. All (λ y. is_way_of (way_flow y) x ≡ false) (host_ways network k b)) (λ d. record { host = a; device = d; links = way_links network h d }) (filter (aims_at network a) (range_with_len 0 (length network.devices)))
+          (λ i c below. All-map (λ y. is_way_of (way_flow y) (record { host = a; device = get_or (filter (aims_at network a) (range_with_len 0 (length network.devices))) i c; links = way_links network h (get_or (filter (aims_at network a) (range_with_len 0 (length network.devices))) i c) }) ≡ false)
           (λ d. record { host = b; device = d; links = way_links network k d }) (filter (aims_at network b) (range_with_len 0 (length network.devices)))
           (λ j d inside. other_host a b (get_or (filter (aims_at network a) (range_with_len 0 (length network.devices))) i c) (get_or (filter (aims_at network b) (range_with_len 0 (length network.devices))) j d) apart))
 
-  own_way : (way : NetWay) → is_way_of (flow_of way) way ≡ true
+  own_way : (way : NetWay) → is_way_of (way_flow way) way ≡ true
   own_way way = let host : (way.host.id == way.host.id) ≡ true = grind (arith, nat_tests) in let device : (way.device == way.device) ≡ true = grind (arith, nat_tests) in rw (host, device) refl
 
   -- so each is found by its own
-  found_own : (ws : List NetWay) → AllPairs (λ a b. is_way_of (flow_of b) a ≡ false) ws → All (λ w. find (is_way_of (flow_of w)) ws ≡ Some w) ws
+  found_own : (ws : List NetWay) → AllPairs (λ a b. is_way_of (way_flow b) a ≡ false) ws → All (λ w. find (is_way_of (way_flow w)) ws ≡ Some w) ws
   found_own [] apart k d below = absurd (omega arith)
-  found_own (w ∷ ws) apart zero d below = ap (λ (b : Bool). cond b (Some w) (find (is_way_of (flow_of w)) ws)) (own_way w)
+  found_own (w ∷ ws) apart zero d below = ap (λ (b : Bool). cond b (Some w) (find (is_way_of (way_flow w)) ws)) (own_way w)
   found_own (w ∷ ws) apart (suc k) d below =
       let v = get_or ws k d in
-      ap (λ (b : Bool). cond b (Some w) (find (is_way_of (flow_of v)) ws)) (AllPairs-head (λ a b. is_way_of (flow_of b) a ≡ false) w ws apart k d (omega arith))
-      ∙ found_own ws (AllPairs-tail (λ a b. is_way_of (flow_of b) a ≡ false) w ws apart) k d (omega arith)
+      ap (λ (b : Bool). cond b (Some w) (find (is_way_of (way_flow v)) ws)) (AllPairs-head (λ a b. is_way_of (way_flow b) a ≡ false) w ws apart k d (omega arith))
+      ∙ found_own ws (AllPairs-tail (λ a b. is_way_of (way_flow b) a ≡ false) w ws apart) k d (omega arith)
 
-  pub found_ways : AllPairs (λ a b. a.id ≢ b.id) network.hosts → All (λ way. flow_links network (flow_of way) ≡ way.links) (network_ways network)
-  found_ways ids = All-weaker (λ w. find (is_way_of (flow_of w)) (network_ways network) ≡ Some w) (λ way. flow_links network (flow_of way) ≡ way.links)
+  pub found_ways : AllPairs (λ a b. a.id ≢ b.id) network.hosts → All (λ way. flow_links network (way_flow way) ≡ way.links) (network_ways network)
+  found_ways ids = All-weaker (λ w. find (is_way_of (way_flow w)) (network_ways network) ≡ Some w) (λ way. flow_links network (way_flow way) ≡ way.links)
       (λ w e. ap (λ (o : Option NetWay). option_map_or (λ way. way.links) o []) e) (network_ways network) (found_own (network_ways network) (ways_apart ids))
 
   module _ (routed : IsRouted network) where

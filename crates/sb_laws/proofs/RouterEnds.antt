@@ -12,8 +12,8 @@ use Rattle.sb_packet.specs.Traffic.{IsCarriable, IsPlanned, has_close, item_acce
 use Rattle.sb_packet.specs.declared.item.Item.{Item}
 use Rattle.sb_packet.specs.declared.packet.Packet.{Packet}
 use Rattle.sb_port.specs.Ports.{IsFit, PortState, port_accesses}
-use Rattle.sb_router.specs.Forwarding.{AreSound, Forwards, IsLaid, Passes, Words, came_for, held_for, part, popped_for}
-use Rattle.sb_router.specs.Lanes.{InletState, LaneState, Route, came_at, held_at, held_words, inlet_at, next_place, no_inlet, no_port, offered_at, outlet_at}
+use Rattle.sb_router.specs.Forwarding.{HasSoundInlets, Forwards, IsLaid, Passes, Words, came_for, held_for, part, popped_for}
+use Rattle.sb_router.specs.Lanes.{InletState, LaneState, Route, came_at, held_words_at, held_words, inlet_at, next_place, no_inlet, no_port, offered_at, outlet_at}
 use Rattle.sb_router.specs.RouteOf.{route_of}
 use Rattle.sb_router.specs.Routers.{DirectionSide, ForwardsAll, IsWholeDirection}
 use Rattle.sb_router.specs.Steps.{IsSilent}
@@ -92,7 +92,7 @@ module _ (before after : DirectionSide) (met : IsDirectionMet before after) wher
     inlets = All-from_get_or IsWholeInlet t.inlets no_inlet (λ i lt. whole_inlet i (omega (arith, lt, met.inlet_count)) w.inlets);
     outlets = All-from_get_or IsWholeOutlet t.outlets no_port (λ o lt. whole_outlet o (omega (arith, lt, met.outlet_count)) w.outlets);
     silent = λ o lt told. All-from_get_or IsSilent t.inlets no_inlet (λ i within.
-        let quiet = (w.silent o (omega (arith, lt, met.outlet_count)) (sym (ap (λ (p : PortState). p.closing) (met.outlets o).state) ∙ told)) i no_inlet (omega (arith, within, met.inlet_count)) in
+        let quiet = (w.silent o (omega (arith, lt, met.outlet_count)) (sym (ap (λ (p : PortState). p.close_requested) (met.outlets o).state) ∙ told)) i no_inlet (omega (arith, within, met.inlet_count)) in
         record { ended = (met.inlets i).ended ∙ quiet.ended; free = (met.inlets i).held ∙ quiet.free });
     routed = λ f o e. let within = w.routed f o e in omega (arith, within, met.outlet_count);
   }
@@ -107,7 +107,7 @@ module _ (before after : DirectionSide) (met : IsDirectionMet before after) wher
     came_same : (i : ℕ) → came_at t i ≡ came_at s i
     came_same i = ap item_accesses (met.inlets i).ring.received
 
-    held_same : (i : ℕ) → held_at t i ≡ held_at s i
+    held_same : (i : ℕ) → held_words_at t i ≡ held_words_at s i
     held_same i = ap held_words (met.inlets i).held
 
     popped_same : (o : ℕ) → popped_for words t o ≡ popped_for words s o
@@ -116,20 +116,20 @@ module _ (before after : DirectionSide) (met : IsDirectionMet before after) wher
     waits_same : (o : ℕ) → sum_by (held_for words o) t.inlets ≡ sum_by (held_for words o) s.inlets
     waits_same o = sum_by_alike (held_for words o) t.inlets s.inlets no_inlet met.inlet_count (λ i lt. ap (λ (p : Option Packet). length (filter (words.goes_to o) (held_words p))) (met.inlets i).held)
 
-    sound_before : AreSound t → AreSound s
+    sound_before : HasSoundInlets t → HasSoundInlets s
     sound_before sound = All-from_get_or (λ (x : InletState). All IsSound (item_messages x.ring.received)) s.inlets no_inlet
         (λ i lt. subst (λ (l : List Item). All IsSound (item_messages l)) (met.inlets i).ring.received (sound i no_inlet (omega (arith, lt, met.inlet_count))))
 
     met_forwards : Forwards words (route_of before.rows) s → Forwards words (route_of before.rows) t
     met_forwards h = record {
       few = λ o. let old = h.few o in omega (arith, old, ap length (offered_same o), waits_same o, popped_same o);
-      picks = λ f i o passes. subst (λ (l : List Access). IsSubsequence (part words f l ++ part words f (held_at t i)) (part words f (came_at t i))) (sym (offered_same o))
+      picks = λ f i o passes. subst (λ (l : List Access). IsSubsequence (part words f l ++ part words f (held_words_at t i)) (part words f (came_at t i))) (sym (offered_same o))
           (subst (λ (l : List Access). IsSubsequence (part words f (offered_at s o) ++ part words f l) (part words f (came_at t i))) (sym (held_same i))
-          (subst (λ (l : List Access). IsSubsequence (part words f (offered_at s o) ++ part words f (held_at s i)) (part words f l)) (sym (came_same i)) (h.picks f i o (passed (route_of before.rows) f i o passes))));
+          (subst (λ (l : List Access). IsSubsequence (part words f (offered_at s o) ++ part words f (held_words_at s i)) (part words f l)) (sym (came_same i)) (h.picks f i o (passed (route_of before.rows) f i o passes))));
       whole = λ f i o passes sound room.
           let budget : (outlet_at t o).plan.budget ≡ (outlet_at s o).plan.budget = ap (λ (plan : RingPlan). plan.budget) (met.outlets o).plan in
           ap (part words f) (came_same i) ∙ h.whole f i o (passed (route_of before.rows) f i o passes) (sound_before sound) (omega (arith, room, budget, popped_same o))
-          ∙ ap (λ (l : List Access). part words f l ++ part words f (held_at s i)) (sym (offered_same o))
+          ∙ ap (λ (l : List Access). part words f l ++ part words f (held_words_at s i)) (sym (offered_same o))
           ∙ ap (λ (l : List Access). part words f (offered_at t o) ++ part words f l) (sym (held_same i));
     }
 

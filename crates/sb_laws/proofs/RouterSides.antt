@@ -17,22 +17,22 @@ use Rattle.sb_node.specs.Sides.{is_drained, received_words}
 use Rattle.sb_router.specs.Forwarding.{HasForwarded, Passes, popped_for}
 use Rattle.sb_router.specs.Forwarding as router
 use Rattle.sb_port.specs.Ports.{PortSide}
-use Rattle.sb_router.specs.Lanes.{InletState, LaneState, Route, came_at, held_at, held_words, inlet_at, no_inlet, no_port, next_place, offered_at, outlet_at}
+use Rattle.sb_router.specs.Lanes.{InletState, LaneState, Route, came_at, held_words_at, held_words, inlet_at, no_inlet, no_port, next_place, offered_at, outlet_at}
 use Rattle.sb_router.specs.RouteOf.{route_of}
 use Rattle.sb_router.specs.Routers.{IsRouterTurn, IsWholeRouter, RouterSide}
 use Rattle.sb_router.specs.Steps.{IsSilent}
 use Rattle.sb_router.specs.Awaiting.{AwaitsFullPort}
 use Rattle.sb_router.specs.Turning.{IsIdleLane}
 use Rattle.sb_router.specs.Whole.{IsWholeLane}
-use Rattle.sb_laws.specs.Courses.{Course, came_for, is_carried}
-use Rattle.sb_laws.specs.Flows.{words_of}
+use Rattle.sb_laws.specs.Courses.{Course, came_for_ring, is_of_ring}
+use Rattle.sb_laws.specs.Flows.{words_of_flow}
 use Rattle.sb_device.specs.Served.{AreSound}
 use Rattle.sb_laws.specs.Moments.{Moment, arrived}
-use Rattle.sb_laws.specs.Promises.{Forwards}
+use Rattle.sb_laws.specs.Promises.{ForwardsFlow}
 use Rattle.sb_laws.specs.RouterSides.{ComesInto, HasInlet, HasLane, IsAtStage, IsIdleAtRings, IsRouterOf, Leaves, ShowsInlet, ShowsLane, course_words, ring_ins, ring_next}
 use Rattle.sb_laws.specs.RoundSides.{HasPort, ShowsPort}
 use Rattle.sb_laws.specs.Stages.{Stages}
-use Rattle.sb_laws.specs.Standstills.{IsBlocked, IsIdleReceiver, IsIdleSender, RoundEnd}
+use Rattle.sb_laws.specs.Standstills.{IsReceiverBlocked, IsIdleReceiver, IsIdleSender, RoundEnd}
 use Rattle.sb_laws.proofs.SidePromises.{idle_port}
 use Rattle.sb_laws.proofs.Sums.{sum_by_same}
 
@@ -52,18 +52,18 @@ module _ (network : Network) (c : Course) (m : Moment) (outs : List ℕ) (route 
   came_by x inlet = ap item_accesses inlet.ring.received
 
   -- what came to the router for a ring is what was popped for it
-  popped : (o : ℕ) → o < length s.outlets → came_for network c m (outlet_at s o).plan.ring ≡ popped_for (course_words network c outs) s o
+  popped : (o : ℕ) → o < length s.outlets → came_for_ring network c m (outlet_at s o).plan.ring ≡ popped_for (course_words network c outs) s o
   popped o lt =
       let r = (outlet_at s o).plan.ring in
-      let of_number : ℕ → ℕ = λ k. length (filter (is_carried network c r) (arrived m k)) in
+      let of_number : ℕ → ℕ = λ k. length (filter (is_of_ring network c r) (arrived m k)) in
       ap (sum_by of_number) (of.ins o no_port lt) ∙ sum_by_numbers of_number s.inlets
       ∙ sum_by_same (λ (x : InletState). of_number x.ring.plan.ring) (router.came_for (course_words network c outs) o) s.inlets
       (λ i d below. let x = get_or s.inlets i d in
-      ap (λ (l : List Access). length (filter (is_carried network c r) l)) (came_by x (has.inlets i d below))
-      ∙ ap (λ (k : ℕ). length (filter (is_carried network c k) (received_words x.ring))) (sym (number_at o lt)))
+      ap (λ (l : List Access). length (filter (is_of_ring network c r) l)) (came_by x (has.inlets i d below))
+      ∙ ap (λ (k : ℕ). length (filter (is_of_ring network c k) (received_words x.ring))) (sym (number_at o lt)))
 
   -- and what was popped is sound
-  all_sound : (o : ℕ) → o < length s.outlets → All (λ k. AreSound (m.received k)) (c.ins (outlet_at s o).plan.ring) → router.AreSound s
+  all_sound : (o : ℕ) → o < length s.outlets → All (λ k. AreSound (m.received k)) (c.ins (outlet_at s o).plan.ring) → router.HasSoundInlets s
   all_sound o lt sound i d below =
       let numbers : All (λ k. AreSound (m.received k)) (ring_ins s) = subst (All (λ k. AreSound (m.received k))) (of.ins o no_port lt) sound in
       let there = numbers i 0 (omega (arith, below, length-map s.inlets (λ (x : InletState). x.ring.plan.ring))) in
@@ -77,29 +77,29 @@ module _ (network : Network) (c : Course) (m : Moment) (outs : List ℕ) (route 
     port : HasPort m (outlet_at s o).plan.ring (outlet_at s o)
     port = has.outlets o no_port passes.outlet
 
-    came : words_of network f (arrived m (inlet_at s i).ring.plan.ring) ≡ words_of network f (came_at s i)
-    came = ap (words_of network f) (came_by (inlet_at s i) inlet)
+    came : words_of_flow network f (arrived m (inlet_at s i).ring.plan.ring) ≡ words_of_flow network f (came_at s i)
+    came = ap (words_of_flow network f) (came_by (inlet_at s i) inlet)
 
-    offered : words_of network f (m.offered (outlet_at s o).plan.ring) ≡ words_of network f (offered_at s o)
-    offered = ap (words_of network f) port.offered
+    offered : words_of_flow network f (m.offered (outlet_at s o).plan.ring) ≡ words_of_flow network f (offered_at s o)
+    offered = ap (words_of_flow network f) port.offered
 
-    held : words_of network f (m.held (inlet_at s i).ring.plan.ring) ≡ words_of network f (held_at s i)
-    held = ap (words_of network f) inlet.held
+    held : words_of_flow network f (m.held (inlet_at s i).ring.plan.ring) ≡ words_of_flow network f (held_words_at s i)
+    held = ap (words_of_flow network f) inlet.held
 
-    pub router_promise : Forwards network c m f (inlet_at s i).ring.plan.ring (outlet_at s o).plan.ring
+    pub router_promise : ForwardsFlow network c m f (inlet_at s i).ring.plan.ring (outlet_at s o).plan.ring
     router_promise = record {
-      in_order = subst (λ (l : List Access). IsSubsequence l (words_of network f (arrived m (inlet_at s i).ring.plan.ring))) (sym offered)
-          (subst (IsSubsequence (words_of network f (offered_at s o))) (sym came) h.in_order);
+      in_order = subst (λ (l : List Access). IsSubsequence l (words_of_flow network f (arrived m (inlet_at s i).ring.plan.ring))) (sym offered)
+          (subst (IsSubsequence (words_of_flow network f (offered_at s o))) (sym came) h.in_order);
       whole = λ sound few.
           let budget = of.budgets o no_port passes.outlet in
           came ∙ h.whole (all_sound o passes.outlet sound) (omega (arith, few, budget, popped o passes.outlet))
-          ∙ ap (λ (l : List Access). l ++ words_of network f (held_at s i)) (sym offered)
-          ∙ ap (λ (l : List Access). words_of network f (m.offered (outlet_at s o).plan.ring) ++ l) (sym held);
-      closed = λ shut.
+          ∙ ap (λ (l : List Access). l ++ words_of_flow network f (held_words_at s i)) (sym offered)
+          ∙ ap (λ (l : List Access). words_of_flow network f (m.offered (outlet_at s o).plan.ring) ++ l) (sym held);
+      closed = λ close_sent.
           let fit = (whole.outlets o no_port passes.outlet).fit in
-          let told = fit.told (fit.close ∙ ap has_close (sym port.sent) ∙ shut) in
+          let told = fit.told (fit.close ∙ ap has_close (sym port.sent) ∙ close_sent) in
           let silent = (whole.silent o passes.outlet told) i no_inlet passes.inlet in
-          held ∙ ap (λ (p : Option Packet). words_of network f (held_words p)) silent.free;
+          held ∙ ap (λ (p : Option Packet). words_of_flow network f (held_words p)) silent.free;
     }
 
 module _ (stages : Stages) (e : RoundEnd) (stage : ℕ) (route : Route) (s : LaneState) (shows : ShowsLane e route s) (at : IsAtStage stages stage s) (whole : IsWholeLane route s) (idle : IsIdleLane route s) where
@@ -152,7 +152,7 @@ module _ (stages : Stages) (e : RoundEnd) (stage : ℕ) (route : Route) (s : Lan
       some_held some (Some q) is = let a = idle.held_awaits_full i q lt is in ((outlet_at s a.place).plan.ring, shown.holds ∙ next_of i q is a)
 
       by_cause : has_close (e.at.received (inlet_at s i).ring.plan.ring) ≡ false → ((inlet_at s i).ended ≡ true) ⊎ (((inlet_at s i).held ≡ None → ⊥) ⊎ (is_drained (inlet_at s i).ring ≡ true)) →
-          (e.empty (inlet_at s i).ring.plan.ring ≡ true) ⊎ (((p : ℕ) × (e.holds (inlet_at s i).ring.plan.ring ≡ Some p)) ⊎ IsBlocked stages e (inlet_at s i).ring.plan.ring)
+          (e.empty (inlet_at s i).ring.plan.ring ≡ true) ⊎ (((p : ℕ) × (e.holds (inlet_at s i).ring.plan.ring ≡ Some p)) ⊎ IsReceiverBlocked stages e (inlet_at s i).ring.plan.ring)
       by_cause unended (inl ended) = absurd (let never : true ≡ false = sym ended ∙ (whole.inlets i no_inlet lt).ended ∙ ap has_close (sym shown.lists.ring.received) ∙ unended in cc)
       by_cause unended (inr (inl some)) = inr (inl (some_held some (inlet_at s i).held refl))
       by_cause unended (inr (inr drained)) = inl (shown.ring.empty ∙ drained)
@@ -160,7 +160,7 @@ module _ (stages : Stages) (e : RoundEnd) (stage : ℕ) (route : Route) (s : Lan
   pub idle_receivers : All (λ x. IsIdleReceiver stages e x.ring.plan.ring) s.inlets
   idle_receivers = All-from_get_or (λ (x : InletState). IsIdleReceiver stages e x.ring.plan.ring) s.inlets no_inlet idle_receiver
 
-  module _ (closes : All IsSilent s.inlets → (o : ℕ) → o < length s.outlets → (outlet_at s o).state.closing ≡ true) where
+  module _ (closes : All IsSilent s.inlets → (o : ℕ) → o < length s.outlets → (outlet_at s o).state.close_requested ≡ true) where
     idle_sender : (o : ℕ) → o < length s.outlets → IsIdleSender stages e (outlet_at s o).plan.ring
     idle_sender o lt = record {
       port = idle_port e (outlet_at s o).plan.ring (outlet_at s o) (whole.outlets o no_port lt).fit shown (idle.owing_are_full o no_port lt);

@@ -5,10 +5,12 @@ use Rattle.std.specs.List.{list_any, range_with_len}
 use Rattle.std.proofs.lemmas.Bool.Decides.{nat_tests}
 use Rattle.std.proofs.lemmas.List.{get_or-map, length-map}
 use Rattle.std.proofs.lemmas.List.FromFn.{get_or-range_with_len, length-range_with_len}
+use Rattle.std.proofs.lemmas.Bool.{and_parts}
 use Rattle.sb_packet.specs.Networks.{Network}
 use Rattle.sb_packet.specs.Plans.{NetFlow, RingPlan, goes_through}
 use Rattle.sb_packet.specs.Rings.{flow_table, ring_flows, ring_plan, ring_ways}
 use Rattle.sb_packet.specs.Ways.{NetWay}
+use Rattle.sb_flow.proofs.LinkMarks.{list_any-map}
 use Rattle.sb_router.specs.Forwarding.{HasForwarded, Passes, Words}
 use Rattle.sb_port.specs.Ports.{PortSide}
 use Rattle.sb_router.specs.Lanes.{InletState, inlet_at, no_inlet, no_port, outlet_at}
@@ -17,12 +19,11 @@ use Rattle.sb_router.specs.Routers.{DirectionSide, ForwardsAll}
 use Rattle.sb_laws.specs.Courses.{Course}
 use Rattle.sb_laws.specs.Flows.{is_among_flows, is_same_flow}
 use Rattle.sb_laws.specs.Moments.{Moment}
-use Rattle.sb_laws.specs.NetworkLayouts.{flow_of}
-use Rattle.sb_laws.specs.Promises.{Forwards}
+use Rattle.sb_laws.specs.NetworkLayouts.{way_flow}
+use Rattle.sb_laws.specs.Promises.{ForwardsFlow}
 use Rattle.sb_laws.specs.RouterLayouts.{IsRouterAt}
 use Rattle.sb_laws.specs.RouterSides.{IsRouterOf}
-use Rattle.sb_laws.proofs.CarriedRings.{list_any-map}
-use Rattle.sb_laws.proofs.FlowMembers.{and_parts, same_flow_from}
+use Rattle.sb_laws.proofs.FlowMembers.{same_flow_from}
 use Rattle.sb_laws.proofs.LinksOfWays.{in_cases, is_in}
 use Rattle.sb_laws.proofs.ListPlaces.{any_passing}
 use Rattle.sb_laws.proofs.PlannedWords.{any_weaker, table_at}
@@ -57,11 +58,11 @@ through_way network ring ws f same host device some =
     ∙ table_at (λ d. list_any (λ way. (way.host.id == f.host) && (way.device == d)) ways) 32 f.device false device
     ∙ ap (list_any (λ way. (way.host.id == f.host) && (way.device == f.device))) same ∙ some
 
-pub through_flow : (network : Network) (ring : ℕ) (ws : List NetWay) (fs : List NetFlow) (f : NetFlow) → ring_ways network ring ≡ ws → fs ≡ map flow_of ws → f.host < 32 → f.device < 32 → is_among_flows f fs ≡ true → goes_through (ring_flows network ring) f ≡ true
+pub through_flow : (network : Network) (ring : ℕ) (ws : List NetWay) (fs : List NetFlow) (f : NetFlow) → ring_ways network ring ≡ ws → fs ≡ map way_flow ws → f.host < 32 → f.device < 32 → is_among_flows f fs ≡ true → goes_through (ring_flows network ring) f ≡ true
 through_flow network ring ws fs f same flows host device among =
-    let there : list_any (λ way. is_same_flow f (flow_of way)) ws ≡ true = sym (list_any-map (is_same_flow f) flow_of ws) ∙ ap (is_among_flows f) (sym flows) ∙ among in
+    let there : list_any (λ way. is_same_flow f (way_flow way)) ws ≡ true = sym (list_any-map (is_same_flow f) way_flow ws) ∙ ap (is_among_flows f) (sym flows) ∙ among in
     through_way network ring ws f same host device
-    (any_weaker (λ way. is_same_flow f (flow_of way)) (λ way. (way.host.id == f.host) && (way.device == f.device))
+    (any_weaker (λ way. is_same_flow f (way_flow way)) (λ way. (way.host.id == f.host) && (way.device == f.device))
     (λ way e. let parts = and_parts (f.host == way.host.id) (f.device == way.device) e in
     let host_test = parts.0 in
     let device_test = parts.1 in
@@ -75,9 +76,9 @@ RoutersHandOn = (words : Words) (d : DirectionSide) (f : NetFlow) (i o : ℕ) �
 
 -- A router keeps its promise for a flow that goes over one of its rings that come in and over one of those that go out.
 pub one_step : RoutersHandOn → (network : Network) (c : Course) (m : Moment) (ins outs : List ℕ) (d : DirectionSide) → IsRouterAt network c m ins outs d → IsRouterOf c outs d.lane → (f : NetFlow) (a b : ℕ) →
-    is_in a ins ≡ true → is_in b outs ≡ true → goes_through (ring_flows network a) f ≡ true → goes_through (ring_flows network b) f ≡ true → Forwards network c m f a b
+    is_in a ins ≡ true → is_in b outs ≡ true → goes_through (ring_flows network a) f ≡ true → goes_through (ring_flows network b) f ≡ true → ForwardsFlow network c m f a b
 one_step hand_on network c m ins outs d at of f a b comes goes by_in by_out =
-    subst (λ (n : ℕ). Forwards network c m f n b) in_number (subst (Forwards network c m f (inlet_at d.lane i).ring.plan.ring) out_number
+    subst (λ (n : ℕ). ForwardsFlow network c m f n b) in_number (subst (ForwardsFlow network c m f (inlet_at d.lane i).ring.plan.ring) out_number
     (router_promise network c m outs (route_of d.rows) d.lane at.has of at.whole f i o passes (hand_on _ d f i o at.forwards passes)))
   where
     in_place : (i : ℕ) × (i < length ins) × (get_or ins i 0 ≡ a)

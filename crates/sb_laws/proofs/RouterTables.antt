@@ -14,11 +14,12 @@ use Rattle.sb_packet.specs.Plans.{NetFlow, RingPlan, goes_through}
 use Rattle.sb_packet.specs.Rings.{has_link, link_ways, ring_plan, ring_ways}
 use Rattle.sb_packet.specs.Ways.{NetWay, flow_links, is_some_number, is_way_of, network_ways, router_after, router_before}
 use Rattle.sb_port.specs.Ports.{PortSide}
+use Rattle.sb_flow.proofs.WayCourses.{some_number-is}
 use Rattle.sb_router.specs.Lanes.{no_port, outlet_at}
 use Rattle.sb_router.specs.RouteOf.{route_of}
 use Rattle.sb_router.specs.Routers.{DirectionSide}
 use Rattle.sb_router.specs.Ways.{place_of_link}
-use Rattle.sb_laws.specs.NetworkLayouts.{answer_ring, flow_of, links_into, links_out_of, request_ring}
+use Rattle.sb_laws.specs.NetworkLayouts.{answer_ring, way_flow, links_into, links_out_of, request_ring}
 use Rattle.sb_laws.specs.NetworkWays.{HasWays}
 use Rattle.sb_laws.specs.Routed.{IsRouted}
 use Rattle.sb_laws.specs.RouterLayouts.{HasTable, LeadsByPlans, answer_outs, request_outs}
@@ -28,7 +29,7 @@ use Rattle.sb_laws.proofs.FlowMembers.{same_flow}
 use Rattle.sb_laws.proofs.LinksOfWays.{in_cases, is_in, one_into, one_out_of}
 use Rattle.sb_laws.proofs.LinksToDevices.{found_place, none_found}
 use Rattle.sb_laws.proofs.ListPlaces.{any_at, any_passing, range_rises}
-use Rattle.sb_laws.proofs.NetworkLaidOut.{FlowWay, counted, named, way_flows}
+use Rattle.sb_laws.proofs.NetworkLaidOut.{FlowWay, counted, way_flows}
 use Rattle.sb_laws.proofs.PlannedWords.{in_table}
 use Rattle.sb_laws.proofs.RouterSteps.{through_way}
 use Rattle.sb_laws.proofs.ScriptFacts.{found_fact}
@@ -60,7 +61,7 @@ not_none test k (x ∷ list) e t none = by_test (test x) refl none (λ inside la
 record WayFact (network : Network) (test : ℕ → Bool) (way : NetWay) : Type 0 where
   host : way.host.id < 32
   device : way.device < 32
-  found : flow_links network (flow_of way) ≡ way.links
+  found : flow_links network (way_flow way) ≡ way.links
   unique : (a b : ℕ) → is_in a way.links ≡ true → is_in b way.links ≡ true → test a ≡ true → test b ≡ true → a ≡ b
 
 module _ (network : Network) (test : ℕ → Bool) (ring : ℕ → ℕ) (ways_are : (k : ℕ) → k < length network.links → ring_ways network (ring k) ≡ link_ways network k) (facts : All (WayFact network test) (network_ways network)) (d : DirectionSide)
@@ -159,7 +160,7 @@ module _ (network : Network) (test : ℕ → Bool) (ring : ℕ → ℕ) (ways_ar
       by_way w =
           let way = w.0 in
           let fact : WayFact network test way = w.2.0 in
-          let same : f ≡ flow_of way = same_flow (flow_of way) f w.1 in
+          let same : f ≡ way_flow way = same_flow (way_flow way) f w.1 in
           let list_is : flow_links network f ≡ way.links = ap (flow_links network) same ∙ fact.found in
           table f (subst (λ (g : NetFlow). g.host < 32) (sym same) fact.host) (subst (λ (g : NetFlow). g.device < 32) (sym same) fact.device)
           ∙ ap (λ (l : List ℕ). option_and_then (place_of_link links) (find test l)) list_is
@@ -187,8 +188,8 @@ module _ (network : Network) (r : ℕ) (d : DirectionSide) (routed : IsRouted ne
     unique = unique i w below;
   }
 
-  same_links : (i : ℕ) (w : NetWay) → (below : i < length (network_ways network)) → (let way = get_or (network_ways network) i w in let flow : FlowWay network (flow_of way) = way_flows network ways i w below in way.links ≡ flow.head ∷ flow.tail)
-  same_links i w below = let flow : FlowWay network (flow_of (get_or (network_ways network) i w)) = way_flows network ways i w below in sym (ways.found i w below) ∙ flow.links
+  same_links : (i : ℕ) (w : NetWay) → (below : i < length (network_ways network)) → (let way = get_or (network_ways network) i w in let flow : FlowWay network (way_flow way) = way_flows network ways i w below in way.links ≡ flow.head ∷ flow.tail)
+  same_links i w below = let flow : FlowWay network (way_flow (get_or (network_ways network) i w)) = way_flows network ways i w below in sym (ways.found i w below) ∙ flow.links
 
   pub request_tables : ring_outs d.lane ≡ request_outs network r → All (λ y. y.plan ≡ ring_plan network y.plan.ring) d.lane.outlets → HasTable network false r (links_out_of network (Some r)) d → LeadsByPlans d
   request_tables sends plans has = leads_by_plans network (λ k. is_some_number r (router_before network k)) request_ring (request_ways network ways) (way_facts (λ k. is_some_number r (router_before network k)) unique) d sends plans (λ f host device. has.table f host device) has.within
@@ -196,9 +197,9 @@ module _ (network : Network) (r : ℕ) (d : DirectionSide) (routed : IsRouted ne
       unique : All (λ way. (a b : ℕ) → is_in a way.links ≡ true → is_in b way.links ≡ true → is_some_number r (router_before network a) ≡ true → is_some_number r (router_before network b) ≡ true → a ≡ b) (network_ways network)
       unique i w below a b x y s t =
           let way = get_or (network_ways network) i w in
-          let flow : FlowWay network (flow_of way) = way_flows network ways i w below in
+          let flow : FlowWay network (way_flow way) = way_flows network ways i w below in
           let links = same_links i w below in
-          one_out_of network way.device r a b flow.head flow.tail flow.way flow.start (ap (is_in a) (sym links) ∙ x) (ap (is_in b) (sym links) ∙ y) (named r (router_before network a) s) (named r (router_before network b) t)
+          one_out_of network way.device r a b flow.head flow.tail flow.way flow.start (ap (is_in a) (sym links) ∙ x) (ap (is_in b) (sym links) ∙ y) (some_number-is r (router_before network a) s) (some_number-is r (router_before network b) t)
 
   pub answer_tables : ring_outs d.lane ≡ answer_outs network r → All (λ y. y.plan ≡ ring_plan network y.plan.ring) d.lane.outlets → HasTable network true r (links_into network (Some r)) d → LeadsByPlans d
   answer_tables sends plans has = leads_by_plans network (λ k. is_some_number r (router_after network k)) answer_ring (answer_ways network ways) (way_facts (λ k. is_some_number r (router_after network k)) unique) d sends plans (λ f host device. has.table f host device) has.within
@@ -206,6 +207,6 @@ module _ (network : Network) (r : ℕ) (d : DirectionSide) (routed : IsRouted ne
       unique : All (λ way. (a b : ℕ) → is_in a way.links ≡ true → is_in b way.links ≡ true → is_some_number r (router_after network a) ≡ true → is_some_number r (router_after network b) ≡ true → a ≡ b) (network_ways network)
       unique i w below a b x y s t =
           let way = get_or (network_ways network) i w in
-          let flow : FlowWay network (flow_of way) = way_flows network ways i w below in
+          let flow : FlowWay network (way_flow way) = way_flows network ways i w below in
           let links = same_links i w below in
-          one_into network way.device r a b (flow.head ∷ flow.tail) flow.way (ap (is_in a) (sym links) ∙ x) (ap (is_in b) (sym links) ∙ y) (named r (router_after network a) s) (named r (router_after network b) t)
+          one_into network way.device r a b (flow.head ∷ flow.tail) flow.way (ap (is_in a) (sym links) ∙ x) (ap (is_in b) (sym links) ∙ y) (some_number-is r (router_after network a) s) (some_number-is r (router_after network b) t)

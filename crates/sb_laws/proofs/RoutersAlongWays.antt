@@ -11,9 +11,9 @@ use Rattle.sb_packet.specs.Ways.{is_some_number, network_ways, router_after, rou
 use Rattle.sb_router.specs.Routers.{DirectionSide}
 use Rattle.sb_laws.specs.Courses.{AlongWay, flows_over, goes_over, last_of}
 use Rattle.sb_laws.specs.Moments.{Moment}
-use Rattle.sb_laws.specs.NetworkLayouts.{answer_ring, flow_of, links_into, links_out_of, network_answers, network_flows, network_requests, request_ring}
+use Rattle.sb_laws.specs.NetworkLayouts.{answer_ring, way_flow, links_into, links_out_of, network_answers, network_flows, network_requests, request_ring}
 use Rattle.sb_laws.specs.NetworkWays.{HasWays, IsWayTo}
-use Rattle.sb_laws.specs.Promises.{Forwards}
+use Rattle.sb_laws.specs.Promises.{ForwardsFlow}
 use Rattle.sb_laws.specs.Routed.{IsRouted}
 use Rattle.sb_laws.specs.RouterLayouts.{IsRouterAt, KeepsAlongWays, answer_ins, answer_outs, request_ins, request_outs}
 use Rattle.sb_laws.proofs.CarriedRings.{answer_ways, flows_back, flows_there, request_ways}
@@ -81,11 +81,11 @@ module _ (network : Network) (m : Moment) (router : ℕ → DirectionSide) (rout
 
   -- flows are in the tables of rings
   hosts_low : All (λ f. f.host < 32) (network_flows network)
-  hosts_low = All-map (λ f. f.host < 32) flow_of (network_ways network)
+  hosts_low = All-map (λ f. f.host < 32) way_flow (network_ways network)
       (All-weaker (λ way. Contains network.hosts way.host) (λ way. way.host.id < 32) (λ way inside. All-contains (λ (host : NetHost). host.id < 32) network.hosts way.host ids inside) (network_ways network) ways.hosts)
 
   devices_low : All (λ f. f.device < 32) (network_flows network)
-  devices_low = All-map (λ f. f.device < 32) flow_of (network_ways network)
+  devices_low = All-map (λ f. f.device < 32) way_flow (network_ways network)
       (All-weaker (λ way. way.device < length network.devices) (λ way. way.device < 32) (λ way inside. let few = routed.few in omega arith) (network_ways network) ways.devices)
 
   named_number : (r : ℕ) (o : Option ℕ) → o ≡ Some r → is_some_number r o ≡ true
@@ -100,7 +100,7 @@ module _ (network : Network) (m : Moment) (router : ℕ → DirectionSide) (rout
   module _ (hand_on : RoutersHandOn) (at : (r : ℕ) → r < length network.routers → IsRouterAt network (network_requests network) m (request_ins network r) (request_outs network r) (router r)) where
     requests_step : (i : ℕ) (e : NetFlow) → i < length (network_flows network) → (w : FlowWay network (get_or (network_flows network) i e)) → (r k j : ℕ) → k < length network.links → j < length network.links →
         is_in k (w.head ∷ w.tail) ≡ true → is_in j (w.head ∷ w.tail) ≡ true → router_after network k ≡ Some r → router_before network j ≡ Some r →
-        Forwards network (network_requests network) m (get_or (network_flows network) i e) (request_ring k) (request_ring j)
+        ForwardsFlow network (network_requests network) m (get_or (network_flows network) i e) (request_ring k) (request_ring j)
     requests_step i e below w r k j k_there j_there k_on j_on leads leaves =
         let f = get_or (network_flows network) i e in
         let here = at r (routed.there k r leads) in
@@ -116,14 +116,14 @@ module _ (network : Network) (m : Moment) (router : ℕ → DirectionSide) (rout
     requests_along i e below =
         let f = get_or (network_flows network) i e in
         let w : FlowWay network f = flow_ways network ways i e below in
-        let P = Forwards network (network_requests network) m f in
+        let P = ForwardsFlow network (network_requests network) m f in
         subst (Along P) (sym (requests_way network f w))
         (along_map P request_ring w.head w.tail (along_way network f.device (λ k j. P (request_ring k) (request_ring j)) (w.head ∷ w.tail) (requests_step i e below w) w.head w.tail w.way (λ n on. on)))
 
   module _ (hand_on : RoutersHandOn) (at : (r : ℕ) → r < length network.routers → IsRouterAt network (network_answers network) m (answer_ins network r) (answer_outs network r) (router r)) where
     answers_step : (i : ℕ) (e : NetFlow) → i < length (network_flows network) → (w : FlowWay network (get_or (network_flows network) i e)) → (r k j : ℕ) → k < length network.links → j < length network.links →
         is_in k (w.head ∷ w.tail) ≡ true → is_in j (w.head ∷ w.tail) ≡ true → router_after network k ≡ Some r → router_before network j ≡ Some r →
-        Forwards network (network_answers network) m (get_or (network_flows network) i e) (answer_ring j) (answer_ring k)
+        ForwardsFlow network (network_answers network) m (get_or (network_flows network) i e) (answer_ring j) (answer_ring k)
     answers_step i e below w r k j k_there j_there k_on j_on leads leaves =
         let f = get_or (network_flows network) i e in
         let here = at r (routed.there k r leads) in
@@ -139,7 +139,7 @@ module _ (network : Network) (m : Moment) (router : ℕ → DirectionSide) (rout
     answers_along i e below =
         let f = get_or (network_flows network) i e in
         let w : FlowWay network f = flow_ways network ways i e below in
-        let P = Forwards network (network_answers network) m f in
+        let P = ForwardsFlow network (network_answers network) m f in
         let there = along_way network f.device (λ k j. P (answer_ring j) (answer_ring k)) (w.head ∷ w.tail) (answers_step i e below w) w.head w.tail w.way (λ n on. on) in
         let back = along_map P answer_ring (last_of w.head w.tail) (back_rest w.head w.tail) (along_reversed (λ a b. P (answer_ring a) (answer_ring b)) w.head w.tail there) in
         subst (Along P) (ap (map answer_ring) (sym (back_is w.head w.tail)) ∙ sym (answers_way network f w)) back

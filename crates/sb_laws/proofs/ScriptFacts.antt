@@ -8,14 +8,14 @@ use Rattle.std.proofs.lemmas.List.Elements.{All-nil, All-head, All-tail, All-fil
 use Rattle.std.proofs.lemmas.List.Kept.{AllPairs-filter}
 use Rattle.sb_packet.specs.Accesses.{Access, access_at}
 use Rattle.sb_packet.specs.Networks.{NetHost, Network}
-use Rattle.sb_packet.specs.Scripts.{request_of, transaction_message, transaction_accesses, script_accesses}
+use Rattle.sb_packet.specs.Scripts.{transaction_message, transaction_accesses, script_accesses}
 use Rattle.sb_packet.specs.Journals.{is_request, flow_part}
 use Rattle.sb_packet.specs.Plans.{NetFlow}
-use Rattle.sb_packet.specs.declared.transaction.Kind.{Kind}
-use Rattle.sb_packet.specs.declared.transaction.Kind.TheVariants.{Read, Write, Posted, Atomic}
 use Rattle.sb_packet.proofs.Lists.{All-made, All-joined, AllPairs-head, AllPairs-tail}
 use Rattle.sb_packet.proofs.ReplyAddresses.{reply_addresses_rise, reply_addresses_tell}
-use Rattle.sb_laws.specs.Flows.{is_of, words_of, script_of, asked_of}
+use Rattle.sb_link.proofs.Truths.{same_number}
+use Rattle.sb_flow.proofs.FlowWords.{request_asks}
+use Rattle.sb_laws.specs.Flows.{is_of, words_of_flow, words_of_script, asked_words}
 use Rattle.sb_laws.specs.Layouts.{HasScripts}
 
 -- what is found passes the test, and is one of the list
@@ -27,19 +27,10 @@ found_fact {A} P test (y ∷ ys) x e h = by_test (test y) refl e (λ later. foun
     by_test true t e later = let same : y ≡ x = cc in (subst (λ (z : A). test z ≡ true) same t, subst P same (All-head P y ys h))
     by_test false t e later = later e
 
-pub asks : (kind : Kind) → is_request (request_of kind) ≡ true
-asks Read = refl
-asks Write = refl
-asks Posted = refl
-asks (Atomic type) = refl
-
 -- all words of a script ask
 script_words_ask : (host : NetHost) → All (λ a. is_request a.op ≡ true) (script_accesses host)
 script_words_ask host = All-joined (λ a. is_request a.op ≡ true) (λ p. transaction_accesses host p.0 p.1) (enumerate_from 0 host.script)
-    (λ k p below. All-made (λ a. is_request a.op ≡ true) (access_at (transaction_message host (get_or (enumerate_from 0 host.script) k p).0 (get_or (enumerate_from 0 host.script) k p).1)) (get_or (enumerate_from 0 host.script) k p).1.count (λ j inside. asks (get_or (enumerate_from 0 host.script) k p).1.kind))
-
-same_number : (n : ℕ) → (n == n) ≡ true
-same_number n = grind (arith, nat_tests)
+    (λ k p below. All-made (λ a. is_request a.op ≡ true) (access_at (transaction_message host (get_or (enumerate_from 0 host.script) k p).0 (get_or (enumerate_from 0 host.script) k p).1)) (get_or (enumerate_from 0 host.script) k p).1.count (λ j inside. request_asks (get_or (enumerate_from 0 host.script) k p).1.kind))
 
 other_number : (m n : ℕ) → m ≢ n → (m == n) ≡ false
 other_number m n other = grind (arith, nat_tests)
@@ -55,7 +46,7 @@ found_by_id (host ∷ hosts) apart (suc k) d below =
 
 module _ (network : Network) (scripts : HasScripts network) where
   -- what holds of each host's script holds of the script of any id, which may be none
-  script_fact : (P : ℕ → List Access → Type 0) → ((id : ℕ) → P id []) → All (λ host. P host.id (script_accesses host)) network.hosts → (id : ℕ) → P id (script_of network id)
+  script_fact : (P : ℕ → List Access → Type 0) → ((id : ℕ) → P id []) → All (λ host. P host.id (script_accesses host)) network.hosts → (id : ℕ) → P id (words_of_script network id)
   script_fact P none each id = by_found (find (λ h. h.id == id) network.hosts) refl
     where
       by_found : (o : Option NetHost) → find (λ h. h.id == id) network.hosts ≡ o → P id (option_map_or script_accesses o [])
@@ -66,28 +57,28 @@ module _ (network : Network) (scripts : HasScripts network) where
           let same : host.id ≡ id = grind (arith, nat_tests) in
           subst (λ (n : ℕ). P n (script_accesses host)) same is.1
 
-  pub script_asks : (id : ℕ) → All (λ a. is_request a.op ≡ true) (script_of network id)
+  pub script_asks : (id : ℕ) → All (λ a. is_request a.op ≡ true) (words_of_script network id)
   script_asks = script_fact (λ id list. All (λ a. is_request a.op ≡ true) list) (λ id. All-nil (λ (a : Access). is_request a.op ≡ true)) (λ k d below. script_words_ask (get_or network.hosts k d))
 
-  pub script_rises : (id : ℕ) → AllPairs (λ a b. a.src < b.src) (script_of network id)
+  pub script_rises : (id : ℕ) → AllPairs (λ a b. a.src < b.src) (words_of_script network id)
   script_rises = script_fact (λ id list. AllPairs (λ a b. a.src < b.src) list) (λ id i j d below inside. absurd (omega arith)) (λ k d below. reply_addresses_rise (get_or network.hosts k d) (scripts.transactions k d below))
 
-  pub script_told : (id : ℕ) → All (λ a. a.src / 2 ^ 40 ≡ id) (script_of network id)
+  pub script_told : (id : ℕ) → All (λ a. a.src / 2 ^ 40 ≡ id) (words_of_script network id)
   script_told = script_fact (λ id list. All (λ a. a.src / 2 ^ 40 ≡ id) list) (λ id. All-nil (λ (a : Access). a.src / 2 ^ 40 ≡ id)) (λ k d below. reply_addresses_tell (get_or network.hosts k d) (scripts.transactions k d below) (scripts.few k d below))
 
   -- so of what a flow asks for
-  pub asked_asks : (f : NetFlow) → All (λ a. is_request a.op ≡ true) (asked_of network f)
-  asked_asks f = All-filter (is_of network f) (λ a. is_request a.op ≡ true) (script_of network f.host) (script_asks f.host)
+  pub asked_asks : (f : NetFlow) → All (λ a. is_request a.op ≡ true) (asked_words network f)
+  asked_asks f = All-filter (is_of network f) (λ a. is_request a.op ≡ true) (words_of_script network f.host) (script_asks f.host)
 
-  pub asked_rises : (f : NetFlow) → AllPairs (λ a b. a.src < b.src) (asked_of network f)
-  asked_rises f = AllPairs-filter (λ a b. a.src < b.src) (is_of network f) (script_of network f.host) (script_rises f.host)
+  pub asked_rises : (f : NetFlow) → AllPairs (λ a b. a.src < b.src) (asked_words network f)
+  asked_rises f = AllPairs-filter (λ a b. a.src < b.src) (is_of network f) (words_of_script network f.host) (script_rises f.host)
 
-  pub asked_told : (f : NetFlow) → All (λ a. a.src / 2 ^ 40 ≡ f.host) (asked_of network f)
-  asked_told f = All-filter (is_of network f) (λ a. a.src / 2 ^ 40 ≡ f.host) (script_of network f.host) (script_told f.host)
+  pub asked_told : (f : NetFlow) → All (λ a. a.src / 2 ^ 40 ≡ f.host) (asked_words network f)
+  asked_told f = All-filter (is_of network f) (λ a. a.src / 2 ^ 40 ≡ f.host) (words_of_script network f.host) (script_told f.host)
 
   -- what a host's script has for a device is what the flow asks for
-  pub own_script : All (λ host. (d : ℕ) → (let f : NetFlow = record { host = host.id; device = d } in flow_part network host d (script_accesses host) ≡ asked_of network f)) network.hosts
+  pub own_script : All (λ host. (d : ℕ) → (let f : NetFlow = record { host = host.id; device = d } in flow_part network host d (script_accesses host) ≡ asked_words network f)) network.hosts
   own_script k h below d =
       let host = get_or network.hosts k h in
       let f : NetFlow = record { host = host.id; device = d } in
-      ap (λ (o : Option NetHost). words_of network f (option_map_or script_accesses o [])) (sym (found_by_id network.hosts scripts.ids k h below))
+      ap (λ (o : Option NetHost). words_of_flow network f (option_map_or script_accesses o [])) (sym (found_by_id network.hosts scripts.ids k h below))

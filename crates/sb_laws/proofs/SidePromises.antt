@@ -2,6 +2,7 @@
 use Rattle.std.proofs.Common.{◌≡◌, ◌<◌, ℕ, ◌+◌, Bool, true, false, List, [], ◌∷◌, length, refl, sym, ap, ◌∙◌, arith, subst}
 use Rattle.std.specs.Prelude.{◌==◌, ◌||◌, ◌&&◌, not, All, Option, Some, None, is_some}
 use Rattle.std.proofs.lemmas.Bool.Decides.{nat_tests}
+use Rattle.std.proofs.lemmas.Bool.{or_parts}
 use Rattle.sb_link.specs.Ends.{HaveMet}
 use Rattle.sb_packet.specs.Messages.{Message}
 use Rattle.sb_packet.specs.Prefixes.{IsPrefix}
@@ -22,7 +23,7 @@ pub port_promise : (m : Moment) (r : ℕ) (port : PortSide) → IsFit port.plan 
 port_promise m r port fit has = record {
   in_order = subst (λ (list : List Item). IsPrefix (item_accesses list) (m.offered r)) (sym has.sent) (rw has.offered (sent_in_order port.plan port.state fit));
   sound = subst (λ (list : List Item). All IsSound (item_messages list)) (sym has.sent) fit.sound;
-  closed = λ shut. ap item_accesses has.sent ∙ closed_all_sent port.plan port.state fit (ap has_close (sym has.sent) ∙ shut) ∙ sym has.offered;
+  closed = λ close_sent. ap item_accesses has.sent ∙ closed_all_sent port.plan port.state fit (ap has_close (sym has.sent) ∙ close_sent) ∙ sym has.offered;
 }
 
 pub link_promise : (m : Moment) (r : ℕ) (port : PortSide) (ring : RingSide) → HasPort m r port → HasRing m r ring → AreInTurn port.plan port.state.sent → IsPrefix ring.received port.state.sent → IsLink m r
@@ -39,11 +40,6 @@ right_true : (a b : Bool) → b ≡ true → (a || b) ≡ true
 right_true true b h = refl
 right_true false b h = h
 
--- what neither of two tests passes
-both_false : (a b : Bool) → (a || b) ≡ false → (a ≡ false) × (b ≡ false)
-both_false true b e = absurd (cc)
-both_false false b e = (refl, e)
-
 none_held : {A : Type 0} (o : Option A) → is_some o ≡ false → o ≡ None
 none_held None e = refl
 none_held (Some x) e = absurd (cc)
@@ -56,19 +52,19 @@ nothing_owed s e = by_list s.waiting.owed refl
     by_list [] is = is
     by_list (m ∷ rest) is = absurd (let never = rw is at e in cc)
 
-told_and_shut : (told shut : Bool) → (told && not shut) ≡ false → told ≡ true → shut ≡ true
+told_and_shut : (told close_sent : Bool) → (told && not close_sent) ≡ false → told ≡ true → close_sent ≡ true
 told_and_shut true true e t = refl
 told_and_shut true false e t = absurd (cc)
-told_and_shut false shut e t = absurd (cc)
+told_and_shut false close_sent e t = absurd (cc)
 
 pub idle_port : (s : RoundEnd) (r : ℕ) (port : PortSide) → IsFit port.plan port.state → ShowsPort s r port → (has_rest port ≡ true → is_full port ≡ true) → IsIdlePort s r
 idle_port s r port fit shows full = record {
   owes = λ e. shows.full ∙ full (left_true (owes port.state) (is_some port.state.waiting.held) (sym shows.owes ∙ e));
   merges = λ e. shows.full ∙ full (right_true (owes port.state) (is_some port.state.waiting.held) (sym shows.merges ∙ e));
   settled = λ owes_none merges_none. ap item_accesses shows.lists.sent
-      ∙ all_sent port.plan port.state fit (nothing_owed port.state (both_false (some_owed port.state.waiting) (port.state.closing && not port.state.shut) (sym shows.owes ∙ owes_none)).0) (none_held port.state.waiting.held (sym shows.merges ∙ merges_none)) ∙ sym shows.lists.offered;
+      ∙ all_sent port.plan port.state fit (nothing_owed port.state (or_parts (some_owed port.state.waiting) (port.state.close_requested && not port.state.close_sent) (sym shows.owes ∙ owes_none)).0) (none_held port.state.waiting.held (sym shows.merges ∙ merges_none)) ∙ sym shows.lists.offered;
   closed = λ told owes_none merges_none. ap has_close shows.lists.sent ∙ sym fit.close
-      ∙ told_and_shut port.state.closing port.state.shut (both_false (some_owed port.state.waiting) (port.state.closing && not port.state.shut) (sym shows.owes ∙ owes_none)).1 (sym shows.told ∙ told);
+      ∙ told_and_shut port.state.close_requested port.state.close_sent (or_parts (some_owed port.state.waiting) (port.state.close_requested && not port.state.close_sent) (sym shows.owes ∙ owes_none)).1 (sym shows.told ∙ told);
 }
 
 pub true_ring : (s : RoundEnd) (r : ℕ) (port : PortSide) (ring : RingSide) → ShowsPort s r port → ShowsRing s r ring → AreInTurn port.plan port.state.sent → 0 < port.plan.capacity →

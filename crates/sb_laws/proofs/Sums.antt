@@ -4,6 +4,7 @@ use Rattle.std.specs.Prelude.{sum_by, All, AllPairs}
 use Rattle.std.proofs.lemmas.List.Elements.{All-head, All-tail}
 use Rattle.std.proofs.lemmas.List.Sums.{sum_by-cons}
 use Rattle.sb_packet.proofs.Lists.{AllPairs-head, AllPairs-tail}
+use Rattle.sb_flow.proofs.WordBounds.{sum_by-zeros}
 
 module _ {A : Type 0} (f g : A → ℕ) where
   -- what is no more at each element is no more in sum
@@ -25,13 +26,9 @@ module _ {A : Type 0} (f g : A → ℕ) where
   sum_by_plus [] = refl
   sum_by_plus (x ∷ xs) = let rest = sum_by_plus xs in omega (arith, sum_by-cons (λ (y : A). f y + g y) x xs, sum_by-cons f x xs, sum_by-cons g x xs)
 
-pub sum_by_nothing : {A : Type 0} (xs : List A) → sum_by (λ x. 0) xs ≡ 0
-sum_by_nothing [] = refl
-sum_by_nothing {A} (x ∷ xs) = let rest = sum_by_nothing xs in omega (arith, sum_by-cons (λ (y : A). 0) x xs)
-
 -- a sum over two lists is the same in either order
 pub sum_by_swap : {A B : Type 0} (f : A → B → ℕ) (xs : List A) (ys : List B) → sum_by (λ x. sum_by (f x) ys) xs ≡ sum_by (λ y. sum_by (λ x. f x y) xs) ys
-sum_by_swap {A} {B} f [] ys = sym (sum_by_nothing ys)
+sum_by_swap {A} {B} f [] ys = sym (sum_by-zeros ys)
 sum_by_swap {A} {B} f (x ∷ xs) ys =
     sum_by-cons (λ (z : A). sum_by (f z) ys) x xs
     ∙ ap (λ (n : ℕ). sum_by (f x) ys + n) (sum_by_swap f xs ys)
@@ -48,7 +45,7 @@ sum_of_one test g most (k ∷ ks) small none once = by_test (test k) refl (sum_o
     others = All-tail (λ k. test k ≡ false → g k ≡ 0) k ks none
 
     nothing_more : test k ≡ true → sum_by g ks ≡ 0
-    nothing_more t = sum_by_same g (λ j. 0) ks (λ i d below. others i d below (AllPairs-head (λ j k. test j ≡ true → test k ≡ false) k ks once i d below t)) ∙ sum_by_nothing ks
+    nothing_more t = sum_by_same g (λ j. 0) ks (λ i d below. others i d below (AllPairs-head (λ j k. test j ≡ true → test k ≡ false) k ks once i d below t)) ∙ sum_by-zeros ks
 
     by_test : (b : Bool) → test k ≡ b → sum_by g ks ≤ most → sum_by g (k ∷ ks) ≤ most
     by_test true t rest =

@@ -4,14 +4,10 @@ use Rattle.std.specs.Prelude.{All, Option, Some, None, option_and_then}
 use Rattle.std.proofs.lemmas.List.Elements.{All-nil, All-cons, All-head, All-tail, All-weaker}
 use Rattle.sb_packet.specs.Networks.{Network}
 use Rattle.sb_packet.specs.Ways.{route_at, router_before, router_after, next_link, links_from}
+use Rattle.sb_flow.proofs.Walks.{links_from-None}
 use Rattle.sb_laws.specs.NetworkWays.{IsWayTo}
 use Rattle.sb_laws.specs.Routed.{LeadsOn, IsRoute, IsRouted}
 use Rattle.sb_laws.proofs.LinksOfWays.{device_or_router}
-
--- behind no link there is none
-no_more : (n : ℕ) (network : Network) (d : ℕ) → links_from n network d None ≡ []
-no_more zero network d = refl
-no_more (suc n) network d = refl
 
 module _ (network : Network) (routed : IsRouted network) (d : ℕ) (there : d < length network.devices) where
   -- from a link that leaves router q each leads to a later router
@@ -26,7 +22,7 @@ module _ (network : Network) (routed : IsRouted network) (d : ℕ) (there : d < 
   pub walked : (n k : ℕ) → k < length network.links → LeadsOn network d k → ((q : ℕ) → router_after network k ≡ Some q → length network.routers ≤ q + n) →
       All (λ i. (r : ℕ) → router_after network i ≡ Some r → (j : ℕ) × (route_at network d r ≡ Some j)) (k ∷ links_from n network d (next_link network d k)) →
       IsWayTo network d (k ∷ links_from n network d (next_link network d k))
-  walked n k here (inl leads) room routes = subst (λ (l : List ℕ). IsWayTo network d (k ∷ l)) (sym (ap (links_from n network d) ends ∙ no_more n network d)) (here, leads)
+  walked n k here (inl leads) room routes = subst (λ (l : List ℕ). IsWayTo network d (k ∷ l)) (sym (ap (links_from n network d) ends ∙ links_from-None n network d)) (here, leads)
     where
       ends : next_link network d k ≡ None
       ends = by_router (router_after network k) refl

@@ -5,7 +5,7 @@ use Rattle.std.specs.List.{list_any}
 use Rattle.std.proofs.lemmas.Bool.Decides.{nat_tests}
 use Rattle.std.proofs.lemmas.List.Elements.{All-head, All-tail, All-filter, filter_passes}
 use Rattle.sb_packet.specs.Plans.{NetFlow}
-use Rattle.sb_laws.specs.Courses.{Course, way_of, goes_over, flows_over, last_of}
+use Rattle.sb_laws.specs.Courses.{Course, way_rings, goes_over, flows_over, last_of}
 
 -- a fact of each of some numbers holds of one that is among them
 pub at_number : (P : ℕ → Type 0) (r : ℕ) (ks : List ℕ) → All P ks → list_any (λ k. k == r) ks ≡ true → P r
@@ -17,9 +17,9 @@ at_number P r (k ∷ ks) h e = by_test (k == r) refl (at_number P r ks (All-tail
     by_test false t later e = later e
 
 -- a fact of each flow and each ring of its way, seen from a ring
-pub All-at_ring : (c : Course) (P : NetFlow → ℕ → Type 0) → All (λ f. All (P f) (way_of c f)) c.flows → (r : ℕ) → All (λ f. P f r) (flows_over c r)
+pub All-at_ring : (c : Course) (P : NetFlow → ℕ → Type 0) → All (λ f. All (P f) (way_rings c f)) c.flows → (r : ℕ) → All (λ f. P f r) (flows_over c r)
 All-at_ring c P h r k d below =
-    at_number (P _) r (way_of c _) (All-filter (goes_over c r) (λ f. All (P f) (way_of c f)) c.flows h k d below) (filter_passes (goes_over c r) c.flows k d below)
+    at_number (P _) r (way_rings c _) (All-filter (goes_over c r) (λ f. All (P f) (way_rings c f)) c.flows h k d below) (filter_passes (goes_over c r) c.flows k d below)
 
 -- a fact of each ring of a way holds of the last
 pub at_last : (P : ℕ → Type 0) (k : ℕ) (js : List ℕ) → All P (k ∷ js) → P (last_of k js)

@@ -14,10 +14,10 @@ use Rattle.sb_packet.specs.Plans.{NetFlow}
 use Rattle.sb_packet.specs.declared.entry.Entry.{Entry}
 use Rattle.sb_packet.proofs.Lists.{filter_all}
 use Rattle.sb_packet.specs.Rings.{is_answered}
-use Rattle.sb_laws.specs.Flows.{is_of, words_of, script_of, asked_of, answered_of, device_answers, given_to, replies_to}
+use Rattle.sb_laws.specs.Flows.{is_of, words_of_flow, words_of_script, asked_words, answered_of, device_answers, given_to, replies_to}
 use Rattle.sb_laws.specs.Moments.{Moment}
-use Rattle.sb_laws.specs.Courses.{flows_over, budget_over, is_carried, goes_over, AlongWay}
-use Rattle.sb_laws.specs.Promises.{Forwards, Offers, KeepsPromises}
+use Rattle.sb_laws.specs.Courses.{flows_over, budget_over, is_of_ring, goes_over, AlongWay}
+use Rattle.sb_laws.specs.Promises.{ForwardsFlow, IsFlowSource, KeepsPromises}
 use Rattle.sb_laws.specs.Arrivals.{HasEnded, CarriesSources}
 use Rattle.sb_laws.specs.Layouts.{Layout, IsLayout}
 use Rattle.sb_laws.specs.Runs.{IsMomentOf}
@@ -63,10 +63,10 @@ module _ (network : Network) where
       by_place (Some k) e = let same : k ≡ f.device = grind (arith, nat_tests) in ap (λ (d : ℕ). answer_at_first (opening_memory network d) (journal_accesses journal d) a) same
 
   -- so of all words that it asks for
-  pub replies_at_first : (journal : List Entry) (f : NetFlow) → All (λ a. is_request a.op ≡ true) (asked_of network f) →
-      All (λ a. access_reply network journal a ≡ answer_at_first (opening_memory network f.device) (journal_accesses journal f.device) a) (asked_of network f)
+  pub replies_at_first : (journal : List Entry) (f : NetFlow) → All (λ a. is_request a.op ≡ true) (asked_words network f) →
+      All (λ a. access_reply network journal a ≡ answer_at_first (opening_memory network f.device) (journal_accesses journal f.device) a) (asked_words network f)
   replies_at_first journal f asks k a below =
-      reply_at_first journal f (get_or (asked_of network f) k a) (asks k a below) (filter_passes (is_of network f) (script_of network f.host) k a below)
+      reply_at_first journal f (get_or (asked_words network f) k a) (asks k a below) (filter_passes (is_of network f) (words_of_script network f.host) k a below)
 
 module _ (network : Network) (layout : Layout) (journal : List Entry) (m : Moment) (laid : IsLayout network layout) (now : IsMomentOf network layout journal m) where
   -- no more of a flow is answered than its script has that is answered
@@ -84,13 +84,13 @@ module _ (network : Network) (layout : Layout) (journal : List Entry) (m : Momen
       let d = f.device in
       let ring = layout.into d in
       let fs = flows_over layout.requests ring in
-      let words : All (λ a. is_of_some network fs a ≡ true) (journal_accesses journal d) = subst (All (λ a. is_carried network layout.requests ring a ≡ true)) (sym (now.recorded d there)) (now.carried ring (laid.into_has d there)) in
+      let words : All (λ a. is_of_some network fs a ≡ true) (journal_accesses journal d) = subst (All (λ a. is_of_ring network layout.requests ring a ≡ true)) (sym (now.recorded d there)) (now.carried ring (laid.into_has d there)) in
       let answers = All-given (λ a. is_of_some network fs a ≡ true) (λ k a b e h. some_same network fs a b (answer_is network k a b e) h) (opening_memory network d) (journal_accesses journal d) words in
       let kept = ap length (filter_all (is_of_some network fs) (device_answers network journal d) answers) in
       let cover = flows_cover network fs (device_answers network journal d) in
-      let each = sum_by_same (λ g. length (words_of network g (device_answers network journal d))) (λ g. length (given_to network journal g)) fs
-      (All-weaker (λ g. g.device ≡ d) (λ g. length (words_of network g (device_answers network journal d)) ≡ length (given_to network journal g))
-      (λ g e. ap (λ (k : ℕ). length (words_of network g (device_answers network journal k))) (sym e)) fs (laid.into_flows d there)) in
+      let each = sum_by_same (λ g. length (words_of_flow network g (device_answers network journal d))) (λ g. length (given_to network journal g)) fs
+      (All-weaker (λ g. g.device ≡ d) (λ g. length (words_of_flow network g (device_answers network journal d)) ≡ length (given_to network journal g))
+      (λ g e. ap (λ (k : ℕ). length (words_of_flow network g (device_answers network journal k))) (sym e)) fs (laid.into_flows d there)) in
       let moved : sum_by (λ g. length (given_to network journal g)) (flows_over layout.answers (layout.answers.first f)) ≡ sum_by (λ g. length (given_to network journal g)) fs =
       ap (λ (gs : List NetFlow). sum_by (λ g. length (given_to network journal g)) gs) same in
       let few = sum_by_le (λ g. length (given_to network journal g)) layout.answers.allowance (flows_over layout.answers (layout.answers.first f))
@@ -116,26 +116,26 @@ module _ (network : Network) (layout : Layout) (journal : List Entry) (m : Momen
     one_way = laid.one_way_back;
     carried = now.carried_back;
     allowed = allowed_back;
-    sources = subst (All (Offers network layout.answers m (given_to network journal))) (sym laid.same_flows)
-        (All-weaker (λ f. m.offered (layout.answers.first f) ≡ device_answers network journal f.device) (Offers network layout.answers m (given_to network journal))
-        (λ f e. record { in_order = same_prefix (ap (words_of network f) e); closed = λ shut. ap (words_of network f) e }) layout.requests.flows device_offers);
-    routers = subst (All (λ f. AlongWay (Forwards network layout.answers m f) (layout.answers.first f) (layout.answers.rest f))) (sym laid.same_flows) now.routers_back;
+    sources = subst (All (IsFlowSource network layout.answers m (given_to network journal))) (sym laid.same_flows)
+        (All-weaker (λ f. m.offered (layout.answers.first f) ≡ device_answers network journal f.device) (IsFlowSource network layout.answers m (given_to network journal))
+        (λ f e. record { in_order = same_prefix (ap (words_of_flow network f) e); closed = λ close_sent. ap (words_of_flow network f) e }) layout.requests.flows device_offers);
+    routers = subst (All (λ f. AlongWay (ForwardsFlow network layout.answers m f) (layout.answers.first f) (layout.answers.rest f))) (sym laid.same_flows) now.routers_back;
   }
 
   -- where the journal has all that a flow asks for, what its device answers is what the journal replies
-  given_are_replies : (f : NetFlow) → f.device < length network.devices → words_of network f (journal_accesses journal f.device) ≡ asked_of network f → given_to network journal f ≡ replies_to network journal f
+  given_are_replies : (f : NetFlow) → f.device < length network.devices → words_of_flow network f (journal_accesses journal f.device) ≡ asked_words network f → given_to network journal f ≡ replies_to network journal f
   given_are_replies f there whole =
       let memory = opening_memory network f.device in
       let words = journal_accesses journal f.device in
       flow_answers_found network f memory words (journal_differs network layout journal m laid now f.device there)
       ∙ ap (filter_map (answer_at_first memory words)) whole
-      ∙ sym (filter_map_same (access_reply network journal) (answer_at_first memory words) (asked_of network f) (replies_at_first network journal f (asked_asks network laid.scripts f)))
+      ∙ sym (filter_map_same (access_reply network journal) (answer_at_first memory words) (asked_words network f) (replies_at_first network journal f (asked_asks network laid.scripts f)))
 
   module _ (ended : All (HasEnded layout.requests m) layout.requests.flows) (ended_back : All (HasEnded layout.answers m) layout.requests.flows) where
-    pub whole_history : (f : NetFlow) → words_of network f (journal_accesses journal f.device) ≡ asked_of network f
-    whole_history = each_flow network layout journal m laid now (λ f list. list ≡ asked_of network f) (λ f none. sym none)
-        (at_device network layout journal m laid now (λ f list. list ≡ asked_of network f)
-        (whole_law network layout.requests m (asked_of network) (request_course network layout journal m laid now) ended))
+    pub whole_history : (f : NetFlow) → words_of_flow network f (journal_accesses journal f.device) ≡ asked_words network f
+    whole_history = each_flow network layout journal m laid now (λ f list. list ≡ asked_words network f) (λ f none. sym none)
+        (at_device network layout journal m laid now (λ f list. list ≡ asked_words network f)
+        (whole_law network layout.requests m (asked_words network) (request_course network layout journal m laid now) ended))
 
     pub ended_answers : All (HasEnded layout.answers m) layout.answers.flows
     ended_answers = subst (All (HasEnded layout.answers m)) (sym laid.same_flows) ended_back
@@ -153,7 +153,7 @@ module _ (network : Network) (layout : Layout) (journal : List Entry) (m : Momen
     pub whole_run_law : IsWholeRun network layout journal m
     whole_run_law = record {
       history = λ k h below d. (let f : NetFlow = record { host = (get_or network.hosts k h).id; device = d } in whole_history f) ∙ sym (own_script network laid.scripts k h below d);
-      requests = ring_whole_law network layout.requests m (asked_of network) (request_course network layout journal m laid now) ended;
+      requests = ring_whole_law network layout.requests m (asked_words network) (request_course network layout journal m laid now) ended;
       answers = carried_replies;
       no_others = now.carried;
       no_other_answers = now.carried_back;

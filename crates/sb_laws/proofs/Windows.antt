@@ -13,10 +13,10 @@ use Rattle.sb_packet.specs.Traffic.{item_accesses}
 use Rattle.sb_packet.specs.declared.entry.Entry.{Entry}
 use Rattle.sb_packet.proofs.Lists.{All-kept}
 use Rattle.sb_packet.specs.Rings.{is_answered}
-use Rattle.sb_laws.specs.Flows.{is_of, words_of, asked_of, given_to}
+use Rattle.sb_laws.specs.Flows.{is_of, words_of_flow, asked_words, given_to}
 use Rattle.sb_laws.specs.Moments.{Moment, arrived}
-use Rattle.sb_laws.specs.Courses.{Course, way_of, budget_over, came_for, AlongWay}
-use Rattle.sb_laws.specs.Promises.{IsLink, IsPort, Forwards}
+use Rattle.sb_laws.specs.Courses.{Course, way_rings, budget_over, came_for_ring, AlongWay}
+use Rattle.sb_laws.specs.Promises.{IsLink, IsPort, ForwardsFlow}
 use Rattle.sb_laws.specs.Layouts.{Layout, IsLayout, ring_home}
 use Rattle.sb_laws.specs.Runs.{IsMomentOf}
 use Rattle.sb_host.specs.Outcomes.{is_answer_to}
@@ -40,18 +40,18 @@ record Rests (m : Moment) (r : ℕ) : Type 0 where
   held : m.held r ≡ []
 
 -- where nothing is under way, all that was offered first has come by each ring of the way
-settled_along : (network : Network) (c : Course) (m : Moment) → ((r : ℕ) → IsLink m r) → ((r : ℕ) → IsPort m r) → ((r : ℕ) → came_for network c m r ≤ budget_over c r) →
-    (f : NetFlow) (source : List Access) (k : ℕ) (js : List ℕ) → AlongWay (Forwards network c m f) k js → All (Rests m) (k ∷ js) → words_of network f (m.offered k) ≡ source →
-    All (λ r. words_of network f (arrived m r) ≡ source) (k ∷ js)
+settled_along : (network : Network) (c : Course) (m : Moment) → ((r : ℕ) → IsLink m r) → ((r : ℕ) → IsPort m r) → ((r : ℕ) → came_for_ring network c m r ≤ budget_over c r) →
+    (f : NetFlow) (source : List Access) (k : ℕ) (js : List ℕ) → AlongWay (ForwardsFlow network c m f) k js → All (Rests m) (k ∷ js) → words_of_flow network f (m.offered k) ≡ source →
+    All (λ r. words_of_flow network f (arrived m r) ≡ source) (k ∷ js)
 settled_along network c m links ports room f source k [] ways rests e =
-    All-cons (λ r. words_of network f (arrived m r) ≡ source) k [] (ap (words_of network f) (All-head (Rests m) k [] rests).received ∙ e) (All-nil (λ r. words_of network f (arrived m r) ≡ source))
+    All-cons (λ r. words_of_flow network f (arrived m r) ≡ source) k [] (ap (words_of_flow network f) (All-head (Rests m) k [] rests).received ∙ e) (All-nil (λ r. words_of_flow network f (arrived m r) ≡ source))
 settled_along network c m links ports room f source k (j ∷ js) ways rests e =
     let rest = All-head (Rests m) k (j ∷ js) rests in
-    let here : words_of network f (arrived m k) ≡ source = ap (words_of network f) rest.received ∙ e in
-    let none : words_of network f (m.held k) ≡ [] = ap (words_of network f) rest.held in
-    All-cons (λ r. words_of network f (arrived m r) ≡ source) k (j ∷ js) here
+    let here : words_of_flow network f (arrived m k) ≡ source = ap (words_of_flow network f) rest.received ∙ e in
+    let none : words_of_flow network f (m.held k) ≡ [] = ap (words_of_flow network f) rest.held in
+    All-cons (λ r. words_of_flow network f (arrived m r) ≡ source) k (j ∷ js) here
     (settled_along network c m links ports room f source j js ways.1 (All-tail (Rests m) k (j ∷ js) rests)
-    (sym (append-nil (words_of network f (m.offered j))) ∙ ap (λ (l : List Access). words_of network f (m.offered j) ++ l) (sym none)
+    (sym (append-nil (words_of_flow network f (m.offered j))) ∙ ap (λ (l : List Access). words_of_flow network f (m.offered j) ++ l) (sym none)
     ∙ sym (ways.0.whole (λ i d below. all_sound network c m links ports (get_or (c.ins j) i d)) (room j)) ∙ here))
 
 -- a word that is answered has among the answers one of its flow that looks like it
@@ -96,23 +96,23 @@ module _ (network : Network) (layout : Layout) (journal : List Entry) (stages : 
 
   -- what a flow's host has offered was taken, and what its device answered came back
   record AllCame (f : NetFlow) : Type 0 where
-    taken : words_of network f (journal_accesses journal f.device) ≡ words_of network f (s.at.offered (layout.requests.first f))
-    back : words_of network f (arrived s.at (ring_home layout f)) ≡ given_to network journal f
+    taken : words_of_flow network f (journal_accesses journal f.device) ≡ words_of_flow network f (s.at.offered (layout.requests.first f))
+    back : words_of_flow network f (arrived s.at (ring_home layout f)) ≡ given_to network journal f
 
   all_came : All AllCame layout.requests.flows
   all_came i d below =
       let f = get_or layout.requests.flows i d in
       let ways : IsWithin stages layout f = within i d below in
-      let there = All-weaker (λ r. r < stages.rings) (Rests s.at) rests (way_of layout.requests f) ways.there in
-      let back = All-weaker (λ r. r < stages.rings) (Rests s.at) rests (way_of layout.answers f) ways.back in
-      let asked = settled_along network layout.requests s.at now.links now.ports (room network layout.requests s.at (asked_of network) (request_course network layout journal s.at laid now))
-      f (words_of network f (s.at.offered (layout.requests.first f))) (layout.requests.first f) (layout.requests.rest f) (now.routers i d below) there refl in
+      let there = All-weaker (λ r. r < stages.rings) (Rests s.at) rests (way_rings layout.requests f) ways.there in
+      let back = All-weaker (λ r. r < stages.rings) (Rests s.at) rests (way_rings layout.answers f) ways.back in
+      let asked = settled_along network layout.requests s.at now.links now.ports (room network layout.requests s.at (asked_words network) (request_course network layout journal s.at laid now))
+      f (words_of_flow network f (s.at.offered (layout.requests.first f))) (layout.requests.first f) (layout.requests.rest f) (now.routers i d below) there refl in
       let given = settled_along network layout.answers s.at now.links now.ports (room network layout.answers s.at (given_to network journal) (answer_course network layout journal s.at laid now))
-      f (given_to network journal f) (layout.answers.first f) (layout.answers.rest f) (now.routers_back i d below) back (ap (words_of network f) (device_offers network layout journal s.at laid now i d below)) in
+      f (given_to network journal f) (layout.answers.first f) (layout.answers.rest f) (now.routers_back i d below) back (ap (words_of_flow network f) (device_offers network layout journal s.at laid now i d below)) in
       record {
-        taken = ap (words_of network f) (now.recorded f.device (laid.devices i d below))
-            ∙ at_number (λ r. words_of network f (arrived s.at r) ≡ words_of network f (s.at.offered (layout.requests.first f))) (layout.into f.device) (way_of layout.requests f) asked (laid.leads i d below);
-        back = at_last (λ r. words_of network f (arrived s.at r) ≡ given_to network journal f) (layout.answers.first f) (layout.answers.rest f) given;
+        taken = ap (words_of_flow network f) (now.recorded f.device (laid.devices i d below))
+            ∙ at_number (λ r. words_of_flow network f (arrived s.at r) ≡ words_of_flow network f (s.at.offered (layout.requests.first f))) (layout.into f.device) (way_rings layout.requests f) asked (laid.leads i d below);
+        back = at_last (λ r. words_of_flow network f (arrived s.at r) ≡ given_to network journal f) (layout.answers.first f) (layout.answers.rest f) given;
       }
 
   -- so no host misses an answer
@@ -124,12 +124,12 @@ module _ (network : Network) (layout : Layout) (journal : List Entry) (stages : 
 
       by_flow : AllCame f → ⊥
       by_flow came =
-          let offered : words_of network f (s.at.offered (layout.requests.first f)) ≡ words_of network f (s.at.offered r) = ap (λ (k : ℕ). words_of network f (s.at.offered k)) misses.leaves in
+          let offered : words_of_flow network f (s.at.offered (layout.requests.first f)) ≡ words_of_flow network f (s.at.offered r) = ap (λ (k : ℕ). words_of_flow network f (s.at.offered k)) misses.leaves in
           let taken = subst (λ (list : List Access). Contains list misses.word) (sym (came.taken ∙ offered)) misses.offered in
           let words = journal_accesses journal f.device in
-          let of_f = All-contains (λ a. is_of network f a ≡ true) (words_of network f words) misses.word (filter_passes (is_of network f) words) taken in
-          let asks = All-contains (λ a. is_request a.op ≡ true) (words_of network f words) misses.word (All-prefix (λ (a : Access). is_request a.op ≡ true) (history network layout journal s.at laid now f) (asked_asks network laid.scripts f)) taken in
-          let in_journal = All-contains (Contains words) (words_of network f words) misses.word (All-filter (is_of network f) (Contains words) words (All-contains_itself words)) taken in
+          let of_f = All-contains (λ a. is_of network f a ≡ true) (words_of_flow network f words) misses.word (filter_passes (is_of network f) words) taken in
+          let asks = All-contains (λ a. is_request a.op ≡ true) (words_of_flow network f words) misses.word (All-prefix (λ (a : Access). is_request a.op ≡ true) (history network layout journal s.at laid now f) (asked_asks network laid.scripts f)) taken in
+          let in_journal = All-contains (Contains words) (words_of_flow network f words) misses.word (All-filter (is_of network f) (Contains words) words (All-contains_itself words)) taken in
           let home = arrived s.at (ring_home layout f) in
           let missing = All-filter (is_of network f) (λ x. is_answer_to misses.word x ≡ false) home (none_found (is_answer_to misses.word) home misses.missing) in
           let not_given = subst (All (λ x. is_answer_to misses.word x ≡ false)) came.back missing in

@@ -21,12 +21,12 @@ pub record Course : Type 0 where
   pub ins : ℕ → List ℕ
 
 -- all rings of a flow's way
-abbrev pub way_of : Course → NetFlow → List ℕ
-way_of c f = c.first f ∷ c.rest f
+abbrev pub way_rings : Course → NetFlow → List ℕ
+way_rings c f = c.first f ∷ c.rest f
 
 -- a ring is on a flow's way
 abbrev pub goes_over : Course → ℕ → NetFlow → Bool
-goes_over c r f = list_any (λ k. k == r) (way_of c f)
+goes_over c r f = list_any (λ k. k == r) (way_rings c f)
 
 -- the flows that have a ring on their way
 abbrev pub flows_over : Course → ℕ → List NetFlow
@@ -37,16 +37,16 @@ abbrev pub budget_over : Course → ℕ → ℕ
 budget_over c r = sum_by c.allowance (flows_over c r)
 
 -- a word is of one of a ring's flows
-abbrev pub is_carried : Network → Course → ℕ → Access → Bool
-is_carried network c r a = list_any (λ f. is_of network f a) (flows_over c r)
+abbrev pub is_of_ring : Network → Course → ℕ → Access → Bool
+is_of_ring network c r a = list_any (λ f. is_of network f a) (flows_over c r)
 
 -- Only words of a ring's flows came by it.
 abbrev pub CarriesItsFlows : Network → Course → Moment → ℕ → Type 0
-CarriesItsFlows network c m r = All (λ a. is_carried network c r a ≡ true) (arrived m r)
+CarriesItsFlows network c m r = All (λ a. is_of_ring network c r a ≡ true) (arrived m r)
 
 -- how many words came to the router that a ring leaves and go on by that ring
-abbrev pub came_for : Network → Course → Moment → ℕ → ℕ
-came_for network c m r = sum_by (λ k. length (filter (is_carried network c r) (arrived m k))) (c.ins r)
+abbrev pub came_for_ring : Network → Course → Moment → ℕ → ℕ
+came_for_ring network c m r = sum_by (λ k. length (filter (is_of_ring network c r) (arrived m k))) (c.ins r)
 
 -- Each flow comes to a router by at most one ring.
 pub record IsOneWay (c : Course) (r : ℕ) : Type 0 where

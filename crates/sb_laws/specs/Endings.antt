@@ -7,14 +7,14 @@ use Rattle.sb_packet.specs.Plans.{NetFlow}
 use Rattle.sb_packet.specs.Traffic.{item_accesses}
 use Rattle.sb_packet.specs.declared.entry.Entry.{Entry}
 use Rattle.sb_packet.specs.Rings.{is_answered}
-use Rattle.sb_laws.specs.Flows.{words_of, is_among_flows}
+use Rattle.sb_laws.specs.Flows.{words_of_flow, is_among_flows}
 use Rattle.sb_laws.specs.Moments.{Moment, arrived}
-use Rattle.sb_laws.specs.Courses.{way_of}
+use Rattle.sb_laws.specs.Courses.{way_rings}
 use Rattle.sb_laws.specs.Layouts.{Layout, ring_home}
 use Rattle.sb_laws.specs.Runs.{IsMomentOf}
 use Rattle.sb_host.specs.Outcomes.{is_answer_to}
 use Rattle.sb_laws.specs.Stages.{Stages}
-use Rattle.sb_laws.specs.Standstills.{RoundEnd, is_closed, has_ended, IsStandstill}
+use Rattle.sb_laws.specs.Standstills.{RoundEnd, is_closed, is_ended, IsStandstill}
 
 -- The numbers of a ring whose ends have met, and over which nothing went since: what was sent and received, and what the sender knows of
 -- the other end and the receiver of this one.
@@ -34,23 +34,23 @@ pub record IsQuietSender (s : RoundEnd) (r : ℕ) : Type 0 where
 pub record IsQuietReceiver (stages : Stages) (s : RoundEnd) (r : ℕ) : Type 0 where
   pub holds : s.holds r ≡ None
   pub received : stages.comes_in r ≡ false → s.at.received r ≡ s.at.sent r
-  pub ended : stages.comes_in r ≡ true → has_ended s r ≡ true
+  pub ended : stages.comes_in r ≡ true → is_ended s r ≡ true
 
 -- A ring is done: its Close was sent, and was received, as far as its ends are here.
 pub record IsFinished (stages : Stages) (s : RoundEnd) (r : ℕ) : Type 0 where
   pub closed : stages.comes_in r ≡ false → is_closed s r ≡ true
-  pub ended : stages.goes_out r ≡ false → has_ended s r ≡ true
+  pub ended : stages.goes_out r ≡ false → is_ended s r ≡ true
 
 -- A host waits for a slot.
-pub record IsWaiting (stages : Stages) (s : RoundEnd) : Type 0 where
+pub record IsHostWaiting (stages : Stages) (s : RoundEnd) : Type 0 where
   pub at : ℕ
   pub is_ring : at < stages.rings
   pub waits : s.waits at ≡ true
 
 -- The ways of a flow are made of rings that have both ends here.
 pub record IsWithin (stages : Stages) (layout : Layout) (f : NetFlow) : Type 0 where
-  pub there : All (λ r. r < stages.rings) (way_of layout.requests f)
-  pub back : All (λ r. r < stages.rings) (way_of layout.answers f)
+  pub there : All (λ r. r < stages.rings) (way_rings layout.requests f)
+  pub back : All (λ r. r < stages.rings) (way_rings layout.answers f)
 
 -- The host that sends over a ring misses an answer: it has offered a word that is answered, and nothing that looks like the answer has come.
 pub record MissesAnswer (network : Network) (layout : Layout) (m : Moment) (r : ℕ) : Type 0 where
@@ -58,7 +58,7 @@ pub record MissesAnswer (network : Network) (layout : Layout) (m : Moment) (r : 
   pub word : Access
   pub is_flow : is_among_flows flow layout.requests.flows ≡ true
   pub leaves : layout.requests.first flow ≡ r
-  pub offered : Contains (words_of network flow (m.offered r)) word
+  pub offered : Contains (words_of_flow network flow (m.offered r)) word
   pub answered : is_answered word.op ≡ true
   pub missing : find (is_answer_to word) (arrived m (ring_home layout flow)) ≡ None
 

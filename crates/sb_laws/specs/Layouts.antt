@@ -3,7 +3,7 @@ use Rattle.std.specs.Prelude.{◌≡◌, ◌≢◌, ◌≤◌, ◌<◌, ℕ, tru
 use Rattle.sb_packet.specs.Networks.{Network}
 use Rattle.sb_packet.specs.Scripts.{IsTransaction}
 use Rattle.sb_packet.specs.Plans.{NetFlow}
-use Rattle.sb_laws.specs.Flows.{is_among_flows, asked_of, answered_of}
+use Rattle.sb_laws.specs.Flows.{is_among_flows, asked_words, answered_of}
 use Rattle.sb_laws.specs.Courses.{Course, IsOneWay, flows_over, goes_over, last_of}
 
 -- both directions, and the ring into each device by the device's place
@@ -29,9 +29,9 @@ pub record IsLayout (network : Network) (layout : Layout) : Type 0 where
   pub same_flows : layout.answers.flows ≡ layout.requests.flows
   pub hosts : All (λ f. Contains (map (λ h. h.id) network.hosts) f.host) layout.requests.flows
   pub devices : All (λ f. f.device < length network.devices) layout.requests.flows
-  pub all_flows : (f : NetFlow) → is_among_flows f layout.requests.flows ≡ false → asked_of network f ≡ []
+  pub all_flows : (f : NetFlow) → is_among_flows f layout.requests.flows ≡ false → asked_words network f ≡ []
   -- what a flow may bring, there and back
-  pub asked : All (λ f. length (asked_of network f) ≤ layout.requests.allowance f) layout.requests.flows
+  pub asked : All (λ f. length (asked_words network f) ≤ layout.requests.allowance f) layout.requests.flows
   pub answered : All (λ f. length (answered_of network f) ≤ layout.answers.allowance f) layout.requests.flows
   pub one_way : (r : ℕ) → IsOneWay layout.requests r
   pub one_way_back : (r : ℕ) → IsOneWay layout.answers r

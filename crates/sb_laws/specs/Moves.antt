@@ -23,14 +23,14 @@ pub record IsKept (a b : RingUse) : Type 0 where
   pub ended : a.ended ≡ true → b.ended ≡ true
 
 -- A move at a ring: something was offered, let go, sent or popped there, or what was popped was handed on or dropped.
-pub data HasMoved (a b : RingUse) : Type 0 where
-  offers : a.offered < b.offered → HasMoved a b
-  lets_go : a.let_go < b.let_go → HasMoved a b
-  sends : a.sent < b.sent → HasMoved a b
-  pops : a.received < b.received → HasMoved a b
-  handles : a.handled < b.handled → HasMoved a b
-  sends_close : a.closed ≡ false → b.closed ≡ true → HasMoved a b
-  pops_close : a.ended ≡ false → b.ended ≡ true → HasMoved a b
+pub data IsMoveAtRing (a b : RingUse) : Type 0 where
+  offers : a.offered < b.offered → IsMoveAtRing a b
+  lets_go : a.let_go < b.let_go → IsMoveAtRing a b
+  sends : a.sent < b.sent → IsMoveAtRing a b
+  pops : a.received < b.received → IsMoveAtRing a b
+  handles : a.handled < b.handled → IsMoveAtRing a b
+  sends_close : a.closed ≡ false → b.closed ≡ true → IsMoveAtRing a b
+  pops_close : a.ended ≡ false → b.ended ≡ true → IsMoveAtRing a b
 
 -- Each end of a ring keeps to the budget by its own plan: nothing here compares the two ends.
 pub record IsWithinBudget (budget : ℕ) (a : RingUse) : Type 0 where
@@ -43,7 +43,7 @@ pub record IsWithinBudget (budget : ℕ) (a : RingUse) : Type 0 where
 -- A round of a network with these rings, in which a node moved.
 pub record IsMovingRound (rings : List ℕ) (a b : ℕ → RingUse) : Type 0 where
   pub kept : All (λ r. IsKept (a r) (b r)) rings
-  pub moved : Any (λ r. HasMoved (a r) (b r)) rings
+  pub moved : Any (λ r. IsMoveAtRing (a r) (b r)) rings
 
 -- Rounds one after another, in each of which a node moved.
 abbrev pub AreMovingRounds : List ℕ → (ℕ → RingUse) → List (ℕ → RingUse) → Type 0

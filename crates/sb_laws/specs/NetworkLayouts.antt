@@ -6,17 +6,17 @@ use Rattle.sb_packet.specs.Networks.{Network, leads_to}
 use Rattle.sb_packet.specs.Plans.{NetFlow}
 use Rattle.sb_packet.specs.Ways.{NetWay, network_ways, flow_links, is_some_number, router_before, router_after}
 use Rattle.sb_packet.specs.Rings.{is_upward}
-use Rattle.sb_laws.specs.Flows.{asked_of, answered_of}
+use Rattle.sb_laws.specs.Flows.{asked_words, answered_of}
 use Rattle.sb_laws.specs.Courses.{Course, last_of}
 use Rattle.sb_laws.specs.Layouts.{Layout}
 
 -- the flow of a way
-abbrev pub flow_of : NetWay → NetFlow
-flow_of way = record { host = way.host.id; device = way.device }
+abbrev pub way_flow : NetWay → NetFlow
+way_flow way = record { host = way.host.id; device = way.device }
 
 -- the flows of all ways of a network
 abbrev pub network_flows : Network → List NetFlow
-network_flows network = map flow_of (network_ways network)
+network_flows network = map way_flow (network_ways network)
 
 -- the two rings of a link
 abbrev pub request_ring : ℕ → ℕ
@@ -60,7 +60,7 @@ network_requests network = record {
   flows = network_flows network;
   first = λ f. first_ring (rings_there network f);
   rest = λ f. drop 1 (rings_there network f);
-  allowance = λ f. length (asked_of network f);
+  allowance = λ f. length (asked_words network f);
   has = λ r. not (is_upward r) && nat_lt r (ring_count network);
   ins = λ r. if is_upward r then [] else map (λ k. last_ring (request_rings network k)) (links_into network (router_before network (r / 2)));
 }

@@ -4,9 +4,9 @@ use Rattle.std.specs.Option.{option_map_or}
 use Rattle.sb_packet.specs.Networks.{Network, leads_to}
 use Rattle.sb_packet.specs.Plans.{NetFlow}
 use Rattle.sb_packet.specs.Ways.{network_ways, flow_links, router_before, router_after}
-use Rattle.sb_laws.specs.Flows.{is_among_flows, asked_of}
+use Rattle.sb_laws.specs.Flows.{is_among_flows, asked_words}
 use Rattle.sb_laws.specs.Layouts.{HasScripts}
-use Rattle.sb_laws.specs.NetworkLayouts.{flow_of, network_flows}
+use Rattle.sb_laws.specs.NetworkLayouts.{way_flow, network_flows}
 
 -- link k leads to device d
 abbrev pub is_link_to : Network → ℕ → ℕ → Bool
@@ -31,11 +31,11 @@ pub record HasWays (network : Network) : Type 0 where
   -- each way leads from a host to its device, and is that of its flow
   pub ways : All (λ way. IsWayTo network way.device way.links) (network_ways network)
   pub starts : All (λ way. router_before network (slice_index_or way.links 0 0) ≡ None) (network_ways network)
-  pub found : All (λ way. flow_links network (flow_of way) ≡ way.links) (network_ways network)
+  pub found : All (λ way. flow_links network (way_flow way) ≡ way.links) (network_ways network)
   pub hosts : All (λ way. Contains network.hosts way.host) (network_ways network)
   pub devices : All (λ way. way.device < length network.devices) (network_ways network)
   -- no host asks a device for anything where there is no way
-  pub all_ways : (f : NetFlow) → is_among_flows f (network_flows network) ≡ false → asked_of network f ≡ []
+  pub all_ways : (f : NetFlow) → is_among_flows f (network_flows network) ≡ false → asked_words network f ≡ []
   -- one link leads to each device
   pub linked : (d : ℕ) → d < length network.devices → (k : ℕ) × (k < length network.links) × (is_link_to network d k ≡ true)
   pub one_link : (d j k : ℕ) → is_link_to network d j ≡ true → is_link_to network d k ≡ true → j ≡ k

@@ -19,7 +19,7 @@ pub record ShowsPort (s : RoundEnd) (r : ℕ) (port : PortSide) : Type 0 where
   pub full : s.full r ≡ is_full port
   pub owes : s.owes r ≡ owes port.state
   pub merges : s.merges r ≡ is_some port.state.waiting.held
-  pub told : s.told r ≡ port.state.closing
+  pub told : s.told r ≡ port.state.close_requested
 
 pub record ShowsRing (s : RoundEnd) (r : ℕ) (ring : RingSide) : Type 0 where
   pub lists : HasRing s.at r ring

@@ -10,7 +10,7 @@ use Rattle.sb_router.specs.Ways.{IsTableOf}
 use Rattle.sb_laws.specs.Courses.{AlongWay, Course}
 use Rattle.sb_laws.specs.Moments.{Moment}
 use Rattle.sb_laws.specs.NetworkLayouts.{answer_rings, first_ring, last_ring, links_into, links_out_of, request_rings}
-use Rattle.sb_laws.specs.Promises.{Forwards}
+use Rattle.sb_laws.specs.Promises.{ForwardsFlow}
 use Rattle.sb_laws.specs.RouterSides.{HasLane, course_words, ring_ins, ring_outs}
 
 -- Requests come to a router by the last ring of each link that leads to it, and go on by the first ring of each that leaves it.
@@ -50,7 +50,7 @@ pub record IsRouterAt (network : Network) (c : Course) (m : Moment) (ins outs : 
 
 -- each flow's promise is kept by each router on its way
 abbrev pub KeepsAlongWays : Network → Course → Moment → Type 0
-KeepsAlongWays network c m = All (λ f. AlongWay (Forwards network c m f) (c.first f) (c.rest f)) c.flows
+KeepsAlongWays network c m = All (λ f. AlongWay (ForwardsFlow network c m f) (c.first f) (c.rest f)) c.flows
 
 -- A direction's table is that of the network, by the links of the rings that go out.
 pub record HasTable (network : Network) (up : Bool) (r : ℕ) (links : List ℕ) (d : DirectionSide) : Type 0 where

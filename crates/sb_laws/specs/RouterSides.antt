@@ -4,7 +4,7 @@ use Rattle.std.specs.Option.{option_and_then, option_map}
 use Rattle.sb_packet.specs.Networks.{Network}
 use Rattle.sb_router.specs.Forwarding.{Words}
 use Rattle.sb_router.specs.Lanes.{InletState, LaneState, Route, held_words, next_place, outlet_at}
-use Rattle.sb_laws.specs.Courses.{Course, budget_over, is_carried}
+use Rattle.sb_laws.specs.Courses.{Course, budget_over, is_of_ring}
 use Rattle.sb_laws.specs.Flows.{is_of}
 use Rattle.sb_laws.specs.Moments.{Moment}
 use Rattle.sb_laws.specs.RoundSides.{HasPort, HasRing, ShowsPort, ShowsRing}
@@ -20,7 +20,7 @@ ring_outs s = map (λ y. y.plan.ring) s.outlets
 
 -- The words of a course at a direction that sends by rings of these numbers: a word goes to a place where its ring carries it.
 abbrev pub course_words : Network → Course → List ℕ → Words
-course_words network c outs = record { is_of = is_of network; goes_to = λ o. is_carried network c (slice_index_or outs o 0) }
+course_words network c outs = record { is_of = is_of network; goes_to = λ o. is_of_ring network c (slice_index_or outs o 0) }
 
 -- A direction sends by rings of these numbers. Each has the budget of the course, and is passed what comes by the rings of the direction.
 pub record IsRouterOf (c : Course) (outs : List ℕ) (s : LaneState) : Type 0 where

@@ -11,7 +11,7 @@ use Rattle.sb_laws.specs.Flows.{aimed_script, device_answers}
 use Rattle.sb_device.specs.Served.{AreSound}
 use Rattle.sb_laws.specs.Moments.{Moment, arrived}
 use Rattle.sb_laws.specs.Courses.{budget_over, CarriesItsFlows, AlongWay}
-use Rattle.sb_laws.specs.Promises.{IsLink, IsPort, Forwards}
+use Rattle.sb_laws.specs.Promises.{IsLink, IsPort, ForwardsFlow}
 use Rattle.sb_laws.specs.Layouts.{Layout}
 
 -- A host, for one of its flows: it offers its script in order, and before the Close all of it.
@@ -37,8 +37,8 @@ pub record IsMomentOf (network : Network) (layout : Layout) (journal : List Entr
   pub recorded : (d : ℕ) → d < length network.devices → journal_accesses journal d ≡ arrived m (layout.into d)
   pub hosts : All (IsHost network layout m) layout.requests.flows
   pub devices : All (IsDevice network layout journal m) layout.requests.flows
-  pub routers : All (λ f. AlongWay (Forwards network layout.requests m f) (layout.requests.first f) (layout.requests.rest f)) layout.requests.flows
-  pub routers_back : All (λ f. AlongWay (Forwards network layout.answers m f) (layout.answers.first f) (layout.answers.rest f)) layout.requests.flows
+  pub routers : All (λ f. AlongWay (ForwardsFlow network layout.requests m f) (layout.requests.first f) (layout.requests.rest f)) layout.requests.flows
+  pub routers_back : All (λ f. AlongWay (ForwardsFlow network layout.answers m f) (layout.answers.first f) (layout.answers.rest f)) layout.requests.flows
 
 -- The entries of the journal are of devices that there are, no wider than the links that lead there, and their rounds don't go back.
 pub record HasEntries (network : Network) (journal : List Entry) : Type 0 where

@@ -24,8 +24,8 @@ pub record RoundEnd : Type 0 where
 abbrev pub is_closed : RoundEnd → ℕ → Bool
 is_closed s r = has_close (s.at.sent r)
 
-abbrev pub has_ended : RoundEnd → ℕ → Bool
-has_ended s r = has_close (s.at.received r)
+abbrev pub is_ended : RoundEnd → ℕ → Bool
+is_ended s r = has_close (s.at.received r)
 
 -- A ring whose two ends are here, and knew enough of each other: where its sender finds it full something wasn't received,
 -- and where its receiver finds it empty all was.
@@ -56,10 +56,10 @@ pub record IsIdleSender (stages : Stages) (s : RoundEnd) (r : ℕ) : Type 0 wher
   pub host : stages.leaves_host r ≡ true → s.told r ≡ false → (s.waits r ≡ true) ⊎ (s.full r ≡ true)
   -- any other node has told it, where each ring into the node's stage has ended and nothing that came by it is held
   pub node : stages.leaves_host r ≡ false →
-      ((q : ℕ) → q < stages.rings → stages.goes_out q ≡ false → stages.to q ≡ stages.from r → (has_ended s q ≡ true) × (s.holds q ≡ None)) → s.told r ≡ true
+      ((q : ℕ) → q < stages.rings → stages.goes_out q ≡ false → stages.to q ≡ stages.from r → (is_ended s q ≡ true) × (s.holds q ≡ None)) → s.told r ≡ true
 
 -- A ring of the stage that receives by ring r is full.
-pub record IsBlocked (stages : Stages) (s : RoundEnd) (r : ℕ) : Type 0 where
+pub record IsReceiverBlocked (stages : Stages) (s : RoundEnd) (r : ℕ) : Type 0 where
   pub by : ℕ
   pub is_ring : by < stages.rings
   pub here : stages.from by ≡ stages.to r
@@ -71,7 +71,7 @@ pub record IsIdleReceiver (stages : Stages) (s : RoundEnd) (r : ℕ) : Type 0 wh
   pub held : (p : ℕ) → s.holds r ≡ Some p → (p < stages.rings) × (stages.from p ≡ stages.to r) × (s.full p ≡ true)
   pub none_held : s.holds r ≡ None → s.at.held r ≡ []
   -- a ring that hasn't ended was empty, or there was a cause to leave it alone: what came by it is held, or a ring of the stage is full
-  pub drained : has_ended s r ≡ false → (s.empty r ≡ true) ⊎ (((p : ℕ) × (s.holds r ≡ Some p)) ⊎ IsBlocked stages s r)
+  pub drained : is_ended s r ≡ false → (s.empty r ≡ true) ⊎ (((p : ℕ) × (s.holds r ≡ Some p)) ⊎ IsReceiverBlocked stages s r)
 
 -- All promises, after a round in which no node moved.
 pub record IsStandstill (stages : Stages) (s : RoundEnd) : Type 0 where

@@ -57,7 +57,7 @@ pub fn idle_devices_are_idle()
         → ShowsRing s into ring → ShowsPort s back port
         → into < stages.rings → stages.goes_out into ≡ false → stages.from back ≡ stages.to into
         → stages.leaves_host back ≡ false
-        → IsFit port.plan port.state → port.state.closing ≡ has_ended ring
+        → IsFit port.plan port.state → port.state.close_requested ≡ has_ended ring
         → IsIdleAt (λ ring. IsBlockedPort port) (port ∷ []) (ring ∷ [])
         → IsIdleSender stages s back }
 {}

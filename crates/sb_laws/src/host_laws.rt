@@ -77,7 +77,7 @@ pub fn hosts_find_the_journals_outcomes()
     ensures outcomes { (network : Network) (layout : Layout) (journal : List Entry) (m : Moment) (host : NetHost) (h : HostSide)
         → IsLayout network layout → All (λ d. d.base % 4096 ≡ 0) network.devices
         → IsMomentOf network layout journal m → HasAllEnded layout m
-        → IsHostOf network layout host h → IsWholeHost h → h.requests.state.closing ≡ true
+        → IsHostOf network layout host h → IsWholeHost h → h.requests.state.close_requested ≡ true
         → HasRing m h.answers.plan.ring h.answers
         → outcomes_so_far h.transactions.asked (received_words h.answers) h.transactions.next ≡ host_outcomes network journal host }
     ensures table { (m : Moment) (h : HostSide)

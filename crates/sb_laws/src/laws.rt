@@ -10,8 +10,8 @@ ghost use Rattle.sb_packet.specs.declared.entry.Entry.{Entry};
 ghost use Rattle.sb_packet.specs.declared.item.Item.{Item};
 ghost use Rattle.sb_laws.specs.Arrivals.{BeginsSources, CarriesSources, HasEnded, PicksSources};
 ghost use Rattle.sb_laws.specs.Courses.{Course};
-ghost use Rattle.sb_laws.specs.Endings.{HasLearnt, IsFinished, IsQuietReceiver, IsQuietSender, IsWaiting, IsWholeStandstill};
-ghost use Rattle.sb_laws.specs.Flows.{asked_of, given_to};
+ghost use Rattle.sb_laws.specs.Endings.{HasLearnt, IsFinished, IsQuietReceiver, IsQuietSender, IsHostWaiting, IsWholeStandstill};
+ghost use Rattle.sb_laws.specs.Flows.{asked_words, given_to};
 ghost use Rattle.sb_laws.specs.Layouts.{IsLayout, Layout};
 ghost use Rattle.sb_laws.specs.Moments.{ClosesLast, Moment};
 ghost use Rattle.sb_laws.specs.Moves.{AreMovingRounds, IsWithinBudget, RingUse, move_bound};
@@ -52,7 +52,7 @@ pub fn history_so_far()
         → IsHistorySoFar network journal }
     ensures requests { (network : Network) (layout : Layout) (journal : List Entry) (m : Moment)
         → IsLayout network layout → IsMomentOf network layout journal m
-        → (r : ℕ) → BeginsSources network layout.requests m (asked_of network) r }
+        → (r : ℕ) → BeginsSources network layout.requests m (asked_words network) r }
     ensures answers { (network : Network) (layout : Layout) (journal : List Entry) (m : Moment)
         → IsLayout network layout → IsMomentOf network layout journal m
         → (r : ℕ) → BeginsSources network layout.answers m (given_to network journal) r }
@@ -117,7 +117,7 @@ pub fn standstill_is_quiet()
 pub fn standstill_is_the_end()
     ensures end_or_wait { (stages : Stages) (s : RoundEnd)
         → IsStandstill stages s
-        → ((r : ℕ) → r < stages.rings → IsFinished stages s r) ⊎ IsWaiting stages s }
+        → ((r : ℕ) → r < stages.rings → IsFinished stages s r) ⊎ IsHostWaiting stages s }
     ensures end { (stages : Stages) (s : RoundEnd)
         → IsStandstill stages s → ((r : ℕ) → r < stages.rings → s.waits r ≡ false)
         → (r : ℕ) → r < stages.rings → IsFinished stages s r }

@@ -7,7 +7,7 @@ ghost use Rattle.sb_packet.specs.Traffic.{AreInTurn, item_accesses};
 ghost use Rattle.sb_packet.specs.declared.entry.Entry.{Entry};
 ghost use Rattle.sb_packet.specs.declared.item.Item.{Item};
 ghost use Rattle.sb_flow.specs.Accepted.{IsAccepted};
-ghost use Rattle.sb_laws.specs.Courses.{budget_over, is_carried};
+ghost use Rattle.sb_laws.specs.Courses.{budget_over, is_of_ring};
 ghost use Rattle.sb_laws.specs.Layouts.{IsLayout};
 ghost use Rattle.sb_laws.specs.Moments.{Moment, arrived};
 ghost use Rattle.sb_laws.specs.Endings.{IsWithin};
@@ -56,11 +56,11 @@ pub fn planned_words_are_carried()
     ensures requests { (network : Network) (k : ℕ) (list : List Item)
         → IsRouted network → request_ring k < ring_count network
         → AreInTurn (ring_plan network (request_ring k)) list
-        → All (λ a. is_carried network (network_requests network) (request_ring k) a ≡ true) (item_accesses list) }
+        → All (λ a. is_of_ring network (network_requests network) (request_ring k) a ≡ true) (item_accesses list) }
     ensures answers { (network : Network) (k : ℕ) (list : List Item)
         → IsRouted network → answer_ring k < ring_count network
         → AreInTurn (ring_plan network (answer_ring k)) list
-        → All (λ a. is_carried network (network_answers network) (answer_ring k) a ≡ true) (item_accesses list) }
+        → All (λ a. is_of_ring network (network_answers network) (answer_ring k) a ≡ true) (item_accesses list) }
 {}
 
 /// In a whole run each of its rings carried just what a ring is to carry.

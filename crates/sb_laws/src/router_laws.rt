@@ -15,7 +15,7 @@ ghost use Rattle.sb_router.specs.Turning.{IsIdleLane};
 ghost use Rattle.sb_laws.specs.Courses.{Course};
 ghost use Rattle.sb_laws.specs.Moments.{Moment};
 ghost use Rattle.sb_laws.specs.NetworkLayouts.{links_into, links_out_of, network_answers, network_requests};
-ghost use Rattle.sb_laws.specs.Promises.{Forwards};
+ghost use Rattle.sb_laws.specs.Promises.{ForwardsFlow};
 ghost use Rattle.sb_laws.specs.Routed.{IsRouted};
 ghost use Rattle.sb_laws.specs.RouterEnds.{IsDirectionMet};
 ghost use Rattle.sb_laws.specs.RouterLayouts.{HasTable, IsBuiltFor, IsRouterAt, KeepsAlongWays, LeadsByPlans, answer_ins, answer_outs, request_ins, request_outs};
@@ -30,11 +30,11 @@ pub fn routers_keep_their_promise()
     ensures flow { (network : Network) (c : Course) (m : Moment) (outs : List ℕ) (d : DirectionSide) (f : NetFlow) (i o : ℕ)
         → HasLane m d.lane → IsRouterOf c outs d.lane → IsWholeDirection d → Passes (route_of d.rows) d.lane f i o
         → HasForwarded (course_words network c outs) d.lane f i o
-        → Forwards network c m f (inlet_at d.lane i).ring.plan.ring (outlet_at d.lane o).plan.ring }
+        → ForwardsFlow network c m f (inlet_at d.lane i).ring.plan.ring (outlet_at d.lane o).plan.ring }
     ensures all_flows { (network : Network) (c : Course) (m : Moment) (outs : List ℕ) (d : DirectionSide) (f : NetFlow) (i o : ℕ)
         → HasLane m d.lane → IsRouterOf c outs d.lane → IsWholeDirection d → Passes (route_of d.rows) d.lane f i o
         → ForwardsAll (course_words network c outs) d
-        → Forwards network c m f (inlet_at d.lane i).ring.plan.ring (outlet_at d.lane o).plan.ring }
+        → ForwardsFlow network c m f (inlet_at d.lane i).ring.plan.ring (outlet_at d.lane o).plan.ring }
 {
     routers_hand_on();
 }

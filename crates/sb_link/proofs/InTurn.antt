@@ -31,7 +31,7 @@ nothing_in_turn [] after item cut = let h : ⊥ = cc in absurd h
 nothing_in_turn (x ∷ before) after item cut = let h : ⊥ = cc in absurd h
 
 -- a packet has a word
-some_accesses : (p : Packet) → 0 < length (accesses_of p)
+pub some_accesses : (p : Packet) → 0 < length (accesses_of p)
 some_accesses p = let some = some_words p.cmd.op p.cmd.len in rw length-map-range_with_len some
 
 -- items without a Close have at least as many words as items

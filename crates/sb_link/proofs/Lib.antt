@@ -1,4 +1,5 @@
 pub mod InTurn
+pub mod Truths
 pub mod Ranges
 pub mod MessageFlows
 pub mod Pushes

@@ -1,8 +1,8 @@
 pub mod Plans
 pub mod PlanOf
 pub mod Ends
-pub mod Told
+pub mod GhostHistory
 pub mod Hands
-pub mod Shelves
+pub mod Registries
 pub mod InTurn
 pub mod Moves

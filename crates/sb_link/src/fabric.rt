@@ -60,7 +60,8 @@ pub trait Fabric: Send {
         ensures marks { Self.Tx.mark tx.new ≡ Self.Rx.mark rx.new }
         ensures taken_at_most { prompt ≡ true → Self.Tx.taken tx.new ≤ length (Self.Rx.received rx.new) }
         ensures known_at_most { prompt ≡ true → Self.Rx.known rx.new ≤ length (Self.Tx.sent tx.new) }
-        ensures met { prompt ≡ true → HaveMet (Self.Tx.sent tx.new) (Self.Tx.taken tx.new) (Self.Rx.received rx.new) (Self.Rx.known rx.new) };
+        ensures met { prompt ≡ true
+            → HaveMet (Self.Tx.sent tx.new) (Self.Tx.taken tx.new) (Self.Rx.received rx.new) (Self.Rx.known rx.new) };
 
     /// Takes the ends of a ring back, and keeps what it carried in a place that `make` reserved. Takes no memory.
     ///

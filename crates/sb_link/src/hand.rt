@@ -22,7 +22,8 @@ pub(crate) fn hand_over(tx: &mut SerialTx, rx: &mut SerialRx)
     ensures handed { tx.new.handed ≡ rx.new.received ++ rx.new.waiting.items }
     ensures taken_at_most { tx.new.taken ≤ length rx.new.received }
     ensures known_at_most { length (rx.new.received ++ rx.new.waiting.items) ≤ length (tx.new.handed ++ tx.new.kept.items) }
-    ensures met { HaveMet (tx.new.handed ++ tx.new.kept.items) tx.new.taken rx.new.received (length (rx.new.received ++ rx.new.waiting.items)) }
+    ensures met { HaveMet (tx.new.handed ++ tx.new.kept.items) tx.new.taken
+        rx.new.received (length (rx.new.received ++ rx.new.waiting.items)) }
 {
     while let Some(item) = tx.kept.pop_front() {
         tx.handed.add(&item);

@@ -2,26 +2,26 @@
 #![tactic(auto)]
 
 mod answers;
-#[cfg(test)]
-mod bench;
 mod ends;
 mod fabric;
 mod flow;
 mod flows;
+mod ghost_history;
 mod hand;
+#[cfg(test)]
+mod harness;
 mod moves;
 mod packet_flow;
 mod pass_on;
 mod places;
 mod plan;
-mod row;
+mod registered_ring;
+mod ring_registry;
 mod serial;
 mod serial_rx;
 mod serial_tx;
-mod shelf;
 #[cfg(test)]
 mod tests;
-mod told;
 
 pub use answers::{Cause, Pop, Push, Turn};
 pub use ends::{RxEnd, TxEnd};
@@ -31,8 +31,8 @@ pub use flows::Flows;
 pub use moves::move_item;
 pub use pass_on::{PassOn, PassOnRx, PassOnTx};
 pub use plan::LinkPlan;
-pub use row::Row;
+pub use registered_ring::RegisteredRing;
+pub use ring_registry::RingRegistry;
 pub use serial::SerialFabric;
 pub use serial_rx::SerialRx;
 pub use serial_tx::SerialTx;
-pub use shelf::Shelf;

@@ -18,7 +18,8 @@ pub fn move_item<U: RxEnd, T: TxEnd>(rx: &mut U, held: &mut Option<Item>, tx: &m
     ensures sent { result ≡ true → (item : Item) × (T.sent tx.new ≡ T.sent tx.old ++ item ∷ []) }
     ensures empty { result ≡ true → held.new ≡ None }
     ensures still { result ≡ false → T.sent tx.new ≡ T.sent tx.old }
-    ensures stuck { result ≡ false → IsStuck held.new (U.received rx.new) (U.known rx.new) (T.planned tx.new).capacity (T.sent tx.new) (T.taken tx.new) }
+    ensures stuck { result ≡ false
+        → IsStuck held.new (U.received rx.new) (U.known rx.new) (T.planned tx.new).capacity (T.sent tx.new) (T.taken tx.new) }
     ensures known { U.known rx.old ≤ U.known rx.new }
     ensures taken { T.taken tx.old ≤ T.taken tx.new }
     ensures rx_plan { U.planned rx.new ≡ U.planned rx.old }
@@ -41,8 +42,10 @@ pub fn move_item<U: RxEnd, T: TxEnd>(rx: &mut U, held: &mut Option<Item>, tx: &m
 
 // the item that is held, or else the next one that comes
 fn next_item<U: RxEnd>(rx: &mut U, held: Option<Item>) -> Option<Item>
-    ensures received { (before : List Item) → U.received rx.old ≡ before ++ held_items held → U.received rx.new ≡ before ++ held_items result }
-    ensures lawful { (before : List Item) → U.received rx.old ≡ before ++ held_items held → IfSome result (λ item. MayFollow (U.planned rx.old) before item) }
+    ensures received { (before : List Item) → U.received rx.old ≡ before ++ held_items held
+        → U.received rx.new ≡ before ++ held_items result }
+    ensures lawful { (before : List Item) → U.received rx.old ≡ before ++ held_items held
+        → IfSome result (λ item. MayFollow (U.planned rx.old) before item) }
     ensures empty { IfNone result (U.known rx.new ≡ length (U.received rx.new)) }
     ensures known { U.known rx.old ≤ U.known rx.new }
     ensures plan { U.planned rx.new ≡ U.planned rx.old }

@@ -7,7 +7,7 @@ ghost use Rattle.sb_packet.specs.Messages.{message_of};
 ghost use Rattle.sb_packet.specs.Plans.{device_ranges, goes_home, holds_span, is_allowed, message_flow};
 ghost use Rattle.sb_packet.specs.Journals.{is_request};
 ghost use Rattle.sb_packet.specs.Soundness.{device_place};
-ghost use Rattle.sb_link.specs.Plans.{flow_of};
+ghost use Rattle.sb_link.specs.Plans.{flow_of, has_bytes};
 ghost use Rattle.sb_link.specs.PlanOf.{flows_of};
 
 use crate::flow::Flow;
@@ -56,7 +56,7 @@ impl Flows {
 
 // the place of the first range that holds so many bytes from an address on
 fn range_with(bases: &[u64], sizes: &[u64], address: u64, bytes: u64) -> Option<usize>
-    ensures place { result ≡ position_from (λ r. nat_le r.0 address && (nat_le bytes r.1 && nat_le (address - r.0) (r.1 - bytes))) 0 (zip bases.now sizes.now) }
+    ensures place { result ≡ position_from (has_bytes address bytes) 0 (zip bases.now sizes.now) }
     ensures within { IfSome result (λ place. place < length bases.now) }
 {
     bases.iter().zip(sizes.iter()).position(|(base, size)| {

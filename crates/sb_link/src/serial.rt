@@ -5,12 +5,12 @@ ghost use Rattle.sb_link.specs.PlanOf.{plan_of};
 
 use crate::ends::{RxEnd, TxEnd};
 use crate::fabric::{Fabric, MeetFabric};
+use crate::ghost_history::GhostHistory;
 use crate::hand::hand_over;
 use crate::plan::LinkPlan;
+use crate::ring_registry::RingRegistry;
 use crate::serial_rx::SerialRx;
 use crate::serial_tx::SerialTx;
-use crate::shelf::Shelf;
-use crate::told::Told;
 use std::alloc::{AllocError, Global};
 use std::collections::VecDeque;
 
@@ -18,7 +18,7 @@ use std::collections::VecDeque;
 /// each other what the last `hand` told.
 #[derive(Drop)]
 pub struct SerialFabric {
-    shelf: Shelf<SerialRx>,
+    registry: RingRegistry<SerialRx>,
 }
 
 impl SerialFabric {
@@ -29,7 +29,7 @@ impl SerialFabric {
         ensures prompt { ⟦<SerialFabric as Fabric>⟧.prompt ≡ true }
     {
         SerialFabric {
-            shelf: Shelf::new(alloc),
+            registry: RingRegistry::new(alloc),
         }
     }
 }
@@ -41,7 +41,7 @@ fn new_tx(alloc: Global, plan: &LinkPlan) -> Result<SerialTx, AllocError>
     ensures kept { IfOk result (λ end. end.kept.items ≡ []) }
     ensures taken { IfOk result (λ end. end.taken ≡ 0) }
 {
-    let handed = Told::new(alloc)?;
+    let handed = GhostHistory::new(alloc)?;
     let kept = VecDeque::with_capacity(alloc, usize::from(plan.capacity))?;
     Ok(SerialTx {
         plan: *plan,
@@ -59,7 +59,7 @@ fn new_rx(alloc: Global, plan: &LinkPlan) -> Result<SerialRx, AllocError>
     ensures waiting { IfOk result (λ end. end.waiting.items ≡ []) }
     ensures told { IfOk result (λ end. end.told ≡ 0) }
 {
-    let received = Told::new(alloc)?;
+    let received = GhostHistory::new(alloc)?;
     let waiting = VecDeque::with_capacity(alloc, usize::from(plan.capacity))?;
     Ok(SerialRx {
         plan: *plan,
@@ -73,7 +73,7 @@ fn new_rx(alloc: Global, plan: &LinkPlan) -> Result<SerialRx, AllocError>
 impl Fabric for SerialFabric {
     ghost use Rattle.std.specs.Prelude.{true, is_some, []};
     ghost use Rattle.std.specs.Option.{option_map_or};
-    ghost use Rattle.sb_link.specs.Shelves.{end_of, plans_of};
+    ghost use Rattle.sb_link.specs.Registries.{end_of, plans_of};
     ghost use Rattle.sb_link.specs.declared.serial_rx.SerialRx.{SerialRx};
     ghost use Rattle.sb_packet.specs.Traffic.{item_accesses};
 
@@ -81,18 +81,19 @@ impl Fabric for SerialFabric {
 
     type Rx = SerialRx;
 
-    ghost made = { λ fabric. plans_of fabric.shelf.rows.items };
+    ghost made = { λ fabric. plans_of fabric.registry.rows.items };
 
-    ghost carried = { λ fabric ring. option_map_or (λ (end : SerialRx). item_accesses end.received) (end_of fabric.shelf.rows.items ring) [] };
+    ghost carried = { λ fabric ring. option_map_or (λ (end : SerialRx). item_accesses end.received)
+        (end_of fabric.registry.rows.items ring) [] };
 
-    ghost settled = { λ fabric ring. is_some (end_of fabric.shelf.rows.items ring) };
+    ghost settled = { λ fabric ring. is_some (end_of fabric.registry.rows.items ring) };
 
     ghost prompt = { true };
 
     fn make(&mut self, alloc: Global, plan: &LinkPlan) -> Result<(SerialTx, SerialRx), AllocError> {
         let tx = new_tx(alloc, plan)?;
         let rx = new_rx(alloc, plan)?;
-        self.shelf.add(plan)?;
+        self.registry.add(plan)?;
         Ok((tx, rx))
     }
 
@@ -101,7 +102,7 @@ impl Fabric for SerialFabric {
     }
 
     fn settle(&mut self, tx: SerialTx, rx: SerialRx) {
-        self.shelf.keep(tx.plan.ring, rx);
+        self.registry.keep(tx.plan.ring, rx);
     }
 }
 

@@ -7,8 +7,8 @@ ghost use Rattle.sb_link.specs.PlanOf.{plan_of};
 
 use crate::answers::Pop;
 use crate::ends::RxEnd;
+use crate::ghost_history::GhostHistory;
 use crate::plan::LinkPlan;
-use crate::told::Told;
 use sb_packet::Item;
 use std::collections::VecDeque;
 
@@ -17,7 +17,7 @@ use std::collections::VecDeque;
 pub struct SerialRx {
     pub(crate) plan: LinkPlan,
     // the items that were received
-    pub(crate) received: Told,
+    pub(crate) received: GhostHistory,
     // the items that wait, in order
     pub(crate) waiting: VecDeque<Item>,
     // the number of items that were received

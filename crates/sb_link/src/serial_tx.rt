@@ -7,8 +7,8 @@ ghost use Rattle.sb_link.specs.PlanOf.{plan_of};
 
 use crate::answers::Push;
 use crate::ends::TxEnd;
+use crate::ghost_history::GhostHistory;
 use crate::plan::LinkPlan;
-use crate::told::Told;
 use sb_packet::Item;
 use std::collections::VecDeque;
 
@@ -17,7 +17,7 @@ use std::collections::VecDeque;
 pub struct SerialTx {
     pub(crate) plan: LinkPlan,
     // the items that were handed over
-    pub(crate) handed: Told,
+    pub(crate) handed: GhostHistory,
     // the items that were sent and not handed over, in order
     pub(crate) kept: VecDeque<Item>,
     // the number of items that were sent

@@ -3,9 +3,9 @@
 ghost use Rattle.std.specs.Prelude.{◌≡◌, ◌<◌, ◌≤◌, []};
 
 use crate::answers::{Pop, Push};
-use crate::bench::{Bench, Relay};
 use crate::fabric::Fabric;
 use crate::flows::Flows;
+use crate::harness::{Harness, Relay};
 use crate::pass_on::PassOn;
 use crate::plan::LinkPlan;
 use crate::serial::SerialFabric;
@@ -77,7 +77,7 @@ fn one_place_is_taken_and_given_back(rt: HostRuntime) -> Result<(), Fail> {
         }),
     ];
     let fabric = SerialFabric::new(rt.alloc());
-    let mut ring = Bench::new(fabric, rt.alloc(), &plan(1))?;
+    let mut ring = Harness::new(fabric, rt.alloc(), &plan(1))?;
     for call in calls {
         match call {
             Call::Push(number, answer) => {
@@ -140,7 +140,7 @@ fn send_bursts<F: Fabric + Drop>(
 ) -> Result<(), Fail>
     requires empty { F.made fabric ≡ [] }
 {
-    let mut ring = Bench::new(fabric, alloc, &plan(capacity))?;
+    let mut ring = Harness::new(fabric, alloc, &plan(capacity))?;
     let mut counts = Counts {
         sent: 0,
         handed: 0,

@@ -23,29 +23,24 @@ pub moves_kept : {before after : PortSide} → IsKeptPort before after → port_
 moves_kept kept = let a = prefix_length kept.offered_more in let b = prefix_length kept.let_more_go in let c = prefix_length kept.sent_more in omega (arith, a, b, c)
 
 -- nothing owed, nothing held, and the Close sent: nothing is left to send
-no_rest : (w : Waiting) (closing shut : Bool) → w.owed ≡ [] → w.held ≡ None → shut ≡ true → ((some_owed w || (closing && not shut)) || is_some w.held) ≡ false
-no_rest w closing shut owed held is =
-    ap (λ list. (some_owed (record w { owed = list }) || (closing && not shut)) || is_some w.held) owed
-    ∙ ap (λ h. (false || (closing && not shut)) || is_some h) held
-    ∙ ap (λ b. (closing && not b) || false) is
-    ∙ elim closing as (λ b. ((b && false) || false) ≡ false) [ true ↦ refl | false ↦ refl ]
+no_rest : (w : Waiting) (close_requested close_sent : Bool) → w.owed ≡ [] → w.held ≡ None → close_sent ≡ true → ((some_owed w || (close_requested && not close_sent)) || is_some w.held) ≡ false
+no_rest w close_requested close_sent owed held is =
+    ap (λ list. (some_owed (record w { owed = list }) || (close_requested && not close_sent)) || is_some w.held) owed
+    ∙ ap (λ h. (false || (close_requested && not close_sent)) || is_some h) held
+    ∙ ap (λ b. (close_requested && not b) || false) is
+    ∙ elim close_requested as (λ b. ((b && false) || false) ≡ false) [ true ↦ refl | false ↦ refl ]
 
 -- a port that has something left to send hasn't sent its Close
-pub rest_unshut : (port : PortSide) → IsFit port.plan port.state → has_rest port ≡ true → port.state.shut ≡ false
-rest_unshut port fit rest = by_shut port.state.shut refl where
-  by_shut : (b : Bool) → port.state.shut ≡ b → port.state.shut ≡ false
-  by_shut true shut = absurd (true≢false (sym rest ∙ no_rest port.state.waiting port.state.closing port.state.shut (fit.none_owed shut) (fit.none_held shut) shut))
+pub rest_unshut : (port : PortSide) → IsFit port.plan port.state → has_rest port ≡ true → port.state.close_sent ≡ false
+rest_unshut port fit rest = by_shut port.state.close_sent refl where
+  by_shut : (b : Bool) → port.state.close_sent ≡ b → port.state.close_sent ≡ false
+  by_shut true close_sent = absurd (true≢false (sym rest ∙ no_rest port.state.waiting port.state.close_requested port.state.close_sent (fit.none_owed close_sent) (fit.none_held close_sent) close_sent))
   by_shut false unshut = unshut
 
--- two tests that both fail
-neither : (a b : Bool) → (a || b) ≡ false → (a ≡ false) × (b ≡ false)
-neither true b e = absurd (true≢false e)
-neither false b e = (refl, e)
-
 -- where nothing is owed and the Close wasn't sent, the port wasn't told to close
-pub untold : (owing closing shut : Bool) → (owing || (closing && not shut)) ≡ false → shut ≡ false → closing ≡ false
-untold true closing shut e unshut = absurd (true≢false e)
-untold false false shut e unshut = refl
+pub untold : (owing close_requested close_sent : Bool) → (owing || (close_requested && not close_sent)) ≡ false → close_sent ≡ false → close_requested ≡ false
+untold true close_requested close_sent e unshut = absurd (true≢false e)
+untold false false close_sent e unshut = refl
 untold false true false e unshut = absurd (true≢false e)
 untold false true true e unshut = absurd (true≢false unshut)
 

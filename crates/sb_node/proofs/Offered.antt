@@ -16,4 +16,4 @@ some_offered w m = by_owed w.owed (listed w.held)
     by_owed (first ∷ owed) held = refl
 
 pub owes_offered : (before after : PortSide) (m : Message) → after.state.waiting ≡ offered before.state.waiting m → owes after.state ≡ true
-owes_offered before after m e = ap (λ (w : Waiting). some_owed w || (after.state.closing && not after.state.shut)) e ∙ ap (λ (b : Bool). b || (after.state.closing && not after.state.shut)) (some_offered before.state.waiting m)
+owes_offered before after m e = ap (λ (w : Waiting). some_owed w || (after.state.close_requested && not after.state.close_sent)) e ∙ ap (λ (b : Bool). b || (after.state.close_requested && not after.state.close_sent)) (some_offered before.state.waiting m)

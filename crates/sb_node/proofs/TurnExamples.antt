@@ -33,15 +33,15 @@ ready_port = record {
   plan = answers_plan;
   mark = mark_of answers_plan;
   taken = 0;
-  state = record { sent = []; waiting = nothing_waits 32; closing = false; shut = false; claimed = 0 };
+  state = record { sent = []; waiting = nothing_waits 32; close_requested = false; close_sent = false; words_offered = 0 };
 }
 
 abbrev told_port : PortSide
-told_port = record ready_port { state = record { sent = []; waiting = nothing_waits 32; closing = true; shut = false; claimed = 0 } }
+told_port = record ready_port { state = record { sent = []; waiting = nothing_waits 32; close_requested = true; close_sent = false; words_offered = 0 } }
 
 -- a port that sent its Close, which fills its ring until it is taken
 abbrev shut_port : PortSide
-shut_port = record ready_port { state = record { sent = items.Close ∷ []; waiting = nothing_waits 32; closing = true; shut = true; claimed = 0 } }
+shut_port = record ready_port { state = record { sent = items.Close ∷ []; waiting = nothing_waits 32; close_requested = true; close_sent = true; words_offered = 0 } }
 
 -- a node with nothing to do waits at its empty ring
 waits_at_ring : idle_causes (ready_port ∷ []) [] (open_ring ∷ []) ≡ None ∷ Some (causes.Empty 4 0 0) ∷ []

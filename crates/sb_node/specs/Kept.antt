@@ -13,7 +13,7 @@ pub record IsKeptPort (before after : PortSide) : Type 0 where
   pub let_more_go : IsPrefix (let_go before.state) (let_go after.state)
   pub sent_more : IsPrefix before.state.sent after.state.sent
   pub learnt : before.taken ≤ after.taken
-  pub still_told : before.state.closing ≡ true → after.state.closing ≡ true
+  pub still_told : before.state.close_requested ≡ true → after.state.close_requested ≡ true
 
 -- a ring is as it was, but for what was received and learnt since
 pub record IsKeptRing (before after : RingSide) : Type 0 where

@@ -10,9 +10,9 @@ pub record IsRestedPort (before after : PortSide) : Type 0 where
   pub mark : after.mark ≡ before.mark
   pub sent : after.state.sent ≡ before.state.sent
   pub waiting : after.state.waiting ≡ before.state.waiting
-  pub shut : after.state.shut ≡ before.state.shut
-  pub claimed : after.state.claimed ≡ before.state.claimed
-  pub still_told : before.state.closing ≡ true → after.state.closing ≡ true
+  pub close_sent : after.state.close_sent ≡ before.state.close_sent
+  pub words_offered : after.state.words_offered ≡ before.state.words_offered
+  pub still_told : before.state.close_requested ≡ true → after.state.close_requested ≡ true
   pub learnt : before.taken ≤ after.taken
 
 -- nothing moved at a ring
@@ -24,7 +24,7 @@ pub record IsRestedRing (before after : RingSide) : Type 0 where
 
 -- nothing happened to a port
 pub rested_port_same : (port : PortSide) → IsRestedPort port port
-rested_port_same port = record { plan = refl; mark = refl; sent = refl; waiting = refl; shut = refl; claimed = refl; still_told = λ told. told; learnt = omega arith }
+rested_port_same port = record { plan = refl; mark = refl; sent = refl; waiting = refl; close_sent = refl; words_offered = refl; still_told = λ told. told; learnt = omega arith }
 
 -- one thing after another happened to a port
 pub rested_port_then : {x y z : PortSide} → IsRestedPort x y → IsRestedPort y z → IsRestedPort x z
@@ -33,8 +33,8 @@ rested_port_then a b = record {
   mark = b.mark ∙ a.mark;
   sent = b.sent ∙ a.sent;
   waiting = b.waiting ∙ a.waiting;
-  shut = b.shut ∙ a.shut;
-  claimed = b.claimed ∙ a.claimed;
+  close_sent = b.close_sent ∙ a.close_sent;
+  words_offered = b.words_offered ∙ a.words_offered;
   still_told = λ told. b.still_told (a.still_told told);
   learnt = let first = a.learnt in let second = b.learnt in omega (arith, first, second);
 }

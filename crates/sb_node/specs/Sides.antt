@@ -43,7 +43,7 @@ has_ended ring = has_close ring.received
 
 -- A node is done where all its ports have sent their Close, and all its rings have given theirs.
 abbrev pub is_done : List PortSide → List RingSide → Bool
-is_done ports rings = list_all (λ port. port.state.shut) ports && list_all has_ended rings
+is_done ports rings = list_all (λ port. port.state.close_sent) ports && list_all has_ended rings
 
 -- how much a port did so far: the words that it was offered, the messages that it let go, and the items that it sent
 abbrev pub port_moves : PortSide → ℕ

@@ -21,7 +21,7 @@ pub fn turn_port<T: TxEnd>(port: &mut OutPort<T>, more: bool, found: &mut Findin
     ensures kept { IsKeptPort port.old port.new }
     ensures still { found.new.moved ≡ false → IsRestedPort port.old port.new }
     ensures words { offered_words port.new ≡ offered_words port.old }
-    ensures told { port.new.state.closing ≡ port.old.state.closing }
+    ensures told { port.new.state.close_requested ≡ port.old.state.close_requested }
     ensures fit { IsFit port.new.plan port.new.state }
 {
     let ring = port.plan().ring;
@@ -57,10 +57,10 @@ pub fn pop_ring<U: RxEnd>(ring: &mut U, found: &mut Findings) -> Option<Item>
 pub fn hand_on<T: TxEnd>(port: &mut OutPort<T>, packet: &Packet)
     requires fit { IsFit port.old.plan port.old.state }
     requires ready { owes port.old.state ≡ false }
-    requires untold { port.old.state.closing ≡ false }
+    requires untold { port.old.state.close_requested ≡ false }
     ensures handed { IsHandedOn port.old port.new packet.now }
     ensures kept { IsKeptPort port.old port.new }
-    ensures told { port.new.state.closing ≡ false }
+    ensures told { port.new.state.close_requested ≡ false }
     ensures fit { IsFit port.new.plan port.new.state }
 {
     if port.passes(packet) {

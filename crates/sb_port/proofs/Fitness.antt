@@ -35,7 +35,7 @@ may_send plan s p rest fit first =
     let behind = flat_map message_accesses (rest ++ listed s.waiting.held) in
     let all : port_accesses s ≡ sent ++ (accesses_of p ++ behind) =
     ap (λ (list : List Message). flat_map message_accesses (item_messages s.sent ++ (list ++ listed s.waiting.held))) first ∙ flat_map-append message_accesses (item_messages s.sent) (message_of p ∷ (rest ++ listed s.waiting.held)) in
-    let counted : s.claimed ≡ length (sent ++ (accesses_of p ++ behind)) = fit.counted ∙ ap (λ (list : List Access). length list) all in
+    let counted : s.words_offered ≡ length (sent ++ (accesses_of p ++ behind)) = fit.counted ∙ ap (λ (list : List Access). length list) all in
     let room : length (item_accesses s.sent) + length (accesses_of p) ≤ plan.budget =
     rw (item_accesses-messages s.sent) (omega (arith, counted, fit.room, length-append sent (accesses_of p ++ behind), length-append (accesses_of p) behind)) in
     let carriable : IsCarriable plan (message_of p) = record { planned = sendable.planned; narrow = sendable.fine.narrow; single = sendable.fine.sound.exclusive } in
@@ -46,11 +46,11 @@ may_send plan s p rest fit first =
     }
 
 -- A Close may be sent where none was.
-pub may_close : (plan : RingPlan) (s : PortState) → IsFit plan s → s.shut ≡ false → MayFollow plan s.sent items.Close
+pub may_close : (plan : RingPlan) (s : PortState) → IsFit plan s → s.close_sent ≡ false → MayFollow plan s.sent items.Close
 may_close plan s fit unsent =
     let sent = flat_map message_accesses (item_messages s.sent) in
     let behind = flat_map message_accesses (s.waiting.owed ++ listed s.waiting.held) in
-    let counted : s.claimed ≡ length (sent ++ behind) = fit.counted ∙ ap (λ (list : List Access). length list) (flat_map-append message_accesses (item_messages s.sent) (s.waiting.owed ++ listed s.waiting.held)) in
+    let counted : s.words_offered ≡ length (sent ++ behind) = fit.counted ∙ ap (λ (list : List Access). length list) (flat_map-append message_accesses (item_messages s.sent) (s.waiting.owed ++ listed s.waiting.held)) in
     record {
       unclosed = sym fit.close ∙ unsent;
       fit = λ q is. let no_way : ⊥ = cc in absurd no_way;
@@ -64,26 +64,26 @@ passes_sendable plan s p fit passes =
     record { fine = record { sound = passes.sound; whole = packet_whole p; narrow = omega (arith, small, width) }; planned = passes.planned }
 
 -- the words of a port that is offered a message are those before, followed by the message's
-pub offered_accesses : (s : PortState) (p : Packet) (claimed : ℕ)
-    → port_accesses (record s { waiting = offered s.waiting (message_of p); claimed = claimed }) ≡ port_accesses s ++ accesses_of p
-offered_accesses s p claimed =
+pub offered_accesses : (s : PortState) (p : Packet) (words_offered : ℕ)
+    → port_accesses (record s { waiting = offered s.waiting (message_of p); words_offered = words_offered }) ≡ port_accesses s ++ accesses_of p
+offered_accesses s p words_offered =
     let sent = item_messages s.sent in let held = listed s.waiting.held in let m = message_of p in
-    let now : port_messages (record s { waiting = offered s.waiting m; claimed = claimed }) ≡ port_messages s ++ m ∷ [] =
+    let now : port_messages (record s { waiting = offered s.waiting m; words_offered = words_offered }) ≡ port_messages s ++ m ∷ [] =
     ap (λ (list : List Message). sent ++ list) (append-nil (s.waiting.owed ++ (held ++ m ∷ [])) ∙ sym (append_assoc s.waiting.owed held (m ∷ [])))
     ∙ sym (append_assoc sent (s.waiting.owed ++ held) (m ∷ [])) in
     ap (λ (list : List Message). flat_map message_accesses list) now ∙ flat_map-append message_accesses (port_messages s) (m ∷ [])
     ∙ ap (λ (list : List Access). port_accesses s ++ list) (append-nil (accesses_of p))
 
 -- A port that was offered a packet that passes is fit.
-pub fit_offered : (plan : RingPlan) (s : PortState) (p : Packet) → IsFit plan s → s.closing ≡ false → MayPass plan (length (port_accesses s)) (message_of p)
-    → IsFit plan (record s { waiting = offered s.waiting (message_of p); claimed = s.claimed + word_count_of p.cmd })
+pub fit_offered : (plan : RingPlan) (s : PortState) (p : Packet) → IsFit plan s → s.close_requested ≡ false → MayPass plan (length (port_accesses s)) (message_of p)
+    → IsFit plan (record s { waiting = offered s.waiting (message_of p); words_offered = s.words_offered + word_count_of p.cmd })
 fit_offered plan s p fit untold passes =
-    let unshut : (s.shut ≡ true) → ⊥ = (λ h. let no_way : true ≡ false = sym (fit.told h) ∙ untold in absurd (cc)) in
+    let unshut : (s.close_sent ≡ true) → ⊥ = (λ h. let no_way : true ≡ false = sym (fit.told h) ∙ untold in absurd (cc)) in
     let words : length (accesses_of p) ≡ word_count_of p.cmd = length-map-range_with_len (access_at (message_of p)) 0 (word_count_of p.cmd) in
-    let claimed = s.claimed + word_count_of p.cmd in
-    let t : PortState = record s { waiting = offered s.waiting (message_of p); claimed = claimed } in
+    let words_offered = s.words_offered + word_count_of p.cmd in
+    let t : PortState = record s { waiting = offered s.waiting (message_of p); words_offered = words_offered } in
     let all : length (port_accesses t) ≡ length (port_accesses s) + length (accesses_of p) =
-    ap (λ (list : List Access). length list) (offered_accesses s p claimed) ∙ length-append (port_accesses s) (accesses_of p) in
+    ap (λ (list : List Access). length list) (offered_accesses s p words_offered) ∙ length-append (port_accesses s) (accesses_of p) in
     record {
       width = fit.width;
       wide = fit.wide;
@@ -108,7 +108,7 @@ fit_sends plan s t fit sends =
     let owed : All (IsSendable plan) (m ∷ rest) = subst (λ (list : List Message). All (IsSendable plan) list) sends.first fit.owed in
     let sendable : IsSendable plan m = All-head (IsSendable plan) m rest owed in
     let unclosed : has_close s.sent ≡ false = unshut plan s fit (λ e. let no_way : m ∷ rest ≡ [] = sym sends.first ∙ e in absurd (cc)) in
-    let unsent : s.shut ≡ false = fit.close ∙ unclosed in
+    let unsent : s.close_sent ≡ false = fit.close ∙ unclosed in
     let now : PortState = record s { sent = s.sent ++ items.Packet p ∷ []; waiting = record s.waiting { owed = rest } } in
     let same : port_accesses now ≡ port_accesses s = sends_accesses s now (record { packet = p; first = sends.first; state = refl }) in
     subst (λ (x : PortState). IsFit plan x) (sym sends.state) (record {
@@ -148,7 +148,7 @@ fit_released plan s fit = record {
 -- A port that sent the Close is fit.
 pub fit_closes : (plan : RingPlan) (s t : PortState) → IsFit plan s → SendsClose s t → IsFit plan t
 fit_closes plan s t fit closes =
-    let now : PortState = record s { sent = s.sent ++ items.Close ∷ []; shut = true } in
+    let now : PortState = record s { sent = s.sent ++ items.Close ∷ []; close_sent = true } in
     let same : port_accesses now ≡ port_accesses s = closes_accesses s now (record { none_owed = closes.none_owed; none_held = closes.none_held; told = closes.told; unsent = closes.unsent; state = refl }) in
     subst (λ (x : PortState). IsFit plan x) (sym closes.state) (record {
       width = fit.width;
@@ -168,10 +168,10 @@ fit_closes plan s t fit closes =
 
 -- A port over an end at which nothing was sent is fit.
 pub fit_fresh : (plan : RingPlan) (sent : List Item) (waiting : Waiting) → sent ≡ [] → waiting ≡ nothing_waits plan.width → IsWidth plan.width → plan.budget ≤ 262144
-    → IsFit plan (record { sent = sent; waiting = waiting; closing = false; shut = false; claimed = 0 })
+    → IsFit plan (record { sent = sent; waiting = waiting; close_requested = false; close_sent = false; words_offered = 0 })
 fit_fresh plan sent waiting unsent none wide limit =
-    subst (λ (w : Waiting). IsFit plan (record { sent = sent; waiting = w; closing = false; shut = false; claimed = 0 })) (sym none)
-    (subst (λ (list : List Item). IsFit plan (record { sent = list; waiting = nothing_waits plan.width; closing = false; shut = false; claimed = 0 })) (sym unsent) (record {
+    subst (λ (w : Waiting). IsFit plan (record { sent = sent; waiting = w; close_requested = false; close_sent = false; words_offered = 0 })) (sym none)
+    (subst (λ (list : List Item). IsFit plan (record { sent = list; waiting = nothing_waits plan.width; close_requested = false; close_sent = false; words_offered = 0 })) (sym unsent) (record {
       width = refl;
       wide = wide;
       limit = limit;

@@ -17,11 +17,11 @@ pub record PortState : Type 0 where
   -- what it has to send
   pub waiting : Waiting
   -- it was told to close
-  pub closing : Bool
+  pub close_requested : Bool
   -- it sent the Close
-  pub shut : Bool
+  pub close_sent : Bool
   -- how many words it was offered in all
-  pub claimed : ℕ
+  pub words_offered : ℕ
 
 -- A port, with what its end knows.
 pub record PortSide : Type 0 where
@@ -38,7 +38,7 @@ fresh_port sending end = record {
   plan = sending.planned end;
   mark = sending.mark end;
   taken = sending.taken end;
-  state = record { sent = []; waiting = nothing_waits (sending.planned end).width; closing = false; shut = false; claimed = 0 };
+  state = record { sent = []; waiting = nothing_waits (sending.planned end).width; close_requested = false; close_sent = false; words_offered = 0 };
 }
 
 -- the same port over this end, which has met the other one
@@ -68,7 +68,7 @@ let_go s = item_messages s.sent ++ s.waiting.owed
 
 -- The port owes an item: a message, or the Close that it was told to send.
 abbrev pub owes : PortState → Bool
-owes s = some_owed s.waiting || (s.closing && not s.shut)
+owes s = some_owed s.waiting || (s.close_requested && not s.close_sent)
 
 -- a message that this port may send
 pub record IsSendable (plan : RingPlan) (m : Message) : Type 0 where
@@ -81,15 +81,15 @@ pub record IsFit (plan : RingPlan) (s : PortState) : Type 0 where
   pub wide : IsWidth plan.width
   pub limit : plan.budget ≤ 262144
   -- it knows whether it sent the Close, which it sends when it was told to and has nothing else to send
-  pub close : s.shut ≡ has_close s.sent
-  pub told : s.shut ≡ true → s.closing ≡ true
-  pub none_owed : s.shut ≡ true → s.waiting.owed ≡ []
-  pub none_held : s.shut ≡ true → s.waiting.held ≡ None
+  pub close : s.close_sent ≡ has_close s.sent
+  pub told : s.close_sent ≡ true → s.close_requested ≡ true
+  pub none_owed : s.close_sent ≡ true → s.waiting.owed ≡ []
+  pub none_held : s.close_sent ≡ true → s.waiting.held ≡ None
   -- what was sent may go over the ring in this order; all of it was sound, and all that waits may be sent
   pub in_turn : AreInTurn plan s.sent
   pub sound : All IsSound (item_messages s.sent)
   pub owed : All (IsSendable plan) s.waiting.owed
   pub held : All (IsSendable plan) (listed s.waiting.held)
   -- the words in all are counted, and within the ring's budget
-  pub counted : s.claimed ≡ length (port_accesses s)
-  pub room : s.claimed ≤ plan.budget
+  pub counted : s.words_offered ≡ length (port_accesses s)
+  pub room : s.words_offered ≤ plan.budget

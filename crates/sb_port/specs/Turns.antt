@@ -18,9 +18,9 @@ pub record SendsFirst (before after : PortState) : Type 0 where
 pub record SendsClose (before after : PortState) : Type 0 where
   pub none_owed : before.waiting.owed ≡ []
   pub none_held : before.waiting.held ≡ None
-  pub told : before.closing ≡ true
-  pub unsent : before.shut ≡ false
-  pub state : after ≡ record before { sent = before.sent ++ items.Close ∷ []; shut = true }
+  pub told : before.close_requested ≡ true
+  pub unsent : before.close_sent ≡ false
+  pub state : after ≡ record before { sent = before.sent ++ items.Close ∷ []; close_sent = true }
 
 -- what was held is owed from now on, since the ring is full by the count of taken items that the port's end knows
 pub record IsReleased (before after : PortSide) : Type 0 where
@@ -31,7 +31,7 @@ pub record IsReleased (before after : PortSide) : Type 0 where
 pub record LetsGo (more : Bool) (before after : PortSide) : Type 0 where
   pub none_owed : before.state.waiting.owed ≡ []
   pub some_held : before.state.waiting.held ≢ None
-  pub cause : (more ≡ false) ⊎ (before.state.closing ≡ true)
+  pub cause : (more ≡ false) ⊎ (before.state.close_requested ≡ true)
   pub state : IsReleased before after ⊎ SendsFirst (record before.state { waiting = released before.state.waiting }) after.state
 
 -- an item was owed, the ring is full by the count of taken items that the port's end knows, and nothing changes
@@ -45,7 +45,7 @@ pub record IsBlocked (before after : PortSide) (told_sent told_taken : ℕ) : Ty
 -- nothing was owed, and nothing held is due; nothing changes
 pub record IsAtRest (more : Bool) (before after : PortState) : Type 0 where
   pub none_owed : owes before ≡ false
-  pub not_due : (before.waiting.held ≡ None) ⊎ ((more ≡ true) × (before.closing ≡ false))
+  pub not_due : (before.waiting.held ≡ None) ⊎ ((more ≡ true) × (before.close_requested ≡ false))
   pub state : after ≡ before
 
 -- What a turn answers, from the port before it to the port after it.

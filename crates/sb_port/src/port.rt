@@ -29,11 +29,11 @@ pub struct OutPort<T: TxEnd> {
     // what is to be sent
     outbox: Outbox,
     // the port was told to close
-    closing: bool,
+    close_requested: bool,
     // the Close was sent
-    shut: bool,
+    close_sent: bool,
     // the number of words that were offered
-    claimed: u32,
+    words_offered: u32,
 }
 
 impl<T: TxEnd> Model for OutPort<T> {
@@ -41,7 +41,18 @@ impl<T: TxEnd> Model for OutPort<T> {
 
     ghost Value = { PortSide };
 
-    ghost view = { λ p. record { plan = T.planned p.tx; mark = T.mark p.tx; taken = T.taken p.tx; state = record { sent = T.sent p.tx; waiting = p.outbox; closing = p.closing; shut = p.shut; claimed = p.claimed } } };
+    ghost view = { λ p. record {
+      plan = T.planned p.tx;
+      mark = T.mark p.tx;
+      taken = T.taken p.tx;
+      state = record {
+        sent = T.sent p.tx;
+        waiting = p.outbox;
+        close_requested = p.close_requested;
+        close_sent = p.close_sent;
+        words_offered = p.words_offered;
+      };
+    } };
 }
 
 // the packet is an answer
@@ -77,9 +88,9 @@ impl<T: TxEnd> OutPort<T> {
         OutPort {
             tx,
             outbox: Outbox::new(width),
-            closing: false,
-            shut: false,
-            claimed: 0,
+            close_requested: false,
+            close_sent: false,
+            words_offered: 0,
         }
     }
 
@@ -96,7 +107,7 @@ impl<T: TxEnd> OutPort<T> {
     {
         match self.outbox.first() {
             Some(_) => false,
-            None => !self.closing || self.shut,
+            None => !self.close_requested || self.close_sent,
         }
     }
 
@@ -114,7 +125,7 @@ impl<T: TxEnd> OutPort<T> {
         if !is_planned(plan, packet) {
             return false;
         }
-        if self.claimed + word_count(&packet.cmd) > plan.budget {
+        if self.words_offered + word_count(&packet.cmd) > plan.budget {
             return false;
         }
         true
@@ -124,17 +135,22 @@ impl<T: TxEnd> OutPort<T> {
     pub fn offer(&mut self, packet: &Packet)
         requires fit { IsFit self.old.plan self.old.state }
         requires ready { owes self.old.state ≡ false }
-        requires untold { self.old.state.closing ≡ false }
+        requires untold { self.old.state.close_requested ≡ false }
         requires passes { MayPass self.old.plan (length (offered_words self.old)) (message_of packet.now) }
         ensures offered { self.new.state.waiting ≡ offered self.old.state.waiting (message_of packet.now) }
-        ensures claimed { self.new.state.claimed ≡ self.old.state.claimed + word_count_of packet.now.cmd }
+        ensures words_offered { self.new.state.words_offered ≡ self.old.state.words_offered + word_count_of packet.now.cmd }
         ensures rest { self.new
-            ≡ record self.old { state = record self.old.state { waiting = self.new.state.waiting; claimed = self.new.state.claimed } } }
+            ≡ record self.old {
+              state = record self.old.state {
+                waiting = self.new.state.waiting;
+                words_offered = self.new.state.words_offered;
+              };
+            } }
         ensures words { offered_words self.new ≡ offered_words self.old ++ accesses_of packet.now }
         ensures fit { IsFit self.new.plan self.new.state }
     {
         self.outbox.offer(packet);
-        self.claimed += word_count(&packet.cmd);
+        self.words_offered += word_count(&packet.cmd);
     }
 
     // sends the first packet that is owed, where the ring has room
@@ -170,13 +186,13 @@ impl<T: TxEnd> OutPort<T> {
         ensures learnt { self.old.taken ≤ self.new.taken }
         ensures fit { IsFit self.new.plan self.new.state }
     {
-        if !self.closing || self.shut {
+        if !self.close_requested || self.close_sent {
             self.tx.flush();
             return PortTurn::Clear;
         }
         match self.tx.try_push(&Item::Close) {
             Push::Done => {
-                self.shut = true;
+                self.close_sent = true;
                 PortTurn::Moved
             }
             Push::Full { sent, taken } => {
@@ -190,7 +206,7 @@ impl<T: TxEnd> OutPort<T> {
     fn step(&mut self, more: bool) -> PortTurn
         requires fit { IsFit self.old.plan self.old.state }
         ensures turned { Turned more self.old self.new result }
-        ensures told { self.new.state.closing ≡ self.old.state.closing }
+        ensures told { self.new.state.close_requested ≡ self.old.state.close_requested }
         ensures learnt { self.old.taken ≤ self.new.taken }
         ensures plan { self.new.plan ≡ self.old.plan }
         ensures mark { self.new.mark ≡ self.old.mark }
@@ -199,7 +215,7 @@ impl<T: TxEnd> OutPort<T> {
         if let Some(packet) = self.outbox.first() {
             return self.send(&packet);
         }
-        if more && !self.closing {
+        if more && !self.close_requested {
             self.tx.flush();
             return PortTurn::Clear;
         }
@@ -219,7 +235,7 @@ impl<T: TxEnd> OutPort<T> {
         ensures turned { Turned more self.old self.new result }
         ensures words { offered_words self.new ≡ offered_words self.old }
         ensures goes_on { IsPrefix (let_go self.old.state) (let_go self.new.state) }
-        ensures told { self.new.state.closing ≡ self.old.state.closing }
+        ensures told { self.new.state.close_requested ≡ self.old.state.close_requested }
         ensures learnt { self.old.taken ≤ self.new.taken }
         ensures plan { self.new.plan ≡ self.old.plan }
         ensures mark { self.new.mark ≡ self.old.mark }
@@ -231,25 +247,25 @@ impl<T: TxEnd> OutPort<T> {
     /// Tells the port to send a Close behind all that it owes and holds. It wasn't told before.
     pub fn close(&mut self)
         requires fit { IsFit self.old.plan self.old.state }
-        requires untold { self.old.state.closing ≡ false }
-        ensures told { self.new ≡ record self.old { state = record self.old.state { closing = true } } }
+        requires untold { self.old.state.close_requested ≡ false }
+        ensures told { self.new ≡ record self.old { state = record self.old.state { close_requested = true } } }
         ensures fit { IsFit self.new.plan self.new.state }
     {
-        self.closing = true;
+        self.close_requested = true;
     }
 
     /// Whether the port was told to close.
-    pub fn closing(&self) -> bool
-        ensures closing { result ≡ self.now.state.closing }
+    pub fn close_requested(&self) -> bool
+        ensures close_requested { result ≡ self.now.state.close_requested }
     {
-        self.closing
+        self.close_requested
     }
 
     /// Whether the Close was sent.
     pub fn closed(&self) -> bool
-        ensures closed { result ≡ self.now.state.shut }
+        ensures closed { result ≡ self.now.state.close_sent }
     {
-        self.shut
+        self.close_sent
     }
 
     /// Lends the sending end, so that it can meet the receiving one. The port stays fit where the end keeps its plan and
@@ -274,9 +290,9 @@ impl<T: TxEnd> OutPort<T> {
         let OutPort {
             tx,
             outbox: _,
-            closing: _,
-            shut: _,
-            claimed: _,
+            close_requested: _,
+            close_sent: _,
+            words_offered: _,
         } = self;
         tx
     }

@@ -15,7 +15,7 @@ fn device_place(packet: &Packet) -> u64
 {
     match packet.cmd.op {
         Op::RespRd | Op::RespWr => packet.src,
-        _ => packet.dst,
+        Op::ReqRd | Op::ReqWr | Op::ReqWrPosted | Op::ReqAtomic => packet.dst,
     }
 }
 
@@ -25,7 +25,7 @@ fn reply_place(packet: &Packet) -> u64
 {
     match packet.cmd.op {
         Op::RespRd | Op::RespWr => packet.dst,
-        _ => packet.src,
+        Op::ReqRd | Op::ReqWr | Op::ReqWrPosted | Op::ReqAtomic => packet.src,
     }
 }
 
@@ -36,7 +36,7 @@ fn is_single(packet: &Packet) -> bool
 {
     match packet.cmd.op {
         Op::ReqAtomic => true,
-        _ => packet.cmd.len == 0,
+        Op::ReqRd | Op::ReqWr | Op::ReqWrPosted | Op::RespRd | Op::RespWr => { packet.cmd.len == 0 }
     }
 }
 

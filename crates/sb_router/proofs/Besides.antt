@@ -1,7 +1,8 @@
 -- What one turn found besides what had been found before, where it was noted among it.
-use Rattle.std.proofs.Common.{◌≡◌, ◌||◌, inl, inr, Bool, true, false, Option, Some, None, refl, sym, ap, ◌∙◌, subst}
+use Rattle.std.proofs.Common.{◌≡◌, inl, inr, Bool, true, false, Option, Some, None, refl, sym, ap, ◌∙◌, subst}
 use Rattle.sb_link.specs.declared.answers.Cause.{Cause}
 use Rattle.sb_port.specs.Ports.{PortSide}
+use Rattle.sb_drive.proofs.Turned.{or_true, or_false}
 use Rattle.sb_node.specs.declared.findings.Findings.{Findings}
 use Rattle.sb_packet.specs.declared.packet.Packet.{Packet}
 use Rattle.sb_packet.specs.declared.item.Item.TheVariants as items
@@ -12,14 +13,6 @@ use Rattle.sb_router.specs.Lanes.{InletState}
 use Rattle.sb_router.specs.Popping.{IsPopped}
 use Rattle.sb_router.specs.Causes.{FindsBesides, found_in_both, lower, nothing_found}
 use Rattle.sb_router.proofs.Lowest.{lower_none, same_found}
-
-or_true : (a : Bool) → true ≡ (a || true)
-or_true true = refl
-or_true false = refl
-
-or_nothing : (a : Bool) → a ≡ (a || false)
-or_nothing true = refl
-or_nothing false = refl
 
 -- a turn of a port that began with no cause of that kind
 module _ (before : Findings) where
@@ -39,10 +32,10 @@ module _ (before : Findings) where
 
   -- a cause, or none
   pub full_cause_found : (found : Findings) (cause : Option Cause) → found ≡ record before { full = cause } → lower_full found ≡ found_in_both before (record nothing_found { full = cause })
-  full_cause_found found cause is = ap lower_full is ∙ same_found (or_nothing before.moved) refl (sym (lower_none before.waits)) (sym (lower_none before.empty))
+  full_cause_found found cause is = ap lower_full is ∙ same_found (or_false before.moved) refl (sym (lower_none before.waits)) (sym (lower_none before.empty))
 
   pub empty_cause_found : (found : Findings) (cause : Option Cause) → found ≡ record before { empty = cause } → lower_empty found ≡ found_in_both before (record nothing_found { empty = cause })
-  empty_cause_found found cause is = ap lower_empty is ∙ same_found (or_nothing before.moved) (sym (lower_none before.full)) (sym (lower_none before.waits)) refl
+  empty_cause_found found cause is = ap lower_empty is ∙ same_found (or_false before.moved) (sym (lower_none before.full)) (sym (lower_none before.waits)) refl
 
   -- a port's turn
   pub port_besides : (more : Bool) (x y : PortSide) (found : Findings) → IsPortTurned more x y (record before { full = None }) found → FindsBesides (IsPortTurned more x y nothing_found) before (lower_full found)

@@ -20,7 +20,7 @@ pub record TellsSoFar (route : Route) (s now : LaneState) (place : ℕ) : Type 0
   pub moved : IsToldMoved s now false
   pub unsent : SendsNothing s now
   pub words : OffersNothing s now
-  pub told : (o : ℕ) → o < place → (outlet_at now o).state.closing ≡ true
+  pub told : (o : ℕ) → o < place → (outlet_at now o).state.close_requested ≡ true
 
 pub tells_none : (route : Route) (s : LaneState) → TellsSoFar route s s 0
 tells_none route s = record { steps = none; rests = rested_lane_same s; inlets = refl; moved = moved_none s; unsent = λ o. refl; words = λ o. refl; told = λ o lt. absurd (omega arith) }
@@ -31,8 +31,8 @@ tells_more {route} {s} {now} {then} {place} h silent lt at = subst (λ (t : Lane
     y : PortSide
     y = at.port
 
-    closing : y.state.closing ≡ true
-    closing = ap (λ (port : PortSide). port.state.closing) at.told.told
+    close_requested : y.state.close_requested ≡ true
+    close_requested = ap (λ (port : PortSide). port.state.close_requested) at.told.told
 
     same_moves : port_moves y ≡ port_moves (outlet_at now place)
     same_moves = ap port_moves at.told.told
@@ -45,7 +45,7 @@ tells_more {route} {s} {now} {then} {place} h silent lt at = subst (λ (t : Lane
       moved = moved_then false false h.moved (outlet_same now place y lt same_moves);
       unsent = λ o. same_at_each now.outlets place y no_port lt (λ (z : PortSide). z.state.sent) (ap (λ (port : PortSide). port.state.sent) at.told.told) o ∙ h.unsent o;
       words = λ o. same_at_each now.outlets place y no_port lt offered_words (ap offered_words at.told.told) o ∙ h.words o;
-      told = so_far now.outlets place y no_port lt (λ _ z. z.state.closing ≡ true) closing h.told;
+      told = so_far now.outlets place y no_port lt (λ _ z. z.state.close_requested ≡ true) close_requested h.told;
     }
 
 pub tells_all : {route : Route} {s now : LaneState} {place : ℕ} → TellsSoFar route s now place → All IsSilent s.inlets → length now.outlets ≤ place → HasClosed route s now

@@ -13,7 +13,7 @@ use Rattle.sb_packet.specs.declared.packet.Packet.{Packet}
 use Rattle.sb_packet.specs.declared.item.Item.{Item}
 use Rattle.sb_port.specs.Ports.{PortSide, offered_words}
 use Rattle.sb_node.specs.Sides.{received_words}
-use Rattle.sb_router.specs.Lanes.{InletState, LaneState, Route, came_at, held_at, held_words, inlet_at, no_inlet, no_port, offered_at, outlet_at, next_place}
+use Rattle.sb_router.specs.Lanes.{InletState, LaneState, Route, came_at, held_words_at, held_words, inlet_at, no_inlet, no_port, offered_at, outlet_at, next_place}
 use Rattle.sb_router.specs.Steps.{Step, Steps, receives, looks, drops, offers, turns, tells, none, further}
 use Rattle.sb_router.specs.Whole.{IsWholeInlet, IsWholeLane}
 use Rattle.sb_router.specs.Forwarding.{Words, Forwards, IsLaid, came_for, held_for, part, popped_for}
@@ -46,10 +46,10 @@ module _ {words : Words} {route : Route} (s : LaneState) (h : Forwards words rou
       let shape : SameShape s (record s { outlets = set s.outlets o y }) = outlets_shape s o y lt plan in
       record {
         few = λ q. let old = h.few q in let same : length (offered_words (get_or (set s.outlets o y) q no_port)) ≡ length (offered_at s q) = ap length (offered_same s o y lt e q) in omega (arith, old, same);
-        picks = λ f i q passes. subst (λ (l : List Access). IsSubsequence (part words f l ++ part words f (held_at s i)) (part words f (came_at s i))) (sym (offered_same s o y lt e q)) (h.picks f i q (passed_before shape passes));
+        picks = λ f i q passes. subst (λ (l : List Access). IsSubsequence (part words f l ++ part words f (held_words_at s i)) (part words f (came_at s i))) (sym (offered_same s o y lt e q)) (h.picks f i q (passed_before shape passes));
         whole = λ f i q passes sound room.
             let budget : (get_or (set s.outlets o y) q no_port).plan.budget ≡ (outlet_at s q).plan.budget = ap (λ (plan : RingPlan). plan.budget) (shape.out_plans q) in
-            subst (λ (l : List Access). part words f (came_at s i) ≡ part words f l ++ part words f (held_at s i)) (sym (offered_same s o y lt e q)) (h.whole f i q (passed_before shape passes) sound (omega (arith, room, budget)));
+            subst (λ (l : List Access). part words f (came_at s i) ≡ part words f l ++ part words f (held_words_at s i)) (sym (offered_same s o y lt e q)) (h.whole f i q (passed_before shape passes) sound (omega (arith, room, budget)));
       }
 
   -- a ring was looked at, but nothing came
@@ -60,7 +60,7 @@ module _ {words : Words} {route : Route} (s : LaneState) (h : Forwards words rou
     came_same : (j : ℕ) → came_at looked j ≡ came_at s j
     came_same = same_at_each s.inlets i x no_inlet lt (λ (z : InletState). received_words z.ring) (ap item_accesses same_received)
 
-    held_same : (j : ℕ) → held_at looked j ≡ held_at s j
+    held_same : (j : ℕ) → held_words_at looked j ≡ held_words_at s j
     held_same = same_at_each s.inlets i x no_inlet lt (λ (z : InletState). held_words z.held) (ap held_words same_held)
 
     came_sum : (o : ℕ) → popped_for words looked o ≡ popped_for words s o
@@ -75,7 +75,7 @@ module _ {words : Words} {route : Route} (s : LaneState) (h : Forwards words rou
     looking = record {
       few = λ o. let old = h.few o in omega (arith, old, came_sum o, held_sum o);
       picks = λ f j o passes. let old = h.picks f j o (passed_before (inlets_shape s i x lt same_plan) passes) in
-          subst (λ (l : List Access). IsSubsequence (part words f (offered_at s o) ++ part words f (held_at looked j)) (part words f l)) (sym (came_same j))
+          subst (λ (l : List Access). IsSubsequence (part words f (offered_at s o) ++ part words f (held_words_at looked j)) (part words f l)) (sym (came_same j))
           (subst (λ (l : List Access). IsSubsequence (part words f (offered_at s o) ++ part words f l) (part words f (came_at s j))) (sym (held_same j)) old);
       whole = λ f j o passes sound room.
           ap (part words f) (came_same j)

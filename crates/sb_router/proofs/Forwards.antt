@@ -1,10 +1,9 @@
 -- What holds of the words of a direction at any time, and stays so while items are received.
 use Rattle.std.proofs.Common.{◌≡◌, inl, inr, ℕ, ◌<◌, ◌+◌, List, [], ◌∷◌, ◌++◌, length, set, get_or, All, refl, sym, ap, ◌∙◌, subst, arith, length-append}
 use Rattle.std.specs.Prelude.{filter, sum_by}
-use Rattle.std.proofs.lemmas.List.{append-nil, get_or_default, length-set}
+use Rattle.std.proofs.lemmas.List.{get_or_default, length-set}
 use Rattle.std.proofs.lemmas.List.Elements.{filter-append, All-from_recursion, recursion_from_All}
 use Rattle.std.proofs.lemmas.List.Sums.{sum_by-set}
-use Rattle.std.proofs.lemmas.Grind.{flat_map-append}
 use Rattle.std.specs.List.{AllByRecursion}
 use Rattle.sb_packet.specs.Accesses.{Access, accesses_of_item}
 use Rattle.sb_packet.specs.Plans.{NetFlow}
@@ -13,9 +12,10 @@ use Rattle.sb_packet.specs.Soundness.{IsSound}
 use Rattle.sb_packet.specs.Traffic.{item_accesses, item_messages}
 use Rattle.sb_packet.specs.declared.item.Item.{Item}
 use Rattle.sb_node.specs.Sides.{received_words}
-use Rattle.sb_router.specs.Lanes.{InletState, LaneState, Route, came_at, held_at, held_words, inlet_at, no_inlet, offered_at}
-use Rattle.sb_router.specs.Steps.{IsReceived, held_of}
-use Rattle.sb_router.specs.Forwarding.{Words, Passes, AreSound, Forwards, HasForwarded, came_for, held_for, part, popped_for}
+use Rattle.sb_node.proofs.Items.{item_more}
+use Rattle.sb_router.specs.Lanes.{InletState, LaneState, Route, came_at, held_words_at, held_words, inlet_at, no_inlet, offered_at}
+use Rattle.sb_router.specs.Steps.{IsTakenByInlet, held_of}
+use Rattle.sb_router.specs.Forwarding.{Words, Passes, HasSoundInlets, Forwards, HasForwarded, came_for, held_for, part, popped_for}
 use Rattle.sb_router.proofs.Places.{set_cases}
 use Rattle.sb_router.proofs.Shapes.{inlets_shape, passed_before}
 use Rattle.sb_router.proofs.Subsequences.{all_came, more_came, without_end}
@@ -23,13 +23,9 @@ use Rattle.sb_packet.specs.declared.item.Item.TheVariants as items
 
 pub has_forwarded : {words : Words} {route : Route} {s : LaneState} → Forwards words route s → (f : NetFlow) (i o : ℕ) → Passes route s f i o → HasForwarded words s f i o
 has_forwarded {words} {route} {s} h f i o passes = record {
-  in_order = without_end (part words f (offered_at s o)) (part words f (held_at s i)) (h.picks f i o passes);
+  in_order = without_end (part words f (offered_at s o)) (part words f (held_words_at s i)) (h.picks f i o passes);
   whole = h.whole f i o passes;
 }
-
--- an item adds its words
-pub one_more : (list : List Item) (item : Item) → item_accesses (list ++ item ∷ []) ≡ item_accesses list ++ accesses_of_item item
-one_more list item = flat_map-append accesses_of_item list (item ∷ []) ∙ ap (λ (l : List Access). item_accesses list ++ l) (append-nil (accesses_of_item item))
 
 -- the words of an item are held, if it has any
 pub held_item : (item : Item) → held_words (held_of item) ≡ accesses_of_item item
@@ -47,7 +43,7 @@ sound_front list more all = All-from_recursion IsSound (item_messages list) (fro
 
 -- what was sound is sound without the last items of a ring
 pub sound_before : (s : LaneState) (i : ℕ) (x : InletState) (more : List Item) → i < length s.inlets → x.ring.received ≡ (inlet_at s i).ring.received ++ more
-    → AreSound (record s { inlets = set s.inlets i x }) → AreSound s
+    → HasSoundInlets (record s { inlets = set s.inlets i x }) → HasSoundInlets s
 sound_before s i x more lt e all k d kt =
     let IsSoundRing : InletState → Type 0 = λ y. All IsSound (item_messages y.ring.received) in
     let there : IsSoundRing (get_or (set s.inlets i x) k no_inlet) = all k no_inlet (omega (arith, kt, length-set s.inlets i x)) in
@@ -61,17 +57,17 @@ sound_before s i x more lt e all k d kt =
 
 module _ {words : Words} {route : Route} (s : LaneState) (h : Forwards words route s) where
   -- an item was received
-  module _ (i : ℕ) (x : InletState) (item : Item) (lt : i < length s.inlets) (is : IsReceived (inlet_at s i) x item) where
+  module _ (i : ℕ) (x : InletState) (item : Item) (lt : i < length s.inlets) (is : IsTakenByInlet (inlet_at s i) x item) where
     abbrev pub t : LaneState
     t = record s { inlets = set s.inlets i x }
 
     came : received_words x.ring ≡ came_at s i ++ accesses_of_item item
-    came = ap item_accesses is.received ∙ one_more (inlet_at s i).ring.received item
+    came = ap item_accesses is.received ∙ item_more (inlet_at s i).ring.received item
 
     held : held_words x.held ≡ accesses_of_item item
     held = ap held_words is.held ∙ held_item item
 
-    free : held_at s i ≡ []
+    free : held_words_at s i ≡ []
     free = ap held_words is.free
 
     came_count : (o : ℕ) → came_for words o x ≡ came_for words o (inlet_at s i) + length (filter (words.goes_to o) (accesses_of_item item))
@@ -101,9 +97,9 @@ module _ {words : Words} {route : Route} (s : LaneState) (h : Forwards words rou
           let O = part words f (offered_at s o) in
           elim (set_cases s.inlets i j x no_inlet lt) [
             | inl q ↦
-                let at : IsSubsequence (O ++ part words f (held_at s i)) (part words f (came_at s i)) = subst (λ (k : ℕ). IsSubsequence (O ++ part words f (held_at s k)) (part words f (came_at s k))) q.0 old in
+                let at : IsSubsequence (O ++ part words f (held_words_at s i)) (part words f (came_at s i)) = subst (λ (k : ℕ). IsSubsequence (O ++ part words f (held_words_at s k)) (part words f (came_at s k))) q.0 old in
                 let new : IsSubsequence (O ++ part words f (held_words x.held)) (part words f (received_words x.ring)) =
-                more_came O (part words f (held_at s i)) (part words f (came_at s i)) (part words f (accesses_of_item item)) (ap (part words f) free) (ap (part words f) held) (part_came f) at in
+                more_came O (part words f (held_words_at s i)) (part words f (came_at s i)) (part words f (accesses_of_item item)) (ap (part words f) free) (ap (part words f) held) (part_came f) at in
                 subst (λ (y : InletState). IsSubsequence (O ++ part words f (held_words y.held)) (part words f (received_words y.ring))) (sym q.1) new
             | inr q ↦ subst (λ (y : InletState). IsSubsequence (O ++ part words f (held_words y.held)) (part words f (received_words y.ring))) (sym q) old
           ];
@@ -112,9 +108,9 @@ module _ {words : Words} {route : Route} (s : LaneState) (h : Forwards words rou
           let O = part words f (offered_at s o) in
           elim (set_cases s.inlets i j x no_inlet lt) [
             | inl q ↦
-                let at : part words f (came_at s i) ≡ O ++ part words f (held_at s i) = subst (λ (k : ℕ). part words f (came_at s k) ≡ O ++ part words f (held_at s k)) q.0 old in
+                let at : part words f (came_at s i) ≡ O ++ part words f (held_words_at s i) = subst (λ (k : ℕ). part words f (came_at s k) ≡ O ++ part words f (held_words_at s k)) q.0 old in
                 let new : part words f (received_words x.ring) ≡ O ++ part words f (held_words x.held) =
-                all_came O (part words f (held_at s i)) (part words f (came_at s i)) (part words f (accesses_of_item item)) (ap (part words f) free) (ap (part words f) held) (part_came f) at in
+                all_came O (part words f (held_words_at s i)) (part words f (came_at s i)) (part words f (accesses_of_item item)) (ap (part words f) free) (ap (part words f) held) (part_came f) at in
                 subst (λ (y : InletState). part words f (received_words y.ring) ≡ O ++ part words f (held_words y.held)) (sym q.1) new
             | inr q ↦ subst (λ (y : InletState). part words f (received_words y.ring) ≡ O ++ part words f (held_words y.held)) (sym q) old
           ];

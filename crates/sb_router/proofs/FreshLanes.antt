@@ -32,7 +32,7 @@ module _ {T U A B : Type 0} (sending : tx.Ghosts T) (receiving : rx.Ghosts U) (f
   whole_inlets [] = All-nil IsWholeInlet
   whole_inlets (a ∷ ins) = All-cons IsWholeInlet (fresh_inlet receiving (from a)) (inlets ins) (whole_inlet (from a)) (whole_inlets ins)
 
-  unclosed : (outs : List B) (o : ℕ) → (get_or (outlets outs) o no_port).state.closing ≡ false
+  unclosed : (outs : List B) (o : ℕ) → (get_or (outlets outs) o no_port).state.close_requested ≡ false
   unclosed [] o = refl
   unclosed (b ∷ outs) zero = refl
   unclosed (b ∷ outs) (suc o) = unclosed outs o

@@ -1,5 +1,6 @@
 -- Handing on what is held of one ring after another.
 use Rattle.std.proofs.Common.{◌≡◌, inl, inr, ℕ, ◌<◌, ◌≤◌, ◌+◌, ◌||◌, Bool, true, false, length, set, get_or, refl, sym, ◌∙◌, subst, arith}
+use Rattle.std.proofs.lemmas.Bool.{or_parts}
 use Rattle.sb_router.specs.Lanes.{InletState, LaneState, Route, inlet_at, no_inlet, no_port}
 use Rattle.sb_port.specs.Ports.{PortSide}
 use Rattle.sb_router.specs.Steps.{Step, Steps, drops, offers, none, further, emptied}
@@ -8,7 +9,7 @@ use Rattle.sb_router.specs.Moves.{IsToldMoved}
 use Rattle.sb_router.specs.Turning.{HasHanded, SendsNothing}
 use Rattle.sb_router.specs.Whole.{IsWholeLane}
 use Rattle.sb_router.proofs.BusyPorts.{BusySoFar, busy_all, busy_drop, busy_none, busy_offer, busy_wait}
-use Rattle.sb_router.proofs.Cases.{le_cases, or_false}
+use Rattle.sb_router.proofs.Cases.{le_cases}
 use Rattle.sb_router.proofs.NextPlaces.{next_within}
 use Rattle.sb_router.proofs.Places.{same_at_each}
 use Rattle.sb_router.proofs.MoveSteps.{both_more, inlet_emptied, inlet_more, moved_none, moved_then}
@@ -69,8 +70,8 @@ hands_more {route} {s} {now} {then} moved true {place} h w lt is =
       moved_is = moved_then moved true h.moved_is one.moved;
       rings = λ j. one.rings j ∙ h.rings j;
       unsent = λ o. one.unsent o ∙ h.unsent o;
-      still = λ e. let two = or_false moved true e in let two' = two.1 in let no_way : ⊥ = cc in absurd no_way;
-      waiting = λ e. let two = or_false moved true e in let two' = two.1 in let no_way : ⊥ = cc in absurd no_way;
+      still = λ e. let two = or_parts moved true e in let two' = two.1 in let no_way : ⊥ = cc in absurd no_way;
+      waiting = λ e. let two = or_parts moved true e in let two' = two.1 in let no_way : ⊥ = cc in absurd no_way;
       busy = busy_more is;
     }
   where
@@ -83,9 +84,9 @@ hands_more {route} {s} {now} {then} moved false {place} h w lt is =
       moved_is = moved_then moved false h.moved_is (moved_none now);
       rings = h.rings;
       unsent = h.unsent;
-      still = λ e. h.still (or_false moved false e).0;
+      still = λ e. h.still (or_parts moved false e).0;
       waiting = λ e i below. elim (le_cases i place below) [
-        | inl before ↦ h.waiting (or_false moved false e).0 i before
+        | inl before ↦ h.waiting (or_parts moved false e).0 i before
         | inr same ↦ subst (λ (k : ℕ). IsWaiting route k now) (sym same) is.1
       ];
       busy = busy_wait h.busy lt w is.1;

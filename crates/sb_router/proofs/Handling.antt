@@ -17,10 +17,10 @@ use Rattle.sb_packet.specs.declared.item.Item.{Item}
 use Rattle.sb_port.proofs.Items.{item_messages-packet}
 use Rattle.sb_port.specs.Ports.{offered_words, PortSide}
 use Rattle.sb_node.specs.Sides.{received_words}
-use Rattle.sb_router.specs.Lanes.{InletState, LaneState, Route, came_at, held_at, held_words, inlet_at, no_inlet, no_port, offered_at, outlet_at, next_place}
+use Rattle.sb_router.specs.Lanes.{InletState, LaneState, Route, came_at, held_words_at, held_words, inlet_at, no_inlet, no_port, offered_at, outlet_at, next_place}
 use Rattle.sb_router.specs.Steps.{IsGiven, IsRefused, emptied}
 use Rattle.sb_router.specs.Whole.{IsWholeInlet}
-use Rattle.sb_router.specs.Forwarding.{Words, Passes, AreSound, Forwards, IsLaid, IsOneFlow, came_for, held_for, part, popped_for}
+use Rattle.sb_router.specs.Forwarding.{Words, Passes, HasSoundInlets, Forwards, IsLaid, IsOneFlow, came_for, held_for, part, popped_for}
 use Rattle.sb_router.proofs.Places.{same_at_each, set_cases}
 use Rattle.sb_router.proofs.NextPlaces.{next_flow}
 use Rattle.sb_router.proofs.Shapes.{SameShape, inlets_shape, outlet_set, passed_before}
@@ -55,7 +55,7 @@ module _ {words : Words} {route : Route} (s : LaneState) (laid : IsLaid words ro
   one : IsOneFlow words route found.0 (accesses_of p)
   one = laid.one_flow i p found.0 lt found.1
 
-  its_words : held_at s i ≡ accesses_of p
+  its_words : held_words_at s i ≡ accesses_of p
   its_words = ap held_words held
 
   its_count : length (accesses_of p) ≡ (message_of p).count
@@ -76,17 +76,17 @@ module _ {words : Words} {route : Route} (s : LaneState) (laid : IsLaid words ro
   its_goal : (o : ℕ) → route found.0 ≡ Some o → held_for words o (inlet_at s i) ≡ length (accesses_of p)
   its_goal o e = ap (λ (l : List Access). length (filter (words.goes_to o) l)) its_words ∙ ap length (one.together o e)
 
-  sound_there : AreSound s → IsSound (message_of p)
+  sound_there : HasSoundInlets s → IsSound (message_of p)
   sound_there sound = let last = whole.last p held in last_sound p (inlet_at s i).ring.received last.before last.joined (All-get_or (λ y. All IsSound (item_messages y.ring.received)) s.inlets i no_inlet lt sound)
 
-  sound_then : AreSound (record s { inlets = rest }) → AreSound s
+  sound_then : HasSoundInlets (record s { inlets = rest }) → HasSoundInlets s
   sound_then = sound_before s i (emptied (inlet_at s i)) [] lt (sym (append-nil (inlet_at s i).ring.received))
 
   shape : SameShape s (record s { inlets = rest })
   shape = inlets_shape s i (emptied (inlet_at s i)) lt refl
 
   -- where all is sound and within the budget, the packet passes
-  would_pass : (o : ℕ) → route found.0 ≡ Some o → AreSound s → popped_for words s o ≤ (outlet_at s o).plan.budget → MayPass (outlet_at s o).plan (length (offered_at s o)) (message_of p)
+  would_pass : (o : ℕ) → route found.0 ≡ Some o → HasSoundInlets s → popped_for words s o ≤ (outlet_at s o).plan.budget → MayPass (outlet_at s o).plan (length (offered_at s o)) (message_of p)
   would_pass o e sound room =
       let few = h.few o in let here = get_or-le-sum_by (held_for words o) s.inlets i no_inlet lt in
       record {
@@ -108,30 +108,30 @@ module _ {words : Words} {route : Route} (s : LaneState) (laid : IsLaid words ro
         whole_then f j o now (sound_then sound) enough (h.whole f j o now (sound_then sound) enough);
   }
     where
-      picks : (f : NetFlow) (j o : ℕ) → IsSubsequence (part words f (offered_at s o) ++ part words f (held_at s j)) (part words f (came_at s j))
+      picks : (f : NetFlow) (j o : ℕ) → IsSubsequence (part words f (offered_at s o) ++ part words f (held_words_at s j)) (part words f (came_at s j))
           → IsSubsequence (part words f (offered_at s o) ++ part words f (held_words (get_or rest j no_inlet).held)) (part words f (came_at (record s { inlets = rest }) j))
       picks f j o old = let O = part words f (offered_at s o) in
           elim (set_cases s.inlets i j (emptied (inlet_at s i)) no_inlet lt) [
             | inl q ↦
-                let at : IsSubsequence (O ++ part words f (held_at s i)) (part words f (came_at s i)) = subst (λ (k : ℕ). IsSubsequence (O ++ part words f (held_at s k)) (part words f (came_at s k))) q.0 old in
-                let new : IsSubsequence (O ++ []) (part words f (came_at s i)) = subst (λ (l : List Access). IsSubsequence l (part words f (came_at s i))) (sym (append-nil O)) (without_end O (part words f (held_at s i)) at) in
+                let at : IsSubsequence (O ++ part words f (held_words_at s i)) (part words f (came_at s i)) = subst (λ (k : ℕ). IsSubsequence (O ++ part words f (held_words_at s k)) (part words f (came_at s k))) q.0 old in
+                let new : IsSubsequence (O ++ []) (part words f (came_at s i)) = subst (λ (l : List Access). IsSubsequence l (part words f (came_at s i))) (sym (append-nil O)) (without_end O (part words f (held_words_at s i)) at) in
                 subst (λ (y : InletState). IsSubsequence (O ++ part words f (held_words y.held)) (part words f (received_words y.ring))) (sym q.1) new
             | inr q ↦ subst (λ (y : InletState). IsSubsequence (O ++ part words f (held_words y.held)) (part words f (received_words y.ring))) (sym q) old
           ]
 
-      nothing_lost : (f : NetFlow) (o : ℕ) → Passes route s f i o → AreSound s → popped_for words s o ≤ (outlet_at s o).plan.budget → part words f (held_at s i) ≡ []
+      nothing_lost : (f : NetFlow) (o : ℕ) → Passes route s f i o → HasSoundInlets s → popped_for words s o ≤ (outlet_at s o).plan.budget → part words f (held_words_at s i) ≡ []
       nothing_lost f o passes sound room = elim (one.no_other f) [
         | inl is ↦ let goes : route found.0 ≡ Some o = sym (ap route is) ∙ passes.route_to in absurd (refused o (rw found.1 goes) (would_pass o goes sound room))
         | inr none ↦ ap (part words f) its_words ∙ none
       ]
 
-      whole_then : (f : NetFlow) (j o : ℕ) → Passes route s f j o → AreSound s → popped_for words s o ≤ (outlet_at s o).plan.budget
-          → part words f (came_at s j) ≡ part words f (offered_at s o) ++ part words f (held_at s j)
+      whole_then : (f : NetFlow) (j o : ℕ) → Passes route s f j o → HasSoundInlets s → popped_for words s o ≤ (outlet_at s o).plan.budget
+          → part words f (came_at s j) ≡ part words f (offered_at s o) ++ part words f (held_words_at s j)
           → part words f (came_at (record s { inlets = rest }) j) ≡ part words f (offered_at s o) ++ part words f (held_words (get_or rest j no_inlet).held)
       whole_then f j o passes sound room old = let O = part words f (offered_at s o) in
           elim (set_cases s.inlets i j (emptied (inlet_at s i)) no_inlet lt) [
             | inl q ↦
-                let at : part words f (came_at s i) ≡ O ++ part words f (held_at s i) = subst (λ (k : ℕ). part words f (came_at s k) ≡ O ++ part words f (held_at s k)) q.0 old in
+                let at : part words f (came_at s i) ≡ O ++ part words f (held_words_at s i) = subst (λ (k : ℕ). part words f (came_at s k) ≡ O ++ part words f (held_words_at s k)) q.0 old in
                 let passes_i : Passes route s f i o = subst (λ (k : ℕ). Passes route s f k o) q.0 passes in
                 let new : part words f (came_at s i) ≡ O ++ [] = at ∙ ap (λ (l : List Access). O ++ l) (nothing_lost f o passes_i sound room) in
                 subst (λ (y : InletState). part words f (received_words y.ring) ≡ O ++ part words f (held_words y.held)) (sym q.1) new
@@ -153,18 +153,18 @@ module _ {words : Words} {route : Route} (s : LaneState) (laid : IsLaid words ro
 
     -- what a flow has at the port and held, before and after
     joined : (f : NetFlow) (j q : ℕ) → Passes route s f j q
-        → part words f (offered_at given_to q) ++ part words f (held_at given_to j) ≡ part words f (offered_at s q) ++ part words f (held_at s j)
+        → part words f (offered_at given_to q) ++ part words f (held_words_at given_to j) ≡ part words f (offered_at s q) ++ part words f (held_words_at s j)
     joined f j q passes = elim (one.no_other f) [
       | inl is ↦
           let at_i : j ≡ i = laid.apart f j i passes.inlet lt passes.through (ap (goes_through (inlet_at s i).ring.plan.flows) is ∙ found.2) in
           let at_o : Some q ≡ Some o = sym passes.route_to ∙ ap route is ∙ goes in let same : q ≡ o = cc in
           let outlet : outlet_at given_to q ≡ y = ap (λ (k : ℕ). get_or (set s.outlets o y) k no_port) same ∙ get_or-set_same s.outlets o y no_port within in
           let inlet : inlet_at given_to j ≡ emptied (inlet_at s i) = ap (λ (k : ℕ). get_or rest k no_inlet) at_i ∙ get_or-set_same s.inlets i (emptied (inlet_at s i)) no_inlet lt in
-          let left : part words f (offered_at given_to q) ++ part words f (held_at given_to j) ≡ part words f (offered_words y) ++ [] =
-          ap (λ (z : PortSide). part words f (offered_words z) ++ part words f (held_at given_to j)) outlet ∙ ap (λ (z : InletState). part words f (offered_words y) ++ part words f (held_words z.held)) inlet in
-          let right : part words f (offered_at s o) ++ part words f (accesses_of p) ≡ part words f (offered_at s q) ++ part words f (held_at s j) =
-          ap (λ (l : List Access). part words f (offered_at s o) ++ part words f l) (sym its_words) ∙ ap (λ (k : ℕ). part words f (offered_at s k) ++ part words f (held_at s i)) (sym same)
-          ∙ ap (λ (k : ℕ). part words f (offered_at s q) ++ part words f (held_at s k)) (sym at_i) in
+          let left : part words f (offered_at given_to q) ++ part words f (held_words_at given_to j) ≡ part words f (offered_words y) ++ [] =
+          ap (λ (z : PortSide). part words f (offered_words z) ++ part words f (held_words_at given_to j)) outlet ∙ ap (λ (z : InletState). part words f (offered_words y) ++ part words f (held_words z.held)) inlet in
+          let right : part words f (offered_at s o) ++ part words f (accesses_of p) ≡ part words f (offered_at s q) ++ part words f (held_words_at s j) =
+          ap (λ (l : List Access). part words f (offered_at s o) ++ part words f l) (sym its_words) ∙ ap (λ (k : ℕ). part words f (offered_at s k) ++ part words f (held_words_at s i)) (sym same)
+          ∙ ap (λ (k : ℕ). part words f (offered_at s q) ++ part words f (held_words_at s k)) (sym at_i) in
           left ∙ append-nil (part words f (offered_words y)) ∙ offered_more f ∙ right
       | inr none ↦
           let offered : part words f (offered_at given_to q) ≡ part words f (offered_at s q) = elim (set_cases s.outlets o q y no_port within) [
@@ -172,11 +172,11 @@ module _ {words : Words} {route : Route} (s : LaneState) (laid : IsLaid words ro
                 ∙ append-nil (part words f (offered_at s o)) ∙ ap (λ (k : ℕ). part words f (offered_at s k)) (sym w.0)
             | inr w ↦ ap (λ (z : PortSide). part words f (offered_words z)) w
           ] in
-          let holds : part words f (held_at given_to j) ≡ part words f (held_at s j) = elim (set_cases s.inlets i j (emptied (inlet_at s i)) no_inlet lt) [
-            | inl w ↦ ap (λ (z : InletState). part words f (held_words z.held)) w.1 ∙ sym (ap (part words f) its_words ∙ none) ∙ ap (λ (k : ℕ). part words f (held_at s k)) (sym w.0)
+          let holds : part words f (held_words_at given_to j) ≡ part words f (held_words_at s j) = elim (set_cases s.inlets i j (emptied (inlet_at s i)) no_inlet lt) [
+            | inl w ↦ ap (λ (z : InletState). part words f (held_words z.held)) w.1 ∙ sym (ap (part words f) its_words ∙ none) ∙ ap (λ (k : ℕ). part words f (held_words_at s k)) (sym w.0)
             | inr w ↦ ap (λ (z : InletState). part words f (held_words z.held)) w
           ] in
-          ap (λ (l : List Access). l ++ part words f (held_at given_to j)) offered ∙ ap (λ (l : List Access). part words f (offered_at s q) ++ l) holds
+          ap (λ (l : List Access). l ++ part words f (held_words_at given_to j)) offered ∙ ap (λ (l : List Access). part words f (offered_at s q) ++ l) holds
     ]
 
     came_part : (f : NetFlow) (j : ℕ) → part words f (came_at given_to j) ≡ part words f (came_at s j)
@@ -199,7 +199,7 @@ module _ {words : Words} {route : Route} (s : LaneState) (laid : IsLaid words ro
       picks = λ f j q passes.
           let now = passed_before full_shape passes in
           subst (λ (l : List Access). IsSubsequence l (part words f (came_at given_to j))) (sym (joined f j q now))
-          (subst (λ (l : List Access). IsSubsequence (part words f (offered_at s q) ++ part words f (held_at s j)) l) (sym (came_part f j)) (h.picks f j q now));
+          (subst (λ (l : List Access). IsSubsequence (part words f (offered_at s q) ++ part words f (held_words_at s j)) l) (sym (came_part f j)) (h.picks f j q now));
       whole = λ f j q passes sound room.
           let now = passed_before full_shape passes in
           let budget : (outlet_at given_to q).plan.budget ≡ (outlet_at s q).plan.budget = ap (λ (plan : RingPlan). plan.budget) (full_shape.out_plans q) in

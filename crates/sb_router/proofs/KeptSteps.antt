@@ -13,7 +13,7 @@ use Rattle.sb_router.proofs.MoveSteps.{inlet_received, inlet_unmoved}
 use Rattle.sb_router.proofs.Places.{at_each}
 
 -- a port that was told to close is as it was
-pub kept_told : (before : PortSide) → IsKeptPort before (record before { state = record before.state { closing = true } })
+pub kept_told : (before : PortSide) → IsKeptPort before (record before { state = record before.state { close_requested = true } })
 kept_told before = record {
   plan = refl;
   mark = refl;

@@ -3,6 +3,7 @@ use Rattle.std.proofs.Common.{◌≡◌, inl, inr, ℕ, ◌<◌, ◌||◌, Bool,
 use Rattle.std.specs.List.{AllByRecursion}
 use Rattle.std.proofs.lemmas.List.{get_or_default}
 use Rattle.std.proofs.lemmas.List.Elements.{recursion_from_All}
+use Rattle.std.proofs.lemmas.Bool.{or_parts}
 use Rattle.sb_link.specs.declared.answers.Cause.{Cause}
 use Rattle.sb_packet.specs.declared.packet.Packet.{Packet}
 use Rattle.sb_port.specs.Ports.{owes, PortSide}
@@ -16,9 +17,8 @@ use Rattle.sb_router.specs.Causes.{found_in_both, lower, lowest}
 use Rattle.sb_router.specs.Rested.{IsRestedLane, rested_lane_then}
 use Rattle.sb_router.specs.Awaiting.{AwaitsFullPort, HeldAwaitsBusy, WasBusy, WasOffered}
 use Rattle.sb_router.specs.Moves.{IsToldMoved}
-use Rattle.sb_router.specs.Turning.{HasClosed, HasHanded, HasPopped, HasTurned, IsIdleLane, IsLaneTurn, IsSeen, IsServed, SendsNothing, pop_cause}
+use Rattle.sb_router.specs.Turning.{HasClosed, HasHanded, HasPoppedEach, HasTurned, IsIdleLane, IsLaneTurn, IsSeen, IsServed, SendsNothing, pop_cause}
 use Rattle.sb_router.specs.Whole.{IsWholeInlet, IsWholeLane}
-use Rattle.sb_router.proofs.Cases.{or_false}
 use Rattle.sb_router.specs.Steps.{steps_then}
 use Rattle.sb_router.proofs.Lowest.{lower_none, neither_found}
 use Rattle.sb_router.proofs.MoveSteps.{moved_then}
@@ -41,7 +41,7 @@ same_causes [] w free = refl
 same_causes (x ∷ xs) w free = ap (λ (c : Option Cause). c ∷ map pop_cause xs) (same_cause x w.0 free.0) ∙ ap (λ (l : List (Option Cause)). empty_cause x.ring ∷ l) (same_causes xs w.1 free.1)
 
 module _ {route : Route} {s a b d t : LaneState} {popped turned : Findings} {handed : Bool} (whole : IsWholeLane route s)
-    (pops : HasPopped route s a popped) (hands : HasHanded route a b handed) (closes : HasClosed route b d) (turns : HasTurned (popped.moved || handed) d t turned) where
+    (pops : HasPoppedEach route s a popped) (hands : HasHanded route a b handed) (closes : HasClosed route b d) (turns : HasTurned (popped.moved || handed) d t turned) where
   all_steps : Steps route s t
   all_steps = steps_then (steps_then (steps_then pops.steps hands.steps) closes.steps) (turns.steps route)
 
@@ -56,7 +56,7 @@ module _ {route : Route} {s a b d t : LaneState} {popped turned : Findings} {han
   found = found_in_both (record popped { moved = popped.moved || handed }) turned
 
   none_moved : ((popped.moved || handed) || turned.moved) ≡ false → (popped.moved ≡ false) × (handed ≡ false) × (turned.moved ≡ false)
-  none_moved e = let two = or_false (popped.moved || handed) turned.moved e in let one = or_false popped.moved handed two.0 in (one.0, one.1, two.1)
+  none_moved e = let two = or_parts (popped.moved || handed) turned.moved e in let one = or_parts popped.moved handed two.0 in (one.0, one.1, two.1)
 
   -- nothing was popped or handed on
   none_came : popped.moved ≡ false → handed ≡ false → (popped.moved || handed) ≡ false

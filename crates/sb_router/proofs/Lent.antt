@@ -10,7 +10,7 @@ use Rattle.sb_router.specs.CoreEnds.{core_with_port, core_with_ring, lane_with_p
 use Rattle.sb_router.specs.Ends.{router_port, router_ring}
 use Rattle.sb_router.specs.LaneOf.{lane_of}
 use Rattle.sb_router.specs.Lanes.{InletState, inlet_at, no_inlet, no_port, no_ring, outlet_at}
-use Rattle.sb_router.specs.RouterOf.{core_side}
+use Rattle.sb_router.specs.RouterOf.{router_core_side}
 use Rattle.sb_router.specs.declared.router_core.RouterCore.{RouterCore}
 
 before_them : (k n : ℕ) → k < n → nat_lt k n ≡ true
@@ -21,13 +21,13 @@ behind_them k n le = grind (arith, nat_tests)
 
 module _ {T U : Type 0} (core : RouterCore T U) (k : ℕ) where
   -- the place is one of requests
-  pub port_of_requests : k < length core.requests.outlets.items → outlet_at (lane_of core.requests) k ≡ router_port (core_side core) k
+  pub port_of_requests : k < length core.requests.outlets.items → outlet_at (lane_of core.requests) k ≡ router_port (router_core_side core) k
   port_of_requests lt = sym (get_or_append_left core.requests.outlets.items core.answers.outlets.items no_port k lt)
 
   pub with_port_of_requests : (port : PortSide) → k < length core.requests.outlets.items → record core { requests = lane_with_port core.requests k port } ≡ core_with_port core k port
   with_port_of_requests port lt = ap (λ (b : Bool). if b then record core { requests = lane_with_port core.requests k port } else record core { answers = lane_with_port core.answers (k - length core.requests.outlets.items) port }) (sym (before_them k (length core.requests.outlets.items) lt))
 
-  pub ring_of_requests : k < length core.requests.inlets.items → (inlet_at (lane_of core.requests) k).ring ≡ router_ring (core_side core) k
+  pub ring_of_requests : k < length core.requests.inlets.items → (inlet_at (lane_of core.requests) k).ring ≡ router_ring (router_core_side core) k
   ring_of_requests lt =
       let xs = core.requests.inlets.items in
       let ys = core.answers.inlets.items in
@@ -38,14 +38,14 @@ module _ {T U : Type 0} (core : RouterCore T U) (k : ℕ) where
 
   -- or it is one of answers
   module _ (n : ℕ) where
-    pub port_of_answers : length core.requests.outlets.items ≡ n → n ≤ k → outlet_at (lane_of core.answers) (k - n) ≡ router_port (core_side core) k
+    pub port_of_answers : length core.requests.outlets.items ≡ n → n ≤ k → outlet_at (lane_of core.answers) (k - n) ≡ router_port (router_core_side core) k
     port_of_answers long le = sym (get_or-append_right core.requests.outlets.items core.answers.outlets.items n k no_port long le)
 
     pub with_port_of_answers : (port : PortSide) → length core.requests.outlets.items ≡ n → n ≤ k → record core { answers = lane_with_port core.answers (k - n) port } ≡ core_with_port core k port
     with_port_of_answers port long le = ap (λ (m : ℕ). (let c : RouterCore T U = record core { answers = lane_with_port core.answers (k - m) port } in c)) (sym long)
         ∙ ap (λ (b : Bool). if b then record core { requests = lane_with_port core.requests k port } else record core { answers = lane_with_port core.answers (k - length core.requests.outlets.items) port }) (sym (behind_them k (length core.requests.outlets.items) (omega (arith, long, le))))
 
-    pub ring_of_answers : length core.requests.inlets.items ≡ n → n ≤ k → (inlet_at (lane_of core.answers) (k - n)).ring ≡ router_ring (core_side core) k
+    pub ring_of_answers : length core.requests.inlets.items ≡ n → n ≤ k → (inlet_at (lane_of core.answers) (k - n)).ring ≡ router_ring (router_core_side core) k
     ring_of_answers long le =
         let xs = core.requests.inlets.items in
         let ys = core.answers.inlets.items in

@@ -56,7 +56,7 @@ module _ (d : DirectionSide) (k : ℕ) where
       inlets = w.inlets;
       outlets = All-set IsWholeOutlet d.lane.outlets k port (met_outlet (All-get_or IsWholeOutlet d.lane.outlets k no_port lt w.outlets)) w.outlets;
       silent = λ q inside told. w.silent q (omega (arith, inside, length-set d.lane.outlets k port))
-          (told_before d.lane k q port lt (λ e. sym (ap (λ (state : PortState). state.closing) is.state) ∙ e) told);
+          (told_before d.lane k q port lt (λ e. sym (ap (λ (state : PortState). state.close_requested) is.state) ∙ e) told);
       routed = λ f q e. let r = w.routed f q e in omega (arith, r, length-set d.lane.outlets k port);
     }
 

@@ -8,7 +8,7 @@ use Rattle.sb_node.specs.Sides.{port_moves}
 use Rattle.sb_node.proofs.Answering.{moves_kept}
 use Rattle.sb_router.specs.Lanes.{InletState, LaneState, inlet_at, no_inlet, no_port, outlet_at}
 use Rattle.sb_port.specs.Ports.{PortSide}
-use Rattle.sb_router.specs.Steps.{IsReceived, IsUnmoved, emptied}
+use Rattle.sb_router.specs.Steps.{IsTakenByInlet, IsUnmoved, emptied}
 use Rattle.sb_router.specs.Moves.{IsToldMoved, free_count, inlet_moves, lane_moves}
 
 -- nothing went through
@@ -22,7 +22,7 @@ moved_then {s} {t} {u} true false x y = record { more = λ _. let p = x.more ref
 moved_then {s} {t} {u} false true x y = record { more = λ _. let p = x.none refl in let q = y.more refl in omega (arith, p, q); none = λ e. let no_way : ⊥ = cc in absurd no_way }
 moved_then {s} {t} {u} false false x y = record { more = λ e. let no_way : ⊥ = cc in absurd no_way; none = λ _. y.none refl ∙ x.none refl }
 
-pub inlet_received : (before after : InletState) (item : Item) → IsReceived before after item → inlet_moves before < inlet_moves after
+pub inlet_received : (before after : InletState) (item : Item) → IsTakenByInlet before after item → inlet_moves before < inlet_moves after
 inlet_received before after item is = let long = ap length is.received ∙ length-append before.ring.received (item ∷ []) in let free = ap free_count is.free in omega (arith, long, free)
 
 pub inlet_unmoved : (before after : InletState) → IsUnmoved before after → inlet_moves after ≡ inlet_moves before

@@ -1,6 +1,7 @@
 -- Popping one ring after another.
 use Rattle.std.proofs.Common.{◌≡◌, ◌≢◌, ◌⊎◌, inl, inr, ℕ, ◌<◌, ◌≤◌, ◌+◌, ◌||◌, Bool, true, false, cond, is_some, List, [], ◌∷◌, length, map, take, set, Option, Some, None, refl, sym, ap, ◌∙◌, subst, arith, length-append}
 use Rattle.std.proofs.lemmas.List.{get_or_default, take_all}
+use Rattle.std.proofs.lemmas.Bool.{or_parts}
 use Rattle.sb_packet.specs.declared.packet.Packet.{Packet}
 use Rattle.sb_node.specs.declared.findings.Findings.{Findings}
 use Rattle.sb_node.specs.Kept.{kept_ring_same}
@@ -11,8 +12,7 @@ use Rattle.sb_router.specs.Rested.{IsRestedInlet, IsRestedLane, rested_lane_same
 use Rattle.sb_router.specs.Moves.{IsToldMoved}
 use Rattle.sb_router.specs.Popping.{IsPopped, IsPoppedAt}
 use Rattle.sb_node.specs.Sides.{RingSide}
-use Rattle.sb_router.specs.Turning.{HasPopped, IsSeen, FewItemsEach, pop_cause, IsServed}
-use Rattle.sb_router.proofs.Cases.{or_false}
+use Rattle.sb_router.specs.Turning.{HasPoppedEach, IsSeen, FewItemsEach, pop_cause, IsServed}
 use Rattle.sb_router.proofs.RestedSteps.{rested_inlets, rested_unmoved}
 use Rattle.sb_router.proofs.Shapes.{steps_shape}
 use Rattle.sb_router.proofs.Places.{ahead_same, at_each, so_far}
@@ -147,7 +147,7 @@ pops_more {route} {s} {now} {then} {found} {found_then} {place} h lt more =
     popped_more : PopsSoFar route s t (found_in_both found one) (place + 1)
     popped_more = record {
       steps = further h.steps popped.step;
-      rests = λ e. let two = or_false found.moved one.moved e in rested_lane_then (h.rests two.0) (rested_inlets now place x lt (popped.rests two.1));
+      rests = λ e. let two = or_parts found.moved one.moved e in rested_lane_then (h.rests two.0) (rested_inlets now place x lt (popped.rests two.1));
       outlets = h.outlets;
       moved = moved_then found.moved one.moved h.moved popped.moved;
       few_items = at_each now.inlets place x no_inlet lt (λ j y. length y.ring.received ≤ length (inlet_at s j).ring.received + 1)
@@ -155,13 +155,13 @@ pops_more {route} {s} {now} {then} {found} {found_then} {place} h lt more =
       served = so_far now.inlets place x no_inlet lt (λ j y. IsServed (inlet_at s j) y.ring)
           (subst (λ (y : InletState). IsServed y x.ring) (h.ahead place (omega arith)) popped.served) h.served;
       ahead = ahead_same now.inlets place x no_inlet lt (inlet_at s) h.ahead;
-      seen = λ e. let two = or_false found.moved one.moved e in so_far now.inlets place x no_inlet lt (λ _ y. IsSeen y) (popped.seen two.1) (h.seen two.0);
-      empty = λ e. let two = or_false found.moved one.moved e in lowest_next pop_cause now.inlets place x found.empty one.empty lt (h.empty two.0) (popped.cause two.1);
+      seen = λ e. let two = or_parts found.moved one.moved e in so_far now.inlets place x no_inlet lt (λ _ y. IsSeen y) (popped.seen two.1) (h.seen two.0);
+      empty = λ e. let two = or_parts found.moved one.moved e in lowest_next pop_cause now.inlets place x found.empty one.empty lt (h.empty two.0) (popped.cause two.1);
       full = neither_found h.full popped.full;
       waits = neither_found h.waits popped.waits;
     }
 
-pub pops_all : {route : Route} {s now : LaneState} {found : Findings} {place : ℕ} → PopsSoFar route s now found place → length now.inlets ≤ place → HasPopped route s now found
+pub pops_all : {route : Route} {s now : LaneState} {found : Findings} {place : ℕ} → PopsSoFar route s now found place → length now.inlets ≤ place → HasPoppedEach route s now found
 pops_all {route} {s} {now} {found} {place} h over = record {
   steps = h.steps;
   rests = h.rests;

@@ -19,8 +19,8 @@ rested_state kept same = record {
   mark = kept.mark;
   sent = ap (λ (x : PortState). x.sent) same;
   waiting = ap (λ (x : PortState). x.waiting) same;
-  shut = ap (λ (x : PortState). x.shut) same;
-  claimed = ap (λ (x : PortState). x.claimed) same;
+  close_sent = ap (λ (x : PortState). x.close_sent) same;
+  words_offered = ap (λ (x : PortState). x.words_offered) same;
   still_told = kept.still_told;
   learnt = kept.learnt;
 }
@@ -32,8 +32,8 @@ rested_told {before} {after} is = subst (IsRestedPort before) (sym is.told) (rec
   mark = refl;
   sent = refl;
   waiting = refl;
-  shut = refl;
-  claimed = refl;
+  close_sent = refl;
+  words_offered = refl;
   still_told = λ told. refl;
   learnt = omega arith;
 })

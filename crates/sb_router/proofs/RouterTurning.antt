@@ -15,7 +15,7 @@ use Rattle.sb_router.proofs.RouterTurns.{done_both, has_cause}
 
 -- a direction is done
 abbrev pub lane_done : LaneState → Bool
-lane_done t = list_all (λ y. y.state.shut) t.outlets && list_all (λ x. x.ended) t.inlets
+lane_done t = list_all (λ y. y.state.close_sent) t.outlets && list_all (λ x. x.ended) t.inlets
 
 -- both are
 abbrev pub both_done : LaneState → LaneState → Bool

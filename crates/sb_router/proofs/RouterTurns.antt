@@ -4,6 +4,7 @@ use Rattle.std.specs.List.{AllByRecursion, list_all}
 use Rattle.std.proofs.lemmas.List.{get_or_default, map-append}
 use Rattle.std.proofs.lemmas.List.Elements.{All-get_or, recursion_from_All}
 use Rattle.std.proofs.lemmas.List.Folds.{list_all-append, list_all-map}
+use Rattle.std.proofs.lemmas.Bool.{or_parts}
 use Rattle.sb_link.specs.declared.answers.Cause.{Cause}
 use Rattle.sb_link.specs.declared.answers.Turn.{Turn}
 use Rattle.sb_link.specs.declared.answers.Turn.TheVariants.{Moved, Idle, Done}
@@ -23,7 +24,6 @@ use Rattle.sb_router.specs.Whole.{IsWholeInlet, IsWholeLane}
 use Rattle.sb_router.specs.RouteOf.{route_of}
 use Rattle.sb_router.specs.RestedRouters.{IsRestedRouter}
 use Rattle.sb_router.specs.Routers.{IsKeptDirection, IsRouterTurn, RouterSide, router_moves, router_ports, router_rings}
-use Rattle.sb_router.proofs.Cases.{or_false}
 use Rattle.sb_router.proofs.ForwardSteps.{forwards_steps, laid_steps}
 use Rattle.sb_router.proofs.KeptSteps.{kept_steps}
 use Rattle.sb_router.proofs.Lowest.{lowest_append}
@@ -52,7 +52,7 @@ all_found test (x ∷ xs) h = ap (λ (b : Bool). b && list_all test xs) h.0 ∙ 
 
 -- a direction in which nothing moved, and no port is a cause
 module _ {route : Route} (t : LaneState) (whole : IsWholeLane route t) (idle : IsIdleLane route t)
-    (closed : All IsSilent t.inlets → (o : ℕ) → o < length t.outlets → (outlet_at t o).state.closing ≡ true)
+    (closed : All IsSilent t.inlets → (o : ℕ) → o < length t.outlets → (outlet_at t o).state.close_requested ≡ true)
     (no_full : lowest (map full_cause t.outlets) ≡ None) where
   full_none : (o : ℕ) → o < length t.outlets → full_cause (outlet_at t o) ≡ None
   full_none o lt = none_lowest full_cause t.outlets o no_port no_full lt
@@ -86,20 +86,20 @@ module _ {route : Route} (t : LaneState) (whole : IsWholeLane route t) (idle : I
     silent : All IsSilent t.inlets
     silent k d lt = subst IsSilent (get_or_default t.inlets k no_inlet d lt) (record { ended = ended_at k lt; free = nothing_held_at k lt (inlet_at t k).held refl })
 
-    shut_at : (o : ℕ) → o < length t.outlets → (outlet_at t o).state.shut ≡ true
-    shut_at o lt = by_tests (some_owed (outlet_at t o).state.waiting) (outlet_at t o).state.closing (outlet_at t o).state.shut (is_some (outlet_at t o).state.waiting.held)
+    shut_at : (o : ℕ) → o < length t.outlets → (outlet_at t o).state.close_sent ≡ true
+    shut_at o lt = by_tests (some_owed (outlet_at t o).state.waiting) (outlet_at t o).state.close_requested (outlet_at t o).state.close_sent (is_some (outlet_at t o).state.waiting.held)
         (closed silent o lt) (no_rest o lt)
       where
-        by_tests : (owed closing shut held : Bool) → closing ≡ true → ((owed || (closing && not shut)) || held) ≡ false → shut ≡ true
-        by_tests owed closing true held c e = refl
-        by_tests true closing false held c e = let no_way : ⊥ = cc in absurd no_way
+        by_tests : (owed close_requested close_sent held : Bool) → close_requested ≡ true → ((owed || (close_requested && not close_sent)) || held) ≡ false → close_sent ≡ true
+        by_tests owed close_requested true held c e = refl
+        by_tests true close_requested false held c e = let no_way : ⊥ = cc in absurd no_way
         by_tests false true false held c e = let no_way : ⊥ = cc in absurd no_way
         by_tests false false false held c e = let no_way : ⊥ = cc in absurd no_way
 
-    pub all_done : (list_all (λ y. y.state.shut) t.outlets && list_all (λ x. x.ended) t.inlets) ≡ true
+    pub all_done : (list_all (λ y. y.state.close_sent) t.outlets && list_all (λ x. x.ended) t.inlets) ≡ true
     all_done = ap (λ (b : Bool). b && list_all (λ x. x.ended) t.inlets)
-        (all_found (λ (y : PortSide). y.state.shut) t.outlets
-        (recursion_from_All (λ (y : PortSide). y.state.shut ≡ true) t.outlets (λ k d lt. subst (λ (y : PortSide). y.state.shut ≡ true) (get_or_default t.outlets k no_port d lt) (shut_at k lt))))
+        (all_found (λ (y : PortSide). y.state.close_sent) t.outlets
+        (recursion_from_All (λ (y : PortSide). y.state.close_sent ≡ true) t.outlets (λ k d lt. subst (λ (y : PortSide). y.state.close_sent ≡ true) (get_or_default t.outlets k no_port d lt) (shut_at k lt))))
         ∙ all_found (λ (x : InletState). x.ended) t.inlets
         (recursion_from_All (λ (x : InletState). x.ended ≡ true) t.inlets (λ k d lt. subst (λ (x : InletState). x.ended ≡ true) (get_or_default t.inlets k no_inlet d lt) (ended_at k lt)))
 
@@ -116,18 +116,18 @@ four false b c d = refl
 
 -- a router is done where both directions are
 pub done_both : (p q : LaneState) → All IsWholeInlet p.inlets → All IsWholeInlet q.inlets
-    → ((list_all (λ y. y.state.shut) p.outlets && list_all (λ x. x.ended) p.inlets) && (list_all (λ y. y.state.shut) q.outlets && list_all (λ x. x.ended) q.inlets))
+    → ((list_all (λ y. y.state.close_sent) p.outlets && list_all (λ x. x.ended) p.inlets) && (list_all (λ y. y.state.close_sent) q.outlets && list_all (λ x. x.ended) q.inlets))
     ≡ is_done (p.outlets ++ q.outlets) (map (λ x. x.ring) p.inlets ++ map (λ x. x.ring) q.inlets)
 done_both p q w v =
-    let shut : PortSide → Bool = λ port. port.state.shut in
-    let ports : list_all shut (p.outlets ++ q.outlets) ≡ (list_all (λ y. y.state.shut) p.outlets && list_all (λ y. y.state.shut) q.outlets) = list_all-append shut p.outlets q.outlets in
+    let close_sent : PortSide → Bool = λ port. port.state.close_sent in
+    let ports : list_all close_sent (p.outlets ++ q.outlets) ≡ (list_all (λ y. y.state.close_sent) p.outlets && list_all (λ y. y.state.close_sent) q.outlets) = list_all-append close_sent p.outlets q.outlets in
     let rings : list_all has_ended (map (λ x. x.ring) p.inlets ++ map (λ x. x.ring) q.inlets) ≡ (list_all (λ x. x.ended) p.inlets && list_all (λ x. x.ended) q.inlets) =
     list_all-append has_ended (map (λ x. x.ring) p.inlets) (map (λ x. x.ring) q.inlets)
     ∙ ap (λ (b : Bool). b && list_all has_ended (map (λ x. x.ring) q.inlets)) (list_all-map has_ended (λ (x : InletState). x.ring) p.inlets ∙ sym (ended_same p.inlets (recursion_from_All IsWholeInlet p.inlets w)))
     ∙ ap (λ (b : Bool). list_all (λ x. x.ended) p.inlets && b) (list_all-map has_ended (λ (x : InletState). x.ring) q.inlets ∙ sym (ended_same q.inlets (recursion_from_All IsWholeInlet q.inlets v))) in
-    four (list_all (λ y. y.state.shut) p.outlets) (list_all (λ y. y.state.shut) q.outlets) (list_all (λ x. x.ended) p.inlets) (list_all (λ x. x.ended) q.inlets)
+    four (list_all (λ y. y.state.close_sent) p.outlets) (list_all (λ y. y.state.close_sent) q.outlets) (list_all (λ x. x.ended) p.inlets) (list_all (λ x. x.ended) q.inlets)
     ∙ sym (ap (λ (b : Bool). b && list_all has_ended (map (λ x. x.ring) p.inlets ++ map (λ x. x.ring) q.inlets)) ports
-    ∙ ap (λ (b : Bool). (list_all (λ y. y.state.shut) p.outlets && list_all (λ y. y.state.shut) q.outlets) && b) rings)
+    ∙ ap (λ (b : Bool). (list_all (λ y. y.state.close_sent) p.outlets && list_all (λ y. y.state.close_sent) q.outlets) && b) rings)
 
 -- the lowest cause of two lists of rings
 mapped : {X Y : Type 0} (c : Y → Option Cause) (f : X → Y) (xs ys : List X) → map c (map f xs ++ map f ys) ≡ map (λ x. c (f x)) xs ++ map (λ x. c (f x)) ys
@@ -177,7 +177,7 @@ module _ (down up : List (List (Option ℕ))) {p q p' q' : LaneState} {a b : Fin
   moves = moved_both (lane_moves p) (lane_moves p') (lane_moves q) (lane_moves q') a.moved b.moved turn_p.moved.more turn_p.moved.none turn_q.moved.more turn_q.moved.none
 
   fulls : (a.moved || b.moved) ≡ false → lower a.full b.full ≡ lowest (map full_cause (router_ports after))
-  fulls e = let two = or_false a.moved b.moved e in
+  fulls e = let two = or_parts a.moved b.moved e in
       ap (λ (c : Option Cause). lower c b.full) (turn_p.full two.0) ∙ ap (lower (lowest (map full_cause p'.outlets))) (turn_q.full two.1)
       ∙ sym (lowest_of_both full_cause p'.outlets q'.outlets)
 
@@ -190,7 +190,7 @@ module _ (down up : List (List (Option ℕ))) {p q p' q' : LaneState} {a b : Fin
     neither = none_lower a.full b.full none
 
     still : (a.moved ≡ false) × (b.moved ≡ false)
-    still = or_false a.moved b.moved e
+    still = or_parts a.moved b.moved e
 
     none_p : lowest (map full_cause p'.outlets) ≡ None
     none_p = sym (turn_p.full still.0) ∙ neither.0
@@ -212,7 +212,7 @@ module _ (down up : List (List (Option ℕ))) {p q p' q' : LaneState} {a b : Fin
     none_done : lower a.empty b.empty ≡ None → done ≡ true
     none_done none_empty = let two = none_lower a.empty b.empty none_empty in
         sym (done_both p' q' whole_p.inlets whole_q.inlets)
-        ∙ ap (λ (x : Bool). x && (list_all (λ y. y.state.shut) q'.outlets && list_all (λ x. x.ended) q'.inlets)) (all_done p' whole_p (turn_p.idle still.0) turn_p.closed none_p (sym empty_p ∙ two.0))
+        ∙ ap (λ (x : Bool). x && (list_all (λ y. y.state.close_sent) q'.outlets && list_all (λ x. x.ended) q'.inlets)) (all_done p' whole_p (turn_p.idle still.0) turn_p.closed none_p (sym empty_p ∙ two.0))
         ∙ all_done q' whole_q (turn_q.idle still.1) turn_q.closed none_q (sym empty_q ∙ two.1)
 
   first_of : (full empty : Option Cause) → first_cause (full ∷ None ∷ empty ∷ []) ≡ first_cause (full ∷ empty ∷ [])
@@ -252,7 +252,7 @@ module _ (down up : List (List (Option ℕ))) {p q p' q' : LaneState} {a b : Fin
 
   -- nothing moved in either direction
   pub router_rests : (answer : Turn) → IsTurnOf all_found_in done answer → answer ≢ Moved → IsRestedRouter before after
-  router_rests answer is other = let still = or_false a.moved b.moved (unmoved answer is other) in record {
+  router_rests answer is other = let still = or_parts a.moved b.moved (unmoved answer is other) in record {
     requests = record { rows = refl; lane = turn_p.rests still.0 };
     answers = record { rows = refl; lane = turn_q.rests still.1 };
   }
@@ -260,8 +260,8 @@ module _ (down up : List (List (Option ℕ))) {p q p' q' : LaneState} {a b : Fin
   pub router_turn : (answer : Turn) → IsTurnOf all_found_in done answer → IsRouterTurn before answer after
   router_turn answer is = record {
     answered = answered answer is;
-    idle_requests = λ other. turn_p.idle (or_false a.moved b.moved (unmoved answer is other)).0;
-    idle_answers = λ other. turn_q.idle (or_false a.moved b.moved (unmoved answer is other)).1;
+    idle_requests = λ other. turn_p.idle (or_parts a.moved b.moved (unmoved answer is other)).0;
+    idle_answers = λ other. turn_q.idle (or_parts a.moved b.moved (unmoved answer is other)).1;
     closed_requests = turn_p.closed;
     closed_answers = turn_q.closed;
     few_requests = turn_p.few_items;

@@ -2,6 +2,7 @@
 use Rattle.std.proofs.Common.{◌≡◌, Bool, true, false, ◌&&◌, is_none, List, [], ◌∷◌, All, Option, Some, None, refl}
 use Rattle.std.specs.List.{AllByRecursion, list_all}
 use Rattle.std.proofs.lemmas.List.Elements.{All-from_recursion, recursion_from_All}
+use Rattle.std.proofs.lemmas.Bool.{and_parts}
 use Rattle.sb_router.specs.Lanes.{InletState}
 use Rattle.sb_router.specs.Steps.{IsSilent}
 
@@ -17,13 +18,9 @@ silent_parts x true true p q e = record { ended = p; free = none_held x.held q }
 silent_parts x true false p q e = let no_way : ⊥ = cc in absurd no_way
 silent_parts x false free p q e = let no_way : ⊥ = cc in absurd no_way
 
-both_true : (a b : Bool) → (a && b) ≡ true → (a ≡ true) × (b ≡ true)
-both_true true b e = (refl, e)
-both_true false b e = let no_way : ⊥ = cc in absurd no_way
-
 silent_recursion : (xs : List InletState) → list_all is_silent xs ≡ true → AllByRecursion IsSilent xs
 silent_recursion [] e = tt
-silent_recursion (x ∷ xs) e = let two = both_true (is_silent x) (list_all is_silent xs) e in (silent_parts x x.ended (is_none x.held) refl refl two.0, silent_recursion xs two.1)
+silent_recursion (x ∷ xs) e = let two = and_parts (is_silent x) (list_all is_silent xs) e in (silent_parts x x.ended (is_none x.held) refl refl two.0, silent_recursion xs two.1)
 
 pub found_silent : (xs : List InletState) → list_all is_silent xs ≡ true → All IsSilent xs
 found_silent xs e = All-from_recursion IsSilent xs (silent_recursion xs e)

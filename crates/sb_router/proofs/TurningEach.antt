@@ -1,11 +1,13 @@
 -- Turning one port after another.
 use Rattle.std.proofs.Common.{◌≡◌, inl, inr, ℕ, ◌<◌, ◌≤◌, ◌+◌, Bool, true, false, cond, List, length, map, take, set, Some, None, refl, sym, ap, ◌∙◌, subst, arith}
 use Rattle.std.proofs.lemmas.List.{take_all}
-use Rattle.sb_port.specs.Ports.{PortSide, PortState, let_go, offered_words, port_accesses}
+use Rattle.std.proofs.lemmas.Bool.{or_parts}
+use Rattle.sb_port.specs.Ports.{PortSide, offered_words}
 use Rattle.sb_node.specs.declared.findings.Findings.{Findings}
-use Rattle.sb_node.specs.Sides.{has_rest, port_moves}
+use Rattle.sb_node.specs.Sides.{has_rest}
 use Rattle.sb_node.specs.Steps.{IsPortServed, IsPortTurned}
 use Rattle.sb_node.specs.Turns.{full_cause}
+use Rattle.sb_node.proofs.Answering.{same_moves}
 use Rattle.sb_router.specs.Lanes.{LaneState, Route, no_port, outlet_at}
 use Rattle.sb_router.specs.Steps.{Steps, turns, none, further}
 use Rattle.sb_router.specs.Causes.{FindsBesides, found_in_both, lowest, nothing_found}
@@ -15,7 +17,6 @@ use Rattle.sb_router.specs.Rested.{IsRestedLane, rested_lane_same, rested_lane_t
 use Rattle.sb_router.specs.Moves.{IsToldMoved}
 use Rattle.sb_router.specs.Ports.{IsOutletSet, IsOutletTurned}
 use Rattle.sb_router.specs.Turning.{HasTurned, IsPortIdle, OffersNothing}
-use Rattle.sb_router.proofs.Cases.{or_false}
 use Rattle.sb_router.proofs.RestedSteps.{rested_outlets, rested_state}
 use Rattle.sb_router.proofs.Places.{ahead_same, at_each, so_far}
 use Rattle.sb_router.proofs.Shapes.{steps_shape}
@@ -32,9 +33,6 @@ record IsOneTurn (more : Bool) (s t : LaneState) (before after : PortSide) (one 
   waits : one.waits ≡ None
   empty : one.empty ≡ None
 
-same_port_moves : (before after : PortSide) → after.state ≡ before.state → port_moves after ≡ port_moves before
-same_port_moves before after e = ap (λ (x : PortState). length (port_accesses x) + length (let_go x) + length x.sent) e
-
 one_turn : (more : Bool) (s : LaneState) (o : ℕ) (y : PortSide) (one : Findings) → o < length s.outlets → IsKeptPort (outlet_at s o) y → IsPortTurned more (outlet_at s o) y nothing_found one
     → IsOneTurn more s (record s { outlets = set s.outlets o y }) (outlet_at s o) y one
 one_turn more s o y one lt kept (inl went) =
@@ -50,7 +48,7 @@ one_turn more s o y one lt kept (inl went) =
 one_turn more s o y one lt kept (inr (inl full)) =
     let moved : one.moved ≡ false = ap (λ (f : Findings). f.moved) full.found_full in
     record {
-      moved = subst (λ (b : Bool). IsToldMoved s (record s { outlets = set s.outlets o y }) b) (sym moved) (outlet_same s o y lt (same_port_moves (outlet_at s o) y full.same));
+      moved = subst (λ (b : Bool). IsToldMoved s (record s { outlets = set s.outlets o y }) b) (sym moved) (outlet_same s o y lt (same_moves (outlet_at s o) y full.same));
       idle = λ e m. record { same = full.same; rest = λ _. full.full };
       cause = λ e m. ap (λ (f : Findings). f.full) full.found_full
           ∙ sym (ap (λ (b : Bool). cond b (Some (causes.Full y.plan.ring (length y.state.sent) y.taken)) None) full.rest);
@@ -61,7 +59,7 @@ one_turn more s o y one lt kept (inr (inl full)) =
 one_turn more s o y one lt kept (inr (inr clear)) =
     let moved : one.moved ≡ false = ap (λ (f : Findings). f.moved) clear.found_nothing in
     record {
-      moved = subst (λ (b : Bool). IsToldMoved s (record s { outlets = set s.outlets o y }) b) (sym moved) (outlet_same s o y lt (same_port_moves (outlet_at s o) y clear.same));
+      moved = subst (λ (b : Bool). IsToldMoved s (record s { outlets = set s.outlets o y }) b) (sym moved) (outlet_same s o y lt (same_moves (outlet_at s o) y clear.same));
       idle = λ e m. record { same = clear.same; rest = λ some. let none' : has_rest y ≡ false = clear.rest m in let no_way : ⊥ = cc in absurd no_way };
       cause = λ e m. ap (λ (f : Findings). f.full) clear.found_nothing
           ∙ sym (ap (λ (b : Bool). cond b (Some (causes.Full y.plan.ring (length y.state.sent) y.taken)) None) (clear.rest m));
@@ -76,7 +74,7 @@ pub record TurnsSoFar (more : Bool) (s now : LaneState) (place : ℕ) (found : F
   pub rests : found.moved ≡ false → IsRestedLane s now
   pub inlets : now.inlets ≡ s.inlets
   pub moved : IsToldMoved s now found.moved
-  pub told : (o : ℕ) → (outlet_at now o).state.closing ≡ (outlet_at s o).state.closing
+  pub told : (o : ℕ) → (outlet_at now o).state.close_requested ≡ (outlet_at s o).state.close_requested
   pub words : OffersNothing s now
   pub served : (o : ℕ) → o < place → IsPortServed (outlet_at s o) (outlet_at now o)
   pub ahead : (o : ℕ) → place ≤ o → outlet_at now o ≡ outlet_at s o
@@ -110,16 +108,16 @@ module _ {more : Bool} {s now : LaneState} {place : ℕ} (y : PortSide) (lt : pl
   one_more : {all one : Findings} → TurnsSoFar more s now place all → IsOutletTurned more (outlet_at now place) y one → TurnsSoFar more s (record now { outlets = set now.outlets place y }) (place + 1) (found_in_both all one)
   one_more {all} {one} h at = record {
     steps = λ route. further (h.steps route) (turns place y lt at.turned);
-    rests = λ e. let two = or_false all.moved one.moved e in rested_lane_then (h.rests two.0) (rested_outlets now place y lt (turned.rests two.1));
+    rests = λ e. let two = or_parts all.moved one.moved e in rested_lane_then (h.rests two.0) (rested_outlets now place y lt (turned.rests two.1));
     inlets = h.inlets;
     moved = moved_then all.moved one.moved h.moved turned.moved;
-    told = at_each now.outlets place y no_port lt (λ o z. z.state.closing ≡ (outlet_at s o).state.closing) (at.turned.told ∙ h.told place) h.told;
+    told = at_each now.outlets place y no_port lt (λ o z. z.state.close_requested ≡ (outlet_at s o).state.close_requested) (at.turned.told ∙ h.told place) h.told;
     words = at_each now.outlets place y no_port lt (λ o z. offered_words z ≡ offered_words (outlet_at s o)) (at.turned.words ∙ h.words place) h.words;
     served = so_far now.outlets place y no_port lt (λ o z. IsPortServed (outlet_at s o) z)
         (subst (λ (z : PortSide). IsPortServed z y) (h.ahead place (omega arith)) at.served) h.served;
     ahead = ahead_same now.outlets place y no_port lt (outlet_at s) h.ahead;
-    idle = λ e m. let two = or_false all.moved one.moved e in so_far now.outlets place y no_port lt (λ o z. IsPortIdle (outlet_at s o) z) (idle_here two.1 m) (h.idle two.0 m);
-    full = λ e m. let two = or_false all.moved one.moved e in lowest_next full_cause now.outlets place y all.full one.full lt (h.full two.0 m) (turned.cause two.1 m);
+    idle = λ e m. let two = or_parts all.moved one.moved e in so_far now.outlets place y no_port lt (λ o z. IsPortIdle (outlet_at s o) z) (idle_here two.1 m) (h.idle two.0 m);
+    full = λ e m. let two = or_parts all.moved one.moved e in lowest_next full_cause now.outlets place y all.full one.full lt (h.full two.0 m) (turned.cause two.1 m);
     waits = neither_found h.waits turned.waits;
     empty = neither_found h.empty turned.empty;
   }

@@ -10,7 +10,7 @@ use Rattle.sb_packet.specs.declared.item.Item.{Item}
 use Rattle.sb_port.proofs.Items.{has_close-close, has_close-packet}
 use Rattle.sb_port.specs.Ports.{PortSide}
 use Rattle.sb_router.specs.Lanes.{InletState, LaneState, Route, inlet_at, no_inlet, no_port, outlet_at}
-use Rattle.sb_router.specs.Steps.{IsReceived, IsSilent, IsUnmoved, Step, Steps, receives, looks, drops, offers, turns, tells, none, further, emptied, held_of}
+use Rattle.sb_router.specs.Steps.{IsTakenByInlet, IsSilent, IsUnmoved, Step, Steps, receives, looks, drops, offers, turns, tells, none, further, emptied, held_of}
 use Rattle.sb_router.specs.RouteOf.{route_of}
 use Rattle.sb_router.specs.declared.routes.Routes.{Routes}
 use Rattle.sb_router.specs.Whole.{IsWholeInlet, IsWholeLane, IsWholeOutlet}
@@ -27,7 +27,7 @@ holds_item : (item : Item) (p : Packet) → held_of item ≡ Some p → item ≡
 holds_item (items.Packet q) p e = let same : q ≡ p = cc in ap (λ (r : Packet). items.Packet r) same
 holds_item items.Close p e = let no_way : ⊥ = cc in absurd no_way
 
-whole_received : (before after : InletState) (item : Item) → IsWholeInlet before → IsReceived before after item → IsWholeInlet after
+whole_received : (before after : InletState) (item : Item) → IsWholeInlet before → IsTakenByInlet before after item → IsWholeInlet after
 whole_received before after item w is = record {
   ended = is.ended ∙ sym (ap has_close is.received ∙ closes before.ring.received item (sym w.ended ∙ is.open_before));
   last = λ p e. let is_p = holds_item item p (sym is.held ∙ e) in record { before = before.ring.received; joined = is.received ∙ ap (λ (i : Item). before.ring.received ++ i ∷ []) is_p };
@@ -57,9 +57,9 @@ not_ended : (s : LaneState) (i : ℕ) → i < length s.inlets → (inlet_at s i)
 not_ended s i lt open' silent = let at = All-get_or IsSilent s.inlets i no_inlet lt silent in let ended = at.ended in cc
 
 -- a port of a list in which one was set was told, where that one wasn't
-pub told_before : (s : LaneState) (o q : ℕ) (y : PortSide) → o < length s.outlets → (y.state.closing ≡ true → (outlet_at s o).state.closing ≡ true)
-    → (get_or (set s.outlets o y) q no_port).state.closing ≡ true → (outlet_at s q).state.closing ≡ true
-told_before s o q y lt same = at_each s.outlets o y no_port lt (λ q z. z.state.closing ≡ true → (outlet_at s q).state.closing ≡ true) same (λ q e. e) q
+pub told_before : (s : LaneState) (o q : ℕ) (y : PortSide) → o < length s.outlets → (y.state.close_requested ≡ true → (outlet_at s o).state.close_requested ≡ true)
+    → (get_or (set s.outlets o y) q no_port).state.close_requested ≡ true → (outlet_at s q).state.close_requested ≡ true
+told_before s o q y lt same = at_each s.outlets o y no_port lt (λ q z. z.state.close_requested ≡ true → (outlet_at s q).state.close_requested ≡ true) same (λ q e. e) q
 
 pub whole_step : {route : Route} {s t : LaneState} → IsWholeLane route s → Step route s t → IsWholeLane route t
 whole_step {route} {s} w (receives i x item lt is) = record {

@@ -8,7 +8,7 @@ use Rattle.sb_packet.specs.Soundness.{IsSound}
 use Rattle.sb_packet.specs.Traffic.{IsPlanned, item_messages}
 use Rattle.sb_packet.specs.declared.packet.Packet.{Packet}
 use Rattle.sb_node.specs.Sides.{received_words}
-use Rattle.sb_router.specs.Lanes.{InletState, LaneState, Route, came_at, held_at, held_words, inlet_at, next_place, offered_at, outlet_at}
+use Rattle.sb_router.specs.Lanes.{InletState, LaneState, Route, came_at, held_words_at, held_words, inlet_at, next_place, offered_at, outlet_at}
 
 -- The words of a direction: which are of a flow, and which go on to a place.
 pub record Words : Type 0 where
@@ -31,8 +31,8 @@ abbrev pub popped_for : Words → LaneState → ℕ → ℕ
 popped_for words s o = sum_by (came_for words o) s.inlets
 
 -- each packet that was popped is sound
-abbrev pub AreSound : LaneState → Type 0
-AreSound s = All (λ x. All IsSound (item_messages x.ring.received)) s.inlets
+abbrev pub HasSoundInlets : LaneState → Type 0
+HasSoundInlets s = All (λ x. All IsSound (item_messages x.ring.received)) s.inlets
 
 -- A flow comes by the ring at one place, and goes on to another.
 pub record Passes (route : Route) (s : LaneState) (f : NetFlow) (i o : ℕ) : Type 0 where
@@ -44,8 +44,8 @@ pub record Passes (route : Route) (s : LaneState) (f : NetFlow) (i o : ℕ) : Ty
 -- Of a flow that passes, what was offered is always what came, less some; and it is what came but for what is held, where each packet that was popped is sound, and the words that were popped for that ring are within its budget.
 pub record HasForwarded (words : Words) (s : LaneState) (f : NetFlow) (i o : ℕ) : Type 0 where
   pub in_order : IsSubsequence (part words f (offered_at s o)) (part words f (came_at s i))
-  pub whole : AreSound s → popped_for words s o ≤ (outlet_at s o).plan.budget
-      → part words f (came_at s i) ≡ part words f (offered_at s o) ++ part words f (held_at s i)
+  pub whole : HasSoundInlets s → popped_for words s o ≤ (outlet_at s o).plan.budget
+      → part words f (came_at s i) ≡ part words f (offered_at s o) ++ part words f (held_words_at s i)
 
 -- All words of a packet of one flow are of this flow, and go on to its place.
 pub record IsOneFlow (words : Words) (route : Route) (g : NetFlow) (list : List Access) : Type 0 where
@@ -68,6 +68,6 @@ pub record IsLaid (words : Words) (route : Route) (s : LaneState) : Type 0 where
 pub record Forwards (words : Words) (route : Route) (s : LaneState) : Type 0 where
   pub few : (o : ℕ) → length (offered_at s o) + sum_by (held_for words o) s.inlets ≤ popped_for words s o
   pub picks : (f : NetFlow) (i o : ℕ) → Passes route s f i o
-      → IsSubsequence (part words f (offered_at s o) ++ part words f (held_at s i)) (part words f (came_at s i))
-  pub whole : (f : NetFlow) (i o : ℕ) → Passes route s f i o → AreSound s → popped_for words s o ≤ (outlet_at s o).plan.budget
-      → part words f (came_at s i) ≡ part words f (offered_at s o) ++ part words f (held_at s i)
+      → IsSubsequence (part words f (offered_at s o) ++ part words f (held_words_at s i)) (part words f (came_at s i))
+  pub whole : (f : NetFlow) (i o : ℕ) → Passes route s f i o → HasSoundInlets s → popped_for words s o ≤ (outlet_at s o).plan.budget
+      → part words f (came_at s i) ≡ part words f (offered_at s o) ++ part words f (held_words_at s i)

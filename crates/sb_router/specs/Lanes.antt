@@ -33,7 +33,7 @@ no_port = record {
   plan = no_plan;
   mark = record { plan = no_plan; table = None; handed = []; told = 0 };
   taken = 0;
-  state = record { sent = []; waiting = nothing_waits 0; closing = false; shut = false; claimed = 0 };
+  state = record { sent = []; waiting = nothing_waits 0; close_requested = false; close_sent = false; words_offered = 0 };
 }
 
 abbrev pub no_inlet : InletState
@@ -56,8 +56,8 @@ held_words (Some p) = accesses_of p
 abbrev pub came_at : LaneState → ℕ → List Access
 came_at s i = received_words (inlet_at s i).ring
 
-abbrev pub held_at : LaneState → ℕ → List Access
-held_at s i = held_words (inlet_at s i).held
+abbrev pub held_words_at : LaneState → ℕ → List Access
+held_words_at s i = held_words (inlet_at s i).held
 
 abbrev pub offered_at : LaneState → ℕ → List Access
 offered_at s o = offered_words (outlet_at s o)

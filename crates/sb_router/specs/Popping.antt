@@ -4,7 +4,7 @@ use Rattle.sb_packet.specs.declared.item.Item.{Item}
 use Rattle.sb_node.specs.Sides.{is_drained}
 use Rattle.sb_node.specs.declared.findings.Findings.{Findings}
 use Rattle.sb_router.specs.Lanes.{InletState, LaneState, inlet_at}
-use Rattle.sb_router.specs.Steps.{IsReceived, IsUnmoved}
+use Rattle.sb_router.specs.Steps.{IsTakenByInlet, IsUnmoved}
 use Rattle.sb_router.specs.Causes.{nothing_found}
 use Rattle.sb_link.specs.declared.answers.Cause.TheVariants as causes
 
@@ -17,7 +17,7 @@ pub record IsLeft (before after : InletState) (found : Findings) : Type 0 where
 -- an item was popped
 pub record IsTaken (before after : InletState) (found : Findings) : Type 0 where
   pub item : Item
-  pub received : IsReceived before after item
+  pub received : IsTakenByInlet before after item
   pub found_move : found ≡ record nothing_found { moved = true }
 
 -- the ring was found empty

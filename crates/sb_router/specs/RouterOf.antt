@@ -9,5 +9,5 @@ abbrev pub direction_of : {T U : Type 0} → Lane T U → DirectionSide
 direction_of lane = record { rows = lane.routes.rows.items; lane = lane_of lane }
 
 -- both directions
-abbrev pub core_side : {T U : Type 0} → RouterCore T U → RouterSide
-core_side core = record { requests = direction_of core.requests; answers = direction_of core.answers }
+abbrev pub router_core_side : {T U : Type 0} → RouterCore T U → RouterSide
+router_core_side core = record { requests = direction_of core.requests; answers = direction_of core.answers }

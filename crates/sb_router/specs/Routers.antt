@@ -67,7 +67,7 @@ router_rings r = map (λ x. x.ring) r.requests.lane.inlets ++ map (λ x. x.ring)
 
 -- all ports of a direction were told to close once nothing more comes
 abbrev pub ClosesWhenDue : DirectionSide → Type 0
-ClosesWhenDue d = All IsSilent d.lane.inlets → (o : ℕ) → o < length d.lane.outlets → (outlet_at d.lane o).state.closing ≡ true
+ClosesWhenDue d = All IsSilent d.lane.inlets → (o : ℕ) → o < length d.lane.outlets → (outlet_at d.lane o).state.close_requested ≡ true
 
 -- What one turn of a router does, and answers: of two causes of one kind it answers that at the ring of the lower number.
 pub record IsRouterTurn (before : RouterSide) (answer : Turn) (after : RouterSide) : Type 0 where

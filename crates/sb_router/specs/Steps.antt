@@ -16,7 +16,7 @@ held_of (items.Packet p) = Some p
 held_of items.Close = None
 
 -- an item was received; where it is a packet, it is held
-pub record IsReceived (before after : InletState) (item : Item) : Type 0 where
+pub record IsTakenByInlet (before after : InletState) (item : Item) : Type 0 where
   pub open_before : before.ended ≡ false
   pub free : before.held ≡ None
   pub lawful : MayFollow before.ring.plan before.ring.received item
@@ -45,18 +45,18 @@ pub record IsGiven (before after : PortSide) (p : Packet) : Type 0 where
   pub sent : after.state.sent ≡ before.state.sent
   pub kept : IsKeptPort before after
   pub fit : IsFit after.plan after.state
-  pub untold : after.state.closing ≡ false
+  pub untold : after.state.close_requested ≡ false
 
 -- a port took its turn
 pub record IsTurned (before after : PortSide) : Type 0 where
   pub words : offered_words after ≡ offered_words before
   pub kept : IsKeptPort before after
   pub fit : IsFit after.plan after.state
-  pub told : after.state.closing ≡ before.state.closing
+  pub told : after.state.close_requested ≡ before.state.close_requested
 
 -- a port was told to close, or had been told before
 pub record IsTold (before after : PortSide) : Type 0 where
-  pub told : after ≡ record before { state = record before.state { closing = true } }
+  pub told : after ≡ record before { state = record before.state { close_requested = true } }
   pub fit : IsFit after.plan after.state
 
 -- by a ring nothing more comes, and nothing is held of it
@@ -71,7 +71,7 @@ IsRefused route s i p = (o : ℕ) → next_place route (inlet_at s i).ring.plan 
 
 -- One step.
 pub data Step (route : Route) : LaneState → LaneState → Type 0 where
-  receives : {s : LaneState} (i : ℕ) (x : InletState) (item : Item) → i < length s.inlets → IsReceived (inlet_at s i) x item →
+  receives : {s : LaneState} (i : ℕ) (x : InletState) (item : Item) → i < length s.inlets → IsTakenByInlet (inlet_at s i) x item →
       Step route s (record s { inlets = set s.inlets i x })
   looks : {s : LaneState} (i : ℕ) (x : InletState) → i < length s.inlets → IsUnmoved (inlet_at s i) x →
       Step route s (record s { inlets = set s.inlets i x })

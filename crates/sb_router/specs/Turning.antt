@@ -50,7 +50,7 @@ abbrev pub pop_cause : InletState → Option Cause
 pop_cause x = if x.ended || is_some x.held then None else Some (causes.Empty x.ring.plan.ring (length x.ring.received) x.ring.known)
 
 -- Each ring had its turn to be popped.
-pub record HasPopped (route : Route) (s t : LaneState) (found : Findings) : Type 0 where
+pub record HasPoppedEach (route : Route) (s t : LaneState) (found : Findings) : Type 0 where
   pub steps : Steps route s t
   pub rests : found.moved ≡ false → IsRestedLane s t
   pub outlets : t.outlets ≡ s.outlets
@@ -80,7 +80,7 @@ pub record HasClosed (route : Route) (s t : LaneState) : Type 0 where
   pub moved : IsToldMoved s t false
   pub unsent : SendsNothing s t
   pub words : OffersNothing s t
-  pub told : All IsSilent s.inlets → (o : ℕ) → o < length t.outlets → (outlet_at t o).state.closing ≡ true
+  pub told : All IsSilent s.inlets → (o : ℕ) → o < length t.outlets → (outlet_at t o).state.close_requested ≡ true
   pub untold : (All IsSilent s.inlets → ⊥) → t ≡ s
 
 -- a port has nothing left to send, or its ring is full; and nothing else changed
@@ -94,7 +94,7 @@ pub record HasTurned (more : Bool) (s t : LaneState) (found : Findings) : Type 0
   pub rests : found.moved ≡ false → IsRestedLane s t
   pub inlets : t.inlets ≡ s.inlets
   pub moved : IsToldMoved s t found.moved
-  pub told : (o : ℕ) → (outlet_at t o).state.closing ≡ (outlet_at s o).state.closing
+  pub told : (o : ℕ) → (outlet_at t o).state.close_requested ≡ (outlet_at s o).state.close_requested
   pub words : OffersNothing s t
   pub served : ServesPorts s t
   pub idle : found.moved ≡ false → more ≡ false → (o : ℕ) → o < length t.outlets → IsPortIdle (outlet_at s o) (outlet_at t o)
@@ -124,7 +124,7 @@ pub record IsLaneTurn (route : Route) (s t : LaneState) (found : Findings) : Typ
   -- each port is turned once
   pub served_ports : ServesPorts s t
   -- all ports were told to close once nothing more comes
-  pub closed : All IsSilent t.inlets → (o : ℕ) → o < length t.outlets → (outlet_at t o).state.closing ≡ true
+  pub closed : All IsSilent t.inlets → (o : ℕ) → o < length t.outlets → (outlet_at t o).state.close_requested ≡ true
   pub idle : found.moved ≡ false → IsIdleLane route t
   pub full : found.moved ≡ false → found.full ≡ lowest (map full_cause t.outlets)
   pub waits : found.waits ≡ None

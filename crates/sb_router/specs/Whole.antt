@@ -28,5 +28,5 @@ pub record IsWholeOutlet (y : PortSide) : Type 0 where
 pub record IsWholeLane (route : Route) (s : LaneState) : Type 0 where
   pub inlets : All IsWholeInlet s.inlets
   pub outlets : All IsWholeOutlet s.outlets
-  pub silent : (o : ℕ) → o < length s.outlets → (outlet_at s o).state.closing ≡ true → All IsSilent s.inlets
+  pub silent : (o : ℕ) → o < length s.outlets → (outlet_at s o).state.close_requested ≡ true → All IsSilent s.inlets
   pub routed : (f : _) (o : ℕ) → route f ≡ Some o → o < length s.outlets

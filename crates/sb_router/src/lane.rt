@@ -11,11 +11,11 @@ ghost use Rattle.sb_router.specs.Popping.{IsPoppedAt};
 ghost use Rattle.sb_router.specs.Ports.{IsOutletSet, IsOutletTurned, IsToldAt};
 ghost use Rattle.sb_router.specs.Sending.{IsHandedAt};
 ghost use Rattle.sb_router.specs.Steps.{IsSilent, emptied};
-ghost use Rattle.sb_router.specs.Turning.{HasClosed, HasHanded, HasPopped, HasTurned, IsLaneTurn};
+ghost use Rattle.sb_router.specs.Turning.{HasClosed, HasHanded, HasPoppedEach, HasTurned, IsLaneTurn};
 ghost use Rattle.sb_router.specs.Whole.{IsWholeLane};
 
 use crate::inlet::{Inlet, are_silent, have_ended};
-use crate::outlet::{are_shut, close_outlet, hand_to, turn_outlet};
+use crate::outlet::{close_outlet, hand_to, have_sent_close, turn_outlet};
 use crate::routes::Routes;
 use sb_link::{RxEnd, TxEnd};
 use sb_node::Findings;
@@ -75,7 +75,7 @@ impl<T: TxEnd, U: RxEnd> Lane<T, U> {
         requires whole { IsWholeLane (lane_route self.old) (lane_of self.old) }
         requires within { place < vec_len self.old.outlets }
         requires ready { owes (outlet_at (lane_of self.old) place).state ≡ false }
-        requires untold { (outlet_at (lane_of self.old) place).state.closing ≡ false }
+        requires untold { (outlet_at (lane_of self.old) place).state.close_requested ≡ false }
         ensures routes { self.new.routes ≡ self.old.routes }
         ensures inlets { self.new.inlets ≡ self.old.inlets }
         ensures handed { IsHandedAt place (lane_of self.old) (lane_of self.new) packet.now }
@@ -109,7 +109,7 @@ impl<T: TxEnd, U: RxEnd> Lane<T, U> {
     fn pop_each(&mut self) -> Findings
         requires whole { IsWholeLane (lane_route self.old) (lane_of self.old) }
         ensures routes { self.new.routes ≡ self.old.routes }
-        ensures popped { HasPopped (lane_route self.old) (lane_of self.old) (lane_of self.new) result }
+        ensures popped { HasPoppedEach (lane_route self.old) (lane_of self.old) (lane_of self.new) result }
     {
         let mut found = Findings::new();
         for place in 0..self.inlets.len() {
@@ -206,9 +206,9 @@ impl<T: TxEnd, U: RxEnd> Lane<T, U> {
 
     /// Whether each ring gave its Close and each port sent one.
     pub fn is_done(&self) -> bool
-        ensures done { result ≡ (list_all (λ port. port.state.shut) (lane_of self.now).outlets
+        ensures done { result ≡ (list_all (λ port. port.state.close_sent) (lane_of self.now).outlets
             && list_all (λ x. x.ended) (lane_of self.now).inlets) }
     {
-        are_shut(&self.outlets) & have_ended(&self.inlets)
+        have_sent_close(&self.outlets) & have_ended(&self.inlets)
     }
 }

@@ -30,7 +30,7 @@ pub fn close_outlet<T: TxEnd>(port: &mut OutPort<T>)
     requires whole { IsWholeOutlet port.old }
     ensures told { IsTold port.old port.new }
 {
-    if !port.closing() {
+    if !port.close_requested() {
         port.close();
     }
 }
@@ -39,15 +39,15 @@ pub fn close_outlet<T: TxEnd>(port: &mut OutPort<T>)
 pub fn hand_to<T: TxEnd>(port: &mut OutPort<T>, packet: &Packet)
     requires whole { IsWholeOutlet port.old }
     requires ready { owes port.old.state ≡ false }
-    requires untold { port.old.state.closing ≡ false }
+    requires untold { port.old.state.close_requested ≡ false }
     ensures handed { IsHandedTo port.old port.new packet.now }
 {
     hand_on(port, packet);
 }
 
 /// Whether each of these ports has sent its Close.
-pub fn are_shut<T: TxEnd>(ports: &[OutPort<T>]) -> bool
-    ensures shut { result ≡ list_all (λ port. port.state.shut) ports.now }
+pub fn have_sent_close<T: TxEnd>(ports: &[OutPort<T>]) -> bool
+    ensures close_sent { result ≡ list_all (λ port. port.state.close_sent) ports.now }
 {
     ports.iter().all(|port| port.closed())
 }

@@ -50,9 +50,9 @@ impl<F: Fabric> Model for Router<F> {
 
     ghost Value = { RouterSide };
 
-    ghost use Rattle.sb_router.specs.RouterOf.{core_side};
+    ghost use Rattle.sb_router.specs.RouterOf.{router_core_side};
 
-    ghost view = { λ r. core_side r.core };
+    ghost view = { λ r. router_core_side r.core };
 }
 
 impl<F: Fabric> Node for Router<F> {

@@ -24,15 +24,15 @@ pub struct RouterCore<T: TxEnd, U: RxEnd> {
 }
 
 impl<T: TxEnd, U: RxEnd> RouterCore<T, U> {
-    ghost use Rattle.sb_router.specs.RouterOf.{core_side};
+    ghost use Rattle.sb_router.specs.RouterOf.{router_core_side};
 
     /// One turn. Takes no memory.
     pub(crate) fn turn(&mut self) -> Turn
-        requires whole { IsWholeRouter (core_side self.old) }
-        ensures turned { IsRouterTurn (core_side self.old) result (core_side self.new) }
-        ensures kept { IsKeptRouter (core_side self.old) (core_side self.new) }
-        ensures rested { result ≢ Moved → IsRestedRouter (core_side self.old) (core_side self.new) }
-        ensures whole { IsWholeRouter (core_side self.new) }
+        requires whole { IsWholeRouter (router_core_side self.old) }
+        ensures turned { IsRouterTurn (router_core_side self.old) result (router_core_side self.new) }
+        ensures kept { IsKeptRouter (router_core_side self.old) (router_core_side self.new) }
+        ensures rested { result ≢ Moved → IsRestedRouter (router_core_side self.old) (router_core_side self.new) }
+        ensures whole { IsWholeRouter (router_core_side self.new) }
     {
         let requests = self.requests.turn();
         let answers = self.answers.turn();
@@ -43,8 +43,8 @@ impl<T: TxEnd, U: RxEnd> RouterCore<T, U> {
 
     /// Lends the port at a place: the ports of requests come first.
     pub(crate) fn port(&mut self, place: usize) -> &mut OutPort<T>
-        requires within { place < length (router_ports (core_side self.old)) }
-        ensures value { result.now ≡ router_port (core_side self.old) place }
+        requires within { place < length (router_ports (router_core_side self.old)) }
+        ensures value { result.now ≡ router_port (router_core_side self.old) place }
         ensures* writes_back { sem 𝓛 (Lends (the_row T.row U.row T.TxEnd U.RxEnd) (port_row T.row T.TxEnd)
             self.entry result (λ port. core_with_port self.old place port)) }
     {
@@ -58,8 +58,8 @@ impl<T: TxEnd, U: RxEnd> RouterCore<T, U> {
 
     /// Lends the end of the ring that comes in at a place: those of requests come first.
     pub(crate) fn end(&mut self, place: usize) -> &mut U
-        requires within { place < length (router_rings (core_side self.old)) }
-        ensures value { ring_side U.RxEnd result.now ≡ router_ring (core_side self.old) place }
+        requires within { place < length (router_rings (router_core_side self.old)) }
+        ensures value { ring_side U.RxEnd result.now ≡ router_ring (router_core_side self.old) place }
         ensures* writes_back { sem 𝓛 (Lends (the_row T.row U.row T.TxEnd U.RxEnd) U.row
             self.entry result (λ end. core_with_ring self.old place (ring_side U.RxEnd end))) }
     {

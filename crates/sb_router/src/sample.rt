@@ -1,7 +1,7 @@
 //! A network for tests: two hosts, a router, and two devices, each at a link of its own.
 
 ghost use Rattle.std.specs.Prelude.{◌≡◌, [], ◌∷◌, map, IfOk};
-ghost use Rattle.sb_flow.specs.Rows.{device_of, host_of, link_of, place_of, router_of};
+ghost use Rattle.sb_flow.specs.Rows.{device_of, host_of, link_of, place_of, net_router_of};
 ghost use Rattle.sb_flow.specs.NetworkOf.{network_of};
 ghost use Rattle.sb_flow.specs.Samples.{label as label_of, page_device as page_device_at, plain_link as plain_link_at};
 ghost use Rattle.sb_router.specs.Samples.{crossing as crossing_network, crossing_hosts, crossing_links, crossing_router, read as read_of};
@@ -59,7 +59,7 @@ fn hosts(alloc: Global) -> Result<Vec<HostPlan>, Fail>
 }
 
 fn routers(alloc: Global) -> Result<Vec<RouterPlan>, Fail>
-    ensures { IfOk result (λ routers. map (router_of 2) routers.items ≡ crossing_router ∷ []) }
+    ensures { IfOk result (λ routers. map (net_router_of 2) routers.items ≡ crossing_router ∷ []) }
 {
     let mut routes = [None; 32];
     routes[0] = Some(2);

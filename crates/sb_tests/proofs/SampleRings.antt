@@ -1,27 +1,13 @@
 -- The rings of the tests' network are made for its device.
-use Rattle.std.proofs.Common.{◌≡◌, ℕ, zero, suc, ◌-◌, ◌*◌, Bool, true, false, true≢false, List, [], ◌∷◌, ◌++◌, length, refl, sym, ap, ◌∙◌, subst}
-use Rattle.std.specs.Prelude.{Option, Some, drop, not, replicate, slice_index_or}
-use Rattle.std.specs.List.{list_all}
-use Rattle.std.proofs.lemmas.Bool.{and_parts}
+use Rattle.std.proofs.Common.{◌≡◌, ℕ, zero, suc, ◌-◌, ◌*◌, Bool, true, false, true≢false, List, [], ◌++◌, length, refl, sym, ap, ◌∙◌, subst}
+use Rattle.std.specs.Prelude.{Option, Some, drop, replicate, slice_index_or}
 use Rattle.std.proofs.lemmas.List.{length-replicate}
 use Rattle.sb_packet.specs.Memories.{MemoryState}
 use Rattle.sb_packet.specs.Plans.{AddressRange, RingPlan}
 use Rattle.sb_packet.specs.Rings.{flow_table, ring_plan, ring_ways}
+use Rattle.sb_link.proofs.Truths.{none_set, none_in_row}
 use Rattle.sb_device.specs.Plans.{IsPlannedFor}
 use Rattle.sb_tests.specs.Samples.{sample}
-
--- where no bit is set, none is found
-none_set : (bits : List Bool) (d : ℕ) → list_all not bits ≡ true → slice_index_or bits d false ≡ false
-none_set [] d e = refl
-none_set (true ∷ bits) d e = absurd (true≢false (sym e))
-none_set (false ∷ bits) zero e = refl
-none_set (false ∷ bits) (suc d) e = none_set bits d e
-
--- where no row has a bit that is set, the row at a place has none
-none_in_row : (rows : List (List Bool)) (h : ℕ) → list_all (list_all not) rows ≡ true → list_all not (slice_index_or rows h []) ≡ true
-none_in_row [] h e = refl
-none_in_row (row ∷ rows) zero e = (and_parts (list_all not row) (list_all (list_all not) rows) e).0
-none_in_row (row ∷ rows) (suc h) e = none_in_row rows h (and_parts (list_all not row) (list_all (list_all not) rows) e).1
 
 -- which flows go over the device's rings
 abbrev sample_table : List (List Bool)

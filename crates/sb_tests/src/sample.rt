@@ -2,7 +2,7 @@
 
 ghost use Rattle.std.specs.Prelude.{◌≡◌, [], ◌∷◌, map, IfOk};
 ghost use Rattle.sb_flow.specs.NetworkOf.{network_of};
-ghost use Rattle.sb_flow.specs.Rows.{device_of, host_of, link_of, router_of};
+ghost use Rattle.sb_flow.specs.Rows.{device_of, host_of, link_of, net_router_of};
 ghost use Rattle.sb_tests.specs.Samples.{far_link, forty_bytes, near_link, sample, sample_device, sample_host, sample_router, sample_script};
 
 use sb_flow::{Bundle, DevicePlan, HostPlan, LinkRow, Place, RouterPlan};
@@ -103,7 +103,7 @@ fn hosts(alloc: Global) -> Result<Vec<HostPlan>, Fail>
 
 /// The router.
 fn routers(alloc: Global) -> Result<Vec<RouterPlan>, Fail>
-    ensures { IfOk result (λ routers. map (router_of 1) routers.items ≡ sample_router ∷ []) }
+    ensures { IfOk result (λ routers. map (net_router_of 1) routers.items ≡ sample_router ∷ []) }
 {
     let name = name(b"r")?;
     let mut routes = [None; 32];

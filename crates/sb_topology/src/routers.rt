@@ -2,7 +2,7 @@
 
 ghost use Rattle.std.specs.Prelude.{◌≡◌, ◌≢◌, ◌≤◌, bytes_eq, length, map, option_map, string_bytes, take, vec_len, IfOk, IfErr, Ok, Err};
 ghost use Rattle.std.specs.List.{find};
-ghost use Rattle.sb_flow.specs.Rows.{router_of};
+ghost use Rattle.sb_flow.specs.Rows.{net_router_of};
 ghost use Rattle.sb_fields.specs.declared.fault.LoadFault.TheVariants as faults;
 ghost use Rattle.sb_fields.specs.Paths.{member_of};
 ghost use Rattle.sb_fields.specs.Counted.{counted_router};
@@ -148,7 +148,7 @@ fn router_plan(names: &NameLists<'_>, name: Name, router: &CountedRouter<'_>) ->
     requires name { name ≡ (counted_router router.now).name }
     requires links { vec_len names.now.links ≤ 128 }
     requires devices { vec_len names.now.devices ≤ 32 }
-    ensures { router_of (vec_len names.now.devices) result
+    ensures { net_router_of (vec_len names.now.devices) result
         ≡ placed_router (given_names names.now) (counted_router router.now) }
 {
     RouterPlan {
@@ -169,7 +169,7 @@ pub fn router_plans<'v>(
     requires devices { vec_len names.now.devices ≤ 32 }
     ensures names { IfOk result (λ plans. routers_by (given_names names.now) 0 (map
         (λ n. n.now) earlier.old.items) (map counted_router routers.now) ≡ Ok (map (λ n. n.now) earlier.new.items)) }
-    ensures plans { IfOk result (λ plans. map (router_of (vec_len names.now.devices)) plans.items
+    ensures plans { IfOk result (λ plans. map (net_router_of (vec_len names.now.devices)) plans.items
         ≡ map (placed_router (given_names names.now)) (map counted_router routers.now)) }
     ensures many { IfOk result (λ plans. vec_len plans ≡ length routers.now) }
     ensures err { IfErr result (λ fault. fault ≢ faults.Memory

@@ -13,11 +13,11 @@ use Rattle.sb_device.proofs.Keeping.{kept_by_empty, kept_by_close, kept_by_reque
 use Rattle.sb_device.proofs.serving.serve_ring.Goals as goal
 
 pub returns-then-not-ready-clause-kept : goal.returns-then-not-ready-clause-kept
-returns-then-not-ready-clause-kept g c = kept_device_same c.args.round (side_of g.U.RxEnd c.args.bank.now c.args.requests.now c.args.answers.now)
+returns-then-not-ready-clause-kept g c = kept_device_same c.args.round (side_of g.U.RxEnd c.args.state.now c.args.requests.now c.args.answers.now)
 
 pub serve_request-requires-clause-within : goal.serve_request-requires-clause-within
 serve_request-requires-clause-within g c =
-    let x = side_of g.U.RxEnd c.args.bank.now c.args.requests.now c.args.answers.now in
+    let x = side_of g.U.RxEnd c.args.state.now c.args.requests.now c.args.answers.now in
     let o = c.requires.whole.in_order in
     let p = c.in-Some-Packet.request in
     let lawful : MayFollow x.requests.plan x.requests.received (items.Packet p) = subst (λ i. MayFollow x.requests.plan x.requests.received i) c.in-Some-Packet.field-0-is c.in-Some-Packet.ensures.popped.lawful in
@@ -25,20 +25,20 @@ serve_request-requires-clause-within g c =
 
 pub serve_request-requires-clause-room : goal.serve_request-requires-clause-room
 serve_request-requires-clause-room g c =
-    let x = side_of g.U.RxEnd c.args.bank.now c.args.requests.now c.args.answers.now in
+    let x = side_of g.U.RxEnd c.args.state.now c.args.requests.now c.args.answers.now in
     let p = c.in-Some-Packet.request in
     let lawful : MayFollow x.requests.plan x.requests.received (items.Packet p) = subst (λ i. MayFollow x.requests.plan x.requests.received i) c.in-Some-Packet.field-0-is c.in-Some-Packet.ensures.popped.lawful in
     room_for_entry x p c.requires.whole.in_order lawful
 
 pub returns-in-None-clause-kept : goal.returns-in-None-clause-kept
 returns-in-None-clause-kept g c =
-    kept_by_empty c.args.round (side_of g.U.RxEnd c.args.bank.now c.args.requests.now c.args.answers.now) (ring_side g.U.RxEnd c.pop_ring.new.ring)
+    kept_by_empty c.args.round (side_of g.U.RxEnd c.args.state.now c.args.requests.now c.args.answers.now) (ring_side g.U.RxEnd c.pop_ring.new.ring)
     c.in-None.ensures.popped.same c.pop_ring.ensures.kept
 
 pub returns-in-Some-Packet-clause-kept : goal.returns-in-Some-Packet-clause-kept
 returns-in-Some-Packet-clause-kept g c =
-    let x = side_of g.U.RxEnd c.args.bank.now c.args.requests.now c.args.answers.now in
-    let y = side_of g.U.RxEnd c.serve_request.new.bank c.pop_ring.new.ring c.serve_request.new.answers in
+    let x = side_of g.U.RxEnd c.args.state.now c.args.requests.now c.args.answers.now in
+    let y = side_of g.U.RxEnd c.serve_request.new.state c.pop_ring.new.ring c.serve_request.new.answers in
     let s = c.serve_request.ensures in
     let o = c.requires.whole.in_order in
     let popped = c.in-Some-Packet.ensures.popped in
@@ -58,8 +58,8 @@ returns-in-Some-Packet-clause-kept g c =
 
 pub returns-in-Some-Packet-clause-whole : goal.returns-in-Some-Packet-clause-whole
 returns-in-Some-Packet-clause-whole g c =
-    let x = side_of g.U.RxEnd c.args.bank.now c.args.requests.now c.args.answers.now in
-    let y = side_of g.U.RxEnd c.serve_request.new.bank c.pop_ring.new.ring c.serve_request.new.answers in
+    let x = side_of g.U.RxEnd c.args.state.now c.args.requests.now c.args.answers.now in
+    let y = side_of g.U.RxEnd c.serve_request.new.state c.pop_ring.new.ring c.serve_request.new.answers in
     let s = c.serve_request.ensures in
     let popped = c.in-Some-Packet.ensures.popped in
     let p = c.in-Some-Packet.request in
@@ -73,14 +73,14 @@ returns-in-Some-Packet-clause-whole g c =
 
 pub returns-in-Some-Close-clause-kept : goal.returns-in-Some-Close-clause-kept
 returns-in-Some-Close-clause-kept g c =
-    let x = side_of g.U.RxEnd c.args.bank.now c.args.requests.now c.args.answers.now in
+    let x = side_of g.U.RxEnd c.args.state.now c.args.requests.now c.args.answers.now in
     kept_by_close x (ring_side g.U.RxEnd c.pop_ring.new.ring) c.close.new.self
     (c.in-Some-Close.ensures.popped.received ∙ ap (λ (i : Item). x.requests.received ++ i ∷ []) c.in-Some-Close.field-0-is) c.close.ensures.told
     c.args.round c.pop_ring.ensures.kept
 
 pub returns-in-Some-Close-clause-whole : goal.returns-in-Some-Close-clause-whole
 returns-in-Some-Close-clause-whole g c =
-    let x = side_of g.U.RxEnd c.args.bank.now c.args.requests.now c.args.answers.now in
+    let x = side_of g.U.RxEnd c.args.state.now c.args.requests.now c.args.answers.now in
     whole_by_close x (ring_side g.U.RxEnd c.pop_ring.new.ring) c.close.new.self
     (c.in-Some-Close.ensures.popped.received ∙ ap (λ (i : Item). x.requests.received ++ i ∷ []) c.in-Some-Close.field-0-is) c.close.ensures.told
     c.requires.whole c.pop_ring.ensures.kept c.close.ensures.fit

@@ -11,16 +11,16 @@ use Rattle.sb_device.proofs.serving.turn_ends.Goals as goal
 
 pub returns-clause-kept : goal.returns-clause-kept
 returns-clause-kept g c =
-    let x = side_of g.U.RxEnd c.args.bank.now c.args.requests.now c.args.answers.now in
+    let x = side_of g.U.RxEnd c.args.state.now c.args.requests.now c.args.answers.now in
     let s = c.serve_ring-popped in
-    let y = side_of g.U.RxEnd s.new.bank s.new.requests s.new.answers in
+    let y = side_of g.U.RxEnd s.new.state s.new.requests s.new.answers in
     kept_device_then c.args.round x y (record y { answers = c.turn_port.new.port }) s.ensures.kept (kept_by_port c.args.round y c.turn_port.new.port c.turn_port.ensures.words c.turn_port.ensures.kept)
 
 pub returns-clause-turned : goal.returns-clause-turned
 returns-clause-turned g c =
-    let x = side_of g.U.RxEnd c.args.bank.now c.args.requests.now c.args.answers.now in
+    let x = side_of g.U.RxEnd c.args.state.now c.args.requests.now c.args.answers.now in
     let s = c.serve_ring-popped in
-    let y = side_of g.U.RxEnd s.new.bank s.new.requests s.new.answers in
+    let y = side_of g.U.RxEnd s.new.state s.new.requests s.new.answers in
     let port_then = c.turn_port.new.port in
     let t = c.turn_port.ensures in
     device_turned x y port_then s.result s.new.found c.turn_port.new.found c.turn.result

@@ -9,8 +9,8 @@ use Rattle.sb_host.proofs.Ordered.{some_left}
 use Rattle.sb_host.proofs.serving.issue_next.Goals.{then-any_left, else-any_left, then-offers, else-offers}
 use Rattle.sb_host.proofs.serving.issue_next.Goals as goal
 
-pub returns-then-not-closing-clause-next_offered : goal.returns-then-not-closing-clause-next_offered
-returns-then-not-closing-clause-next_offered g c = λ ready m rest here.
+pub returns-then-not-close_requested-clause-next_offered : goal.returns-then-not-close_requested-clause-next_offered
+returns-then-not-close_requested-clause-next_offered g c = λ ready m rest here.
     let words = offered_words c.args.requests.now ++ message_accesses m in
     let left : left_of c.pass_over.new.self ≡ m ∷ rest = c.pass_over.ensures.left ∙ here in
     let offered : IsPrefix words (offered_words c.if-offers.requests) = elim c.if-offers.branch [

@@ -6,4 +6,4 @@ use Rattle.sb_host.specs.Rows.{IsTable}
 use Rattle.sb_host.proofs.tests.take_all.Given as goal
 
 abbrev pub invariant-loop-answer : goal.invariant-loop-answer
-invariant-loop-answer l = record { table : (received : List Access) × IsTable (asked_of l.orders) received l.table.rows.items }
+invariant-loop-answer l = record { table : (received : List Access) × IsTable (asked_of l.script_plan) received l.table.rows.items }

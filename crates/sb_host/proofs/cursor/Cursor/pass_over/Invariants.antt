@@ -6,11 +6,11 @@ use Rattle.sb_host.proofs.cursor.Cursor.pass_over.Given as goal
 
 abbrev pub invariant-loop-self : goal.invariant-loop-self
 invariant-loop-self l = record {
-  passed : HasPassedOver (asked_of l.orders) l.fn.self.next l.self.next;
+  passed : HasPassedOver (asked_of l.script_plan) l.fn.self.next l.self.next;
   part : l.self.part ≡ l.fn.self.part;
-  come : HasComeTo (asked_of l.orders) l.self.next l.self.part;
-  left : packets_left (asked_of l.orders) l.self.next l.self.part ≡ packets_left (asked_of l.orders) l.fn.self.next l.fn.self.part;
+  come : HasComeTo (asked_of l.script_plan) l.self.next l.self.part;
+  left : packets_left (asked_of l.script_plan) l.self.next l.self.part ≡ packets_left (asked_of l.script_plan) l.fn.self.next l.fn.self.part;
 }
 
 abbrev pub decreases-loop-self : goal.decreases-loop-self
-decreases-loop-self l = length l.orders.lines.items - l.self.next
+decreases-loop-self l = length l.script_plan.lines.items - l.self.next

@@ -36,18 +36,18 @@ returns-clause-whole g c =
     let t = c.in_ok-transactions.transactions in
     let port = c.new-2.result in
     let ring = ring_side g.F.Rx.RxEnd c.args.leg.answers in
-    let asked : t.asked ≡ asked_of c.in_ok-orders.orders = ap (λ (x : TransactionsSide). x.asked) c.in_ok-transactions.ensures.fresh in
+    let asked : t.asked ≡ asked_of c.in_ok-script_plan.script_plan = ap (λ (x : TransactionsSide). x.asked) c.in_ok-transactions.ensures.fresh in
     let new : t ≡ record { asked = t.asked; rows = t.rows; next = 0; part = 0; ended = false } =
     c.in_ok-transactions.ensures.fresh ∙ ap (λ (a : Asked). record { asked = a; rows = t.rows; next = 0; part = 0; ended = false }) (sym asked) in
     let plan : port.plan ≡ g.F.Tx.TxEnd.planned c.args.leg.requests = ap (λ (p : PortSide). p.plan) c.new-2.ensures.fresh in
     let made : IsMadeFor port.plan t.asked =
     subst (λ (p : RingPlan). IsMadeFor p t.asked) (sym (plan ∙ c.requires.planned))
-    (subst (λ (a : Asked). IsMadeFor (ring_plan network (2 * c.args.leg.link)) a) (sym (asked ∙ c.in_ok-orders.ensures.asked host there))
+    (subst (λ (a : Asked). IsMadeFor (ring_plan network (2 * c.args.leg.link)) a) (sym (asked ∙ c.in_ok-script_plan.ensures.asked host there))
     (own_ring_made network number c.args.leg.link host (accepted c.args.bundle.now) there c.requires.own)) in
-    let state : port.state ≡ record { sent = []; waiting = nothing_waits port.plan.width; closing = false; shut = false; claimed = 0 } =
+    let state : port.state ≡ record { sent = []; waiting = nothing_waits port.plan.width; close_requested = false; close_sent = false; words_offered = 0 } =
     ap (λ (p : PortSide). p.state) c.new-2.ensures.fresh
-    ∙ ap (λ (p : RingPlan). record { sent = []; waiting = nothing_waits p.width; closing = false; shut = false; claimed = 0 }) (sym plan) in
-    let issuable : AreIssuable t.asked = subst AreIssuable (sym asked) (orders_issuable c.in_ok-orders.orders) in
+    ∙ ap (λ (p : RingPlan). record { sent = []; waiting = nothing_waits p.width; close_requested = false; close_sent = false; words_offered = 0 }) (sym plan) in
+    let issuable : AreIssuable t.asked = subst AreIssuable (sym asked) (orders_issuable c.in_ok-script_plan.script_plan) in
     record {
       fit = c.new-2.ensures.fit;
       in_order = begins_in_order t port ring new issuable made state c.requires.unreceived c.in_ok-transactions.ensures.table;

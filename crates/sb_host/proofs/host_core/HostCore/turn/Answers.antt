@@ -11,7 +11,7 @@ use Rattle.sb_node.specs.Sides.{ring_side}
 use Rattle.sb_node.proofs.Serving.{served_since}
 use Rattle.sb_node.specs.declared.findings.Findings.{Findings}
 use Rattle.sb_host.specs.Progress.{TransactionsSide, left_of}
-use Rattle.sb_host.specs.Steps.{HasOfferedNone, IsIssued, IsReceived}
+use Rattle.sb_host.specs.Steps.{HasOfferedNone, IsIssued, IsReceiveStep}
 use Rattle.sb_host.proofs.Ordered.{turned_in_order}
 use Rattle.sb_host.proofs.Turning.{ends_turned, few_popped, found_unmoved, none_offered, none_popped, rested_by_none, ring_served, still_moved, unmoved_before}
 use Rattle.sb_host.proofs.host_core.HostCore.turn.Goals as goal
@@ -53,10 +53,10 @@ returns-clause-turned g c =
     let r = c.receive-popped in
     let s = c.issue_next-offered in
     let ends = (s.ensures.in_order ring_then (r.ensures.in_order port c.requires.whole.in_order)).ends in
-    let received = subst (λ (f : Findings). IsReceived ring ring_then f r.new.found r.result) c.new-found.ensures r.ensures.received in
+    let received = subst (λ (f : Findings). IsReceiveStep ring ring_then f r.new.found r.result) c.new-found.ensures r.ensures.received in
     let said = ends_turned ring ring_then port middle port_then r.result s.result r.new.found s.new.found c.turn_port.new.found c.turn.result received
     s.ensures.issued c.turn_port.ensures.turned s.ensures.kept c.turn_port.ensures.kept
-    (subst (λ (b : Bool). IsTurnOf c.turn_port.new.found b c.turn.result) (c.is_done.ensures ∙ ap (λ (b : Bool). port_then.state.shut && b) ends) c.turn.ensures) in
+    (subst (λ (b : Bool). IsTurnOf c.turn_port.new.found b c.turn.result) (c.is_done.ensures ∙ ap (λ (b : Bool). port_then.state.close_sent && b) ends) c.turn.ensures) in
     record {
       answered = said.0;
       idle = said.1;

@@ -13,10 +13,10 @@ returns-clause-fit g c =
     let q = c.self.inside in
     let packet = c.args.packet.now in
     let plan = g.T.TxEnd.planned q.tx in
-    let s : PortState = record { sent = g.T.TxEnd.sent q.tx; waiting = q.outbox; closing = q.closing; shut = q.shut; claimed = q.claimed } in
-    let untold : s.closing ≡ false = subst (λ (p : PortSide). p.state.closing ≡ false) (sym c.self.view_is) c.requires.untold in
+    let s : PortState = record { sent = g.T.TxEnd.sent q.tx; waiting = q.outbox; close_requested = q.close_requested; close_sent = q.close_sent; words_offered = q.words_offered } in
+    let untold : s.close_requested ≡ false = subst (λ (p : PortSide). p.state.close_requested ≡ false) (sym c.self.view_is) c.requires.untold in
     let passes = subst (λ (p : PortSide). MayPass p.plan (length (offered_words p)) (message_of packet)) (sym c.self.view_is) c.requires.passes in
-    let fit : IsFit plan (record s { waiting = offered s.waiting (message_of packet); claimed = s.claimed + c.word_count.result }) =
-    subst (λ (n : ℕ). IsFit plan (record s { waiting = offered s.waiting (message_of packet); claimed = s.claimed + n })) (sym c.word_count.ensures.words)
+    let fit : IsFit plan (record s { waiting = offered s.waiting (message_of packet); words_offered = s.words_offered + c.word_count.result }) =
+    subst (λ (n : ℕ). IsFit plan (record s { waiting = offered s.waiting (message_of packet); words_offered = s.words_offered + n })) (sym c.word_count.ensures.words)
     (fit_offered plan s packet (fit_seen c.self.view_is c.requires.fit) untold passes) in
-    subst (λ (w : Waiting). IsFit plan (record s { waiting = w; claimed = s.claimed + c.word_count.result })) (sym c.offer.ensures.offered) fit
+    subst (λ (w : Waiting). IsFit plan (record s { waiting = w; words_offered = s.words_offered + c.word_count.result })) (sym c.offer.ensures.offered) fit

@@ -13,9 +13,9 @@ returns-clause-yes g c =
     let message = message_of c.args.packet.now in
     let here : plan_of c.plan-plan.result.now ≡ port.plan = c.plan-plan.ensures.plan ∙ ap (λ (p : PortSide). p.plan) c.self.view_is in
     let budget : c.plan-plan.result.now.budget ≡ port.plan.budget = ap (λ (p : RingPlan). p.budget) here in
-    let claimed : c.self.inside.claimed ≡ port.state.claimed = ap (λ (p : PortSide). p.state.claimed) c.self.view_is in
+    let words_offered : c.self.inside.words_offered ≡ port.state.words_offered = ap (λ (p : PortSide). p.state.words_offered) c.self.view_is in
     λ passed. record {
       sound = c.is_sound.ensures.yes c.if-not-is_sound.false;
       planned = subst (λ (p : RingPlan). IsPlanned p message) here (c.is_planned.ensures.yes c.if-not-is_planned.false);
-      room = omega (arith, c.if-self-word_count.false, budget, claimed, c.word_count.ensures.words, c.requires.fit.counted);
+      room = omega (arith, c.if-self-word_count.false, budget, words_offered, c.word_count.ensures.words, c.requires.fit.counted);
     }

@@ -11,7 +11,7 @@ use Rattle.sb_port.proofs.port.OutPort.send.Goals as goal
 pub try_push-requires : goal.try_push-requires
 try_push-requires g c =
     let q = c.self.inside in
-    let s : PortState = record { sent = g.T.TxEnd.sent q.tx; waiting = q.outbox; closing = q.closing; shut = q.shut; claimed = q.claimed } in
+    let s : PortState = record { sent = g.T.TxEnd.sent q.tx; waiting = q.outbox; close_requested = q.close_requested; close_sent = q.close_sent; words_offered = q.words_offered } in
     let first : s.waiting.owed ≡ message_of c.args.packet.now ∷ drop 1 s.waiting.owed =
     subst (λ (p : PortSide). p.state.waiting.owed ≡ message_of c.args.packet.now ∷ drop 1 p.state.waiting.owed) (sym c.self.view_is) c.requires.first in
     record { lawful = may_send (g.T.TxEnd.planned q.tx) s c.args.packet.now (drop 1 s.waiting.owed) (fit_seen c.self.view_is c.requires.fit) first }
@@ -22,16 +22,16 @@ returns-in-Done-clause-tried g c =
     sends_seen _ c.self.view_is (record {
       packet = c.args.packet.now;
       first = subst (λ (p : PortSide). p.state.waiting.owed ≡ message_of c.args.packet.now ∷ drop 1 p.state.waiting.owed) (sym c.self.view_is) c.requires.first;
-      state = same_state _ _ _ _ q.closing q.shut q.shut q.claimed c.in-Done.ensures.pushed.sent c.advance.ensures.advanced refl;
+      state = same_state _ _ _ _ q.close_requested q.close_sent q.close_sent q.words_offered c.in-Done.ensures.pushed.sent c.advance.ensures.advanced refl;
     })
 
 pub returns-in-Done-clause-fit : goal.returns-in-Done-clause-fit
 returns-in-Done-clause-fit g c =
     let q = c.self.inside in
-    let s : PortState = record { sent = g.T.TxEnd.sent q.tx; waiting = q.outbox; closing = q.closing; shut = q.shut; claimed = q.claimed } in
-    let t : PortState = record { sent = g.T.TxEnd.sent c.try_push.new.self; waiting = c.advance.new.self; closing = q.closing; shut = q.shut; claimed = q.claimed } in
+    let s : PortState = record { sent = g.T.TxEnd.sent q.tx; waiting = q.outbox; close_requested = q.close_requested; close_sent = q.close_sent; words_offered = q.words_offered } in
+    let t : PortState = record { sent = g.T.TxEnd.sent c.try_push.new.self; waiting = c.advance.new.self; close_requested = q.close_requested; close_sent = q.close_sent; words_offered = q.words_offered } in
     subst (λ (plan : RingPlan). IsFit plan t) (sym c.in-Done.ensures.plan) (fit_sends (g.T.TxEnd.planned q.tx) s t (fit_seen c.self.view_is c.requires.fit) (record {
       packet = c.args.packet.now;
       first = subst (λ (p : PortSide). p.state.waiting.owed ≡ message_of c.args.packet.now ∷ drop 1 p.state.waiting.owed) (sym c.self.view_is) c.requires.first;
-      state = same_state _ _ _ _ q.closing q.shut q.shut q.claimed c.in-Done.ensures.pushed.sent c.advance.ensures.advanced refl;
+      state = same_state _ _ _ _ q.close_requested q.close_sent q.close_sent q.words_offered c.in-Done.ensures.pushed.sent c.advance.ensures.advanced refl;
     }))

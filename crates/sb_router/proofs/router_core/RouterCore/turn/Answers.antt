@@ -3,7 +3,7 @@ use Rattle.std.proofs.Common.{sym, subst}
 use Rattle.sb_router.specs.LaneOf.{lane_of}
 use Rattle.sb_router.specs.RestedRouters.{IsRestedRouter}
 use Rattle.sb_router.specs.Routers.{IsKeptDirection, IsRouterTurn, IsWholeDirection}
-use Rattle.sb_router.specs.RouterOf.{core_side, direction_of}
+use Rattle.sb_router.specs.RouterOf.{router_core_side, direction_of}
 use Rattle.sb_router.proofs.RouterTurns.{kept_direction, router_rests, router_turn}
 use Rattle.sb_router.proofs.RouterTurning.{found_done, some_cause}
 use Rattle.sb_router.proofs.router_core.RouterCore.turn.Goals as goal
@@ -31,8 +31,8 @@ returns-clause-turned g c =
     let b = lane_of q.new.self in
     let turned = router_turn down up p.ensures.turned q.ensures.turned p.ensures.whole q.ensures.whole c.turn.result
     (found_done a b c.both-found.result p.result q.result c.is_done.result c.is_done-2.result c.turn.result p.ensures.whole.inlets q.ensures.whole.inlets c.both-found.ensures.both c.is_done.ensures.done c.is_done-2.ensures.done c.turn.ensures) in
-    subst (λ routes. IsRouterTurn (core_side old) c.turn.result (record { requests = record { rows = routes.rows.items; lane = a }; answers = direction_of q.new.self })) (sym p.ensures.routes)
-    (subst (λ routes. IsRouterTurn (core_side old) c.turn.result (record { requests = record { rows = down; lane = a }; answers = record { rows = routes.rows.items; lane = b } })) (sym q.ensures.routes) turned)
+    subst (λ routes. IsRouterTurn (router_core_side old) c.turn.result (record { requests = record { rows = routes.rows.items; lane = a }; answers = direction_of q.new.self })) (sym p.ensures.routes)
+    (subst (λ routes. IsRouterTurn (router_core_side old) c.turn.result (record { requests = record { rows = down; lane = a }; answers = record { rows = routes.rows.items; lane = b } })) (sym q.ensures.routes) turned)
 
 pub returns-clause-rested : goal.returns-clause-rested
 returns-clause-rested g c = λ other.
@@ -45,8 +45,8 @@ returns-clause-rested g c = λ other.
     let b = lane_of q.new.self in
     let rested = router_rests down up p.ensures.turned q.ensures.turned p.ensures.whole q.ensures.whole c.turn.result
     (found_done a b c.both-found.result p.result q.result c.is_done.result c.is_done-2.result c.turn.result p.ensures.whole.inlets q.ensures.whole.inlets c.both-found.ensures.both c.is_done.ensures.done c.is_done-2.ensures.done c.turn.ensures) other in
-    subst (λ routes. IsRestedRouter (core_side old) (record { requests = record { rows = routes.rows.items; lane = a }; answers = direction_of q.new.self })) (sym p.ensures.routes)
-    (subst (λ routes. IsRestedRouter (core_side old) (record { requests = record { rows = down; lane = a }; answers = record { rows = routes.rows.items; lane = b } })) (sym q.ensures.routes) rested)
+    subst (λ routes. IsRestedRouter (router_core_side old) (record { requests = record { rows = routes.rows.items; lane = a }; answers = direction_of q.new.self })) (sym p.ensures.routes)
+    (subst (λ routes. IsRestedRouter (router_core_side old) (record { requests = record { rows = down; lane = a }; answers = record { rows = routes.rows.items; lane = b } })) (sym q.ensures.routes) rested)
 
 pub returns-clause-kept : goal.returns-clause-kept
 returns-clause-kept g c =
