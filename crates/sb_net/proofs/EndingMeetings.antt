@@ -73,18 +73,18 @@ module _ {F T U : Type 0} where
 
   -- a node that is done stays done
   abbrev Done : Member F T U → Type 0
-  Done x = (list_all (λ (p : PortSide). p.state.shut) (ports_of x) ≡ true) × (list_all has_ended (rings_of x) ≡ true)
+  Done x = (list_all (λ (p : PortSide). p.state.close_sent) (ports_of x) ≡ true) × (list_all has_ended (rings_of x) ≡ true)
 
   done_stays : Stays Done
   done_stays = record {
     at_port = λ x o port lt met was.
-        let shut : port.state.shut ≡ true = ap (λ (s : PortState). s.shut) met.state ∙ passes_each (λ (p : PortSide). p.state.shut) (ports_of x) no_port was.0 o lt in (
-          ap (list_all (λ (p : PortSide). p.state.shut)) (ports_with_port x o port lt) ∙ set_passes (λ (p : PortSide). p.state.shut) (ports_of x) no_port o port was.0 shut lt,
+        let close_sent : port.state.close_sent ≡ true = ap (λ (s : PortState). s.close_sent) met.state ∙ passes_each (λ (p : PortSide). p.state.close_sent) (ports_of x) no_port was.0 o lt in (
+          ap (list_all (λ (p : PortSide). p.state.close_sent)) (ports_with_port x o port lt) ∙ set_passes (λ (p : PortSide). p.state.close_sent) (ports_of x) no_port o port was.0 close_sent lt,
           ap (list_all has_ended) (rings_with_port x o port) ∙ was.1,
         );
     at_ring = λ x i ring lt met was.
         let gave : has_ended ring ≡ true = ap (λ (list : List Item). has_ended (record no_ring { received = list })) met.received ∙ passes_each has_ended (rings_of x) no_ring was.1 i lt in (
-          ap (list_all (λ (p : PortSide). p.state.shut)) (ports_with_ring x i ring) ∙ was.0,
+          ap (list_all (λ (p : PortSide). p.state.close_sent)) (ports_with_ring x i ring) ∙ was.0,
           ap (list_all has_ended) (rings_with_ring x i ring lt) ∙ set_passes has_ended (rings_of x) no_ring i ring was.1 gave lt,
         );
   }
@@ -138,9 +138,9 @@ module _ {F T U : Type 0} where
         done = λ k node.
             let long : length after ≡ length before = (meetings Done done_stays joints before after met joined).0 in
             let was = over.done k (omega (arith, node, long)) in
-            let parts = halves (list_all (λ (p : PortSide). p.state.shut) (ports_of (node_at before k))) (list_all has_ended (rings_of (node_at before k))) was in
+            let parts = halves (list_all (λ (p : PortSide). p.state.close_sent) (ports_of (node_at before k))) (list_all has_ended (rings_of (node_at before k))) was in
             let now = (meetings Done done_stays joints before after met joined).1 k parts in
-            both (list_all (λ (p : PortSide). p.state.shut) (ports_of (node_at after k))) (list_all has_ended (rings_of (node_at after k))) now.0 now.1;
+            both (list_all (λ (p : PortSide). p.state.close_sent) (ports_of (node_at after k))) (list_all has_ended (rings_of (node_at after k))) now.0 now.1;
         carried = λ r here.
             let P = λ (x : Member F T U). IsCarried network journal r (received_words (ring_at x (joint_at joints r).into)) in
             (meetings P (carried_stays network journal r (joint_at joints r).into) joints before after met joined).1 (joint_at joints r).to (over.carried r here);

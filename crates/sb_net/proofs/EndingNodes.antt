@@ -50,7 +50,7 @@ module _ {F T U : Type 0} where
   -- a host at its end tells what the journal says
   host_tells : (network : Network) (journal : List Entry) (m : Moment) (n : ℕ) (host : NetHost) (x : Member F T U)
       → IsRouted network → IsLayout network (network_layout network) → IsMomentOf network (network_layout network) journal m → HasAllEnded (network_layout network) m
-      → slice_get network.hosts n ≡ Some host → IsHostNode network n x → IsWholeMember x → (port_at x 0).state.closing ≡ true → HasRing m (ring_at x 0).plan.ring (ring_at x 0)
+      → slice_get network.hosts n ≡ Some host → IsHostNode network n x → IsWholeMember x → (port_at x 0).state.close_requested ≡ true → HasRing m (ring_at x 0).plan.ring (ring_at x 0)
       → TellsOutcomes network journal host x
   host_tells network journal m n host (Host h) routed laid now ended at built whole told got =
       outcomes_found network (network_layout network) journal m host h laid routed.pages now ended (belongs network routed n host at h built) whole told got

@@ -73,12 +73,12 @@ module _ {F T U : Type 0} (joints : List Joint) (nodes : List (Member F T U)) wh
       node_whole k node = All-get_or IsWholeMember nodes k no_node node joined.whole
 
       -- each port has sent its Close, and each ring has given its own
-      pub port_shut : (k o : ℕ) → k < length nodes → o < length (ports_of (node_at nodes k)) → (port_at (node_at nodes k) o).state.shut ≡ true
+      pub port_shut : (k o : ℕ) → k < length nodes → o < length (ports_of (node_at nodes k)) → (port_at (node_at nodes k) o).state.close_sent ≡ true
       port_shut k o node place =
           (whole_fits (node_at nodes k) o (node_whole k node) place).close ∙ sym (ap (λ (p : PortSide). has_close p.state.sent) (port_found k o node place))
           ∙ closed (port_at (node_at nodes k) o).plan.ring (covered.ports k o node place).ring
 
-      pub port_told : (k o : ℕ) → k < length nodes → o < length (ports_of (node_at nodes k)) → (port_at (node_at nodes k) o).state.closing ≡ true
+      pub port_told : (k o : ℕ) → k < length nodes → o < length (ports_of (node_at nodes k)) → (port_at (node_at nodes k) o).state.close_requested ≡ true
       port_told k o node place = (whole_fits (node_at nodes k) o (node_whole k node) place).told (port_shut k o node place)
 
       ring_ended : (k i : ℕ) → k < length nodes → i < length (rings_of (node_at nodes k)) → has_ended (ring_at (node_at nodes k) i) ≡ true
@@ -90,6 +90,6 @@ module _ {F T U : Type 0} (joints : List Joint) (nodes : List (Member F T U)) wh
       node_done k node =
           let ports = ports_of (node_at nodes k) in
           let rings = rings_of (node_at nodes k) in
-          both (list_all (λ (p : PortSide). p.state.shut) ports) (list_all has_ended rings)
-          (each_passes (λ (p : PortSide). p.state.shut) ports no_port (λ o place. port_shut k o node place))
+          both (list_all (λ (p : PortSide). p.state.close_sent) ports) (list_all has_ended rings)
+          (each_passes (λ (p : PortSide). p.state.close_sent) ports no_port (λ o place. port_shut k o node place))
           (each_passes has_ended rings no_ring (λ i place. ring_ended k i node place))

@@ -7,7 +7,7 @@ use Rattle.sb_packet.specs.Rings.{ring_plan}
 use Rattle.sb_packet.specs.declared.entry.Entry.{Entry}
 use Rattle.sb_packet.specs.declared.packet.Packet.{Packet}
 use Rattle.sb_host.specs.Hosts.{IsWholeHost}
-use Rattle.sb_host.specs.declared.row.Row.{Row}
+use Rattle.sb_host.specs.declared.answer_row.AnswerRow.{AnswerRow}
 use Rattle.sb_device.specs.Devices.{IsWholeDevice}
 use Rattle.sb_device.specs.Served.{HasServed}
 use Rattle.sb_router.specs.Forwarding.{Words, held_for, popped_for}
@@ -55,7 +55,7 @@ HasFew words d = (o : ℕ) → length (offered_at d.lane o) + sum_by (held_for w
 -- What the nodes are at a moment: the host's rows and its next transaction, the packet that the router holds, and the device's journal.
 pub record SmallState : Type 0 where
   pub now : Moment
-  pub rows : List Row
+  pub rows : List AnswerRow
   pub next : ℕ
   pub holds : Option Packet
   pub entries : List Entry

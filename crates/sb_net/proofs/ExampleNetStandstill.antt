@@ -14,12 +14,12 @@ use Rattle.sb_device.specs.Served.{AreSound}
 use Rattle.sb_router.specs.Lanes.{no_port, no_ring}
 use Rattle.sb_node.specs.Sides.{RingSide}
 use Rattle.sb_node.proofs.Subsequences.{same_subsequence}
-use Rattle.sb_laws.specs.Courses.{AlongWay, CarriesItsFlows, is_carried}
+use Rattle.sb_laws.specs.Courses.{AlongWay, CarriesItsFlows, is_of_ring}
 use Rattle.sb_laws.specs.Endings.{IsWholeStandstill}
 use Rattle.sb_laws.specs.Moments.{ClosesLast, Moment, arrived}
 use Rattle.sb_laws.specs.NetworkLayouts.{network_answers, network_layout, network_requests}
 use Rattle.sb_laws.specs.NetworkStages.{network_stages}
-use Rattle.sb_laws.specs.Promises.{Forwards, IsLink, IsPort}
+use Rattle.sb_laws.specs.Promises.{ForwardsFlow, IsLink, IsPort}
 use Rattle.sb_laws.specs.Runs.{IsDevice, IsHost, IsMomentOf}
 use Rattle.sb_laws.specs.Standstills.{IsIdleReceiver, IsIdleSender, IsTrueRing, RoundEnd, is_closed}
 use Rattle.sb_laws.proofs.ClosedLists.{closes_last}
@@ -106,17 +106,17 @@ module _ (F T U : Type 0) (heap : Global) where
   }
 
   carried : (r : ℕ) → (network_requests small).has r ≡ true → CarriesItsFlows small (network_requests small) m r
-  carried zero e = All-from_recursion (λ a. is_carried small (network_requests small) 0 a ≡ true) (item_accesses asking) (refl, (refl, (refl, tt)))
+  carried zero e = All-from_recursion (λ a. is_of_ring small (network_requests small) 0 a ≡ true) (item_accesses asking) (refl, (refl, (refl, tt)))
   carried (suc zero) e = absurd (cc)
-  carried (suc (suc zero)) e = All-from_recursion (λ a. is_carried small (network_requests small) 2 a ≡ true) (item_accesses asking) (refl, (refl, (refl, tt)))
+  carried (suc (suc zero)) e = All-from_recursion (λ a. is_of_ring small (network_requests small) 2 a ≡ true) (item_accesses asking) (refl, (refl, (refl, tt)))
   carried (suc (suc (suc zero))) e = absurd (cc)
   carried (suc (suc (suc (suc r)))) e = absurd (no_fifth (not (is_upward (suc (suc (suc (suc r)))))) r e)
 
   carried_back : (r : ℕ) → (network_answers small).has r ≡ true → CarriesItsFlows small (network_answers small) m r
   carried_back zero e = absurd (cc)
-  carried_back (suc zero) e = All-from_recursion (λ a. is_carried small (network_answers small) 1 a ≡ true) (item_accesses answering) (refl, (refl, tt))
+  carried_back (suc zero) e = All-from_recursion (λ a. is_of_ring small (network_answers small) 1 a ≡ true) (item_accesses answering) (refl, (refl, tt))
   carried_back (suc (suc zero)) e = absurd (cc)
-  carried_back (suc (suc (suc zero))) e = All-from_recursion (λ a. is_carried small (network_answers small) 3 a ≡ true) (item_accesses answering) (refl, (refl, tt))
+  carried_back (suc (suc (suc zero))) e = All-from_recursion (λ a. is_of_ring small (network_answers small) 3 a ≡ true) (item_accesses answering) (refl, (refl, tt))
   carried_back (suc (suc (suc (suc r)))) e = absurd (no_fifth (is_upward (suc (suc (suc (suc r))))) r e)
 
   recorded : (d : ℕ) → d < 1 → journal_accesses steps d ≡ arrived m ((network_layout small).into d)
@@ -133,9 +133,9 @@ module _ (F T U : Type 0) (heap : Global) where
     recorded = recorded;
     hosts = of_one (IsHost small (network_layout small) m) the_flow (record { in_order = same_prefix refl; closed = λ e. refl });
     devices = of_one (IsDevice small (network_layout small) steps m) the_flow (record { whole = λ sound few. refl });
-    routers = of_one (λ f. AlongWay (Forwards small (network_requests small) m f) ((network_requests small).first f) ((network_requests small).rest f)) the_flow
+    routers = of_one (λ f. AlongWay (ForwardsFlow small (network_requests small) m f) ((network_requests small).first f) ((network_requests small).rest f)) the_flow
         (record { in_order = same_subsequence (item_accesses asking); whole = λ sound few. refl; closed = λ e. refl }, tt);
-    routers_back = of_one (λ f. AlongWay (Forwards small (network_answers small) m f) ((network_answers small).first f) ((network_answers small).rest f)) the_flow
+    routers_back = of_one (λ f. AlongWay (ForwardsFlow small (network_answers small) m f) ((network_answers small).first f) ((network_answers small).rest f)) the_flow
         (record { in_order = same_subsequence (item_accesses answering); whole = λ sound few. refl; closed = λ e. refl }, tt);
   }
 

@@ -48,7 +48,7 @@ module _ {F T U : Type 0} (joints : List Joint) (nodes : List (Member F T U)) wh
     full = ap is_full (is_port r below);
     owes = ap (λ (p : PortSide). owes p.state) (is_port r below);
     merges = ap (λ (p : PortSide). is_some p.state.waiting.held) (is_port r below);
-    told = ap (λ (p : PortSide). p.state.closing) (is_port r below);
+    told = ap (λ (p : PortSide). p.state.close_requested) (is_port r below);
   }
 
   pub shows_receiver : (r : ℕ) → r < length joints → ShowsRing e r (receiver_of nodes (joint_at joints r))

@@ -72,7 +72,7 @@ module _ {F T U : Type 0} where
       empty = λ r. is_drained (ring_here r);
       owes = λ r. owes (port_here r).state;
       merges = λ r. is_some (port_here r).state.waiting.held;
-      told = λ r. (port_here r).state.closing;
+      told = λ r. (port_here r).state.close_requested;
       holds = next_here;
       waits = λ r. if nat_lt r (length joints) then node_waits (node_at nodes (joint_at joints r).from) else false;
     }
