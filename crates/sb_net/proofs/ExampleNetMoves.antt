@@ -16,10 +16,11 @@ use Rattle.sb_router.specs.Lanes.{inlet_at}
 use Rattle.sb_router.specs.RouteOf.{route_of}
 use Rattle.sb_router.specs.Routers.{ClosesWhenDue, IsRouterTurn}
 use Rattle.sb_router.specs.Turning.{IsIdleLane, IsSeen, ServesPorts}
+use Rattle.sb_node.proofs.Answering.{one_of}
 use Rattle.sb_laws.specs.Moments.{Moment}
 use Rattle.sb_laws.proofs.Prefixes.{front_prefix, same_prefix}
 use Rattle.sb_laws.proofs.ExampleNetwork.{read_back, small, steps, written}
-use Rattle.sb_laws.proofs.ExampleLayout.{of_one}
+
 use Rattle.sb_laws.proofs.ExampleRun.{all_items, steps_of_small, the_end}
 use Rattle.sb_laws.proofs.ExampleNodes.{device_in, port_in, ring_in}
 use Rattle.sb_laws.proofs.ExamplePorts.{IsSettled, end_is_settled, have_met, is_fit}
@@ -120,8 +121,8 @@ module _ (heap : Global) where
   answers_idle : IsIdleLane (route_of small_rows) (direction_in late 3 1 None).lane
   answers_idle = record {
     held_awaits_full = λ i p inside e. absurd (none_held i p e);
-    owing_are_full = of_one (λ port. has_rest port ≡ true → is_full port ≡ true) (port_in late 1) (λ rest. absurd (cc));
-    open_are_seen = of_one IsSeen (inlet_in late 3 None) (inl refl);
+    owing_are_full = one_of (λ port. has_rest port ≡ true → is_full port ≡ true) (port_in late 1) (λ rest. absurd (cc));
+    open_are_seen = one_of IsSeen (inlet_in late 3 None) (inl refl);
   }
 
   answers_close : ClosesWhenDue (direction_in late 3 1 None)

@@ -12,8 +12,9 @@ use Rattle.sb_flow.specs.Accepted.{IsAccepted}
 use Rattle.sb_flow.proofs.TestedNetworks.{accepted_by_test}
 use Rattle.sb_port.specs.Ports.{PortSide}
 use Rattle.sb_node.specs.Sides.{RingSide, is_done, received_words}
+use Rattle.sb_node.proofs.Answering.{one_of}
 use Rattle.sb_laws.proofs.ExampleNetwork.{answering, asking, cpu, small, steps, write}
-use Rattle.sb_laws.proofs.ExampleLayout.{of_one}
+
 use Rattle.sb_laws.proofs.ExampleHostLaws.{hosts_find_the_journals_outcomes}
 use Rattle.sb_laws.proofs.ExampleRun.{all_items, steps_are_lawful, steps_of_small, the_end}
 use Rattle.sb_laws.proofs.ExampleHalfway.{first_step}
@@ -78,7 +79,7 @@ module _ (F T U : Type 0) (heap : Global) where
   fresh_is_recorded = record { entries = fresh_entries; devices = All-nil (λ e. e.device < 1) }
 
   pub halfway_is_recorded : IsRecorded small first_step halfway_nodes
-  halfway_is_recorded = record { entries = halfway_entries; devices = of_one (λ e. e.device < 1) (record { round = 1; device = 0; packet = write }) (lit< tt) }
+  halfway_is_recorded = record { entries = halfway_entries; devices = one_of (λ e. e.device < 1) (record { round = 1; device = 0; packet = write }) (lit< tt) }
 
   pub end_is_recorded : IsRecorded small steps end_nodes
   end_is_recorded = record { entries = end_entries; devices = steps_of_small.devices }

@@ -14,6 +14,7 @@ use Rattle.sb_device.specs.Served.{AreSound}
 use Rattle.sb_router.specs.Lanes.{no_port, no_ring}
 use Rattle.sb_node.specs.Sides.{RingSide}
 use Rattle.sb_node.proofs.Subsequences.{same_subsequence}
+use Rattle.sb_node.proofs.Answering.{one_of}
 use Rattle.sb_laws.specs.Courses.{AlongWay, CarriesItsFlows, is_of_ring}
 use Rattle.sb_laws.specs.Endings.{IsWholeStandstill}
 use Rattle.sb_laws.specs.Moments.{ClosesLast, Moment, arrived}
@@ -26,7 +27,7 @@ use Rattle.sb_laws.proofs.ClosedLists.{closes_last}
 use Rattle.sb_laws.proofs.Prefixes.{same_prefix}
 use Rattle.sb_laws.proofs.RisingStages.{stages_rise, ways_within}
 use Rattle.sb_laws.proofs.WaysOfRouted.{ways_of_routed}
-use Rattle.sb_laws.proofs.ExampleLayout.{of_one, the_flow}
+use Rattle.sb_laws.proofs.ExampleLayout.{the_flow}
 use Rattle.sb_laws.proofs.ExampleNetwork.{answering, asking, small, steps}
 use Rattle.sb_laws.proofs.ExampleRouted.{small_is_routed}
 use Rattle.sb_laws.proofs.ExampleRun.{end_of_small, steps_of_small}
@@ -131,11 +132,11 @@ module _ (F T U : Type 0) (heap : Global) where
     carried = carried;
     carried_back = carried_back;
     recorded = recorded;
-    hosts = of_one (IsHost small (network_layout small) m) the_flow (record { in_order = same_prefix refl; closed = λ e. refl });
-    devices = of_one (IsDevice small (network_layout small) steps m) the_flow (record { whole = λ sound few. refl });
-    routers = of_one (λ f. AlongWay (ForwardsFlow small (network_requests small) m f) ((network_requests small).first f) ((network_requests small).rest f)) the_flow
+    hosts = one_of (IsHost small (network_layout small) m) the_flow (record { in_order = same_prefix refl; closed = λ e. refl });
+    devices = one_of (IsDevice small (network_layout small) steps m) the_flow (record { whole = λ sound few. refl });
+    routers = one_of (λ f. AlongWay (ForwardsFlow small (network_requests small) m f) ((network_requests small).first f) ((network_requests small).rest f)) the_flow
         (record { in_order = same_subsequence (item_accesses asking); whole = λ sound few. refl; closed = λ e. refl }, tt);
-    routers_back = of_one (λ f. AlongWay (ForwardsFlow small (network_answers small) m f) ((network_answers small).first f) ((network_answers small).rest f)) the_flow
+    routers_back = one_of (λ f. AlongWay (ForwardsFlow small (network_answers small) m f) ((network_answers small).first f) ((network_answers small).rest f)) the_flow
         (record { in_order = same_subsequence (item_accesses answering); whole = λ sound few. refl; closed = λ e. refl }, tt);
   }
 

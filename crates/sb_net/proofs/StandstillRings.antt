@@ -25,7 +25,8 @@ use Rattle.sb_laws.specs.RouterSides.{ComesInto, IsAtStage, Leaves}
 use Rattle.sb_laws.specs.Stages.{Stages}
 use Rattle.sb_laws.proofs.CarriedRings.{All-unmap, not_up, up}
 use Rattle.sb_laws.proofs.LinksOfWays.{device_or_router}
-use Rattle.sb_laws.proofs.NetworkLaidOut.{counted, named}
+use Rattle.sb_laws.proofs.NetworkLaidOut.{counted}
+use Rattle.sb_flow.proofs.WayCourses.{some_number-is}
 use Rattle.sb_laws.proofs.NoFaults.{All-at, all_pass}
 use Rattle.sb_laws.proofs.WaysOfRouted.{ways_of_routed}
 
@@ -108,14 +109,14 @@ module _ (network : Network) (routed : IsRouted network) where
         let test : ℕ → Bool = λ k. is_some_number r (router_after network k) in
         let all = range_with_len 0 (length network.links) in
         let k = get_or (filter test all) i d in
-        each k (All-filter test (λ k. k < length network.links) all (counted network) i d below) (named r (router_after network k) (filter_passes test all i d below)))
+        each k (All-filter test (λ k. k < length network.links) all (counted network) i d below) (some_number-is r (router_after network k) (filter_passes test all i d below)))
 
     over_out : (P : ℕ → Type 0) (ring : ℕ → ℕ) → ((k : ℕ) → k < length network.links → router_before network k ≡ Some r → P (ring k)) → All P (map ring (links_out_of network (Some r)))
     over_out P ring each = All-map P ring (links_out_of network (Some r)) (λ i d below.
         let test : ℕ → Bool = λ k. is_some_number r (router_before network k) in
         let all = range_with_len 0 (length network.links) in
         let k = get_or (filter test all) i d in
-        each k (All-filter test (λ k. k < length network.links) all (counted network) i d below) (named r (router_before network k) (filter_passes test all i d below)))
+        each k (All-filter test (λ k. k < length network.links) all (counted network) i d below) (some_number-is r (router_before network k) (filter_passes test all i d below)))
 
     -- a direction's rings are at its stage where those of its links are
     at_stage : (stage : ℕ) (ins outs : List ℕ) (d : DirectionSide) → IsBuiltFor network ins outs d → All (ComesInto stages stage) ins → All (Leaves stages stage) outs → IsAtStage stages stage d.lane

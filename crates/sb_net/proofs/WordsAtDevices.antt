@@ -17,12 +17,13 @@ use Rattle.sb_packet.specs.Ways.{NetWay, aims_at, host_ways, network_ways, way_l
 use Rattle.sb_packet.specs.declared.transaction.Txn.{Txn}
 use Rattle.sb_flow.specs.Limits.{word_count}
 use Rattle.sb_flow.proofs.Maps.{sum_by_map}
+use Rattle.sb_flow.proofs.WordBounds.{sum_by-zeros}
 use Rattle.sb_laws.specs.NetworkLayouts.{link_into, request_ring}
 use Rattle.sb_laws.specs.NetworkWays.{HasWays, IsWayTo}
-use Rattle.sb_laws.proofs.FlowMembers.{and_parts}
+use Rattle.std.proofs.lemmas.Bool.{and_parts}
 use Rattle.sb_laws.proofs.LinksOfWays.{only_to_device}
 use Rattle.sb_laws.proofs.LinksToDevices.{link_into_leads}
-use Rattle.sb_laws.proofs.Sums.{sum_by_le, sum_by_nothing, sum_by_plus, sum_by_same, sum_by_swap}
+use Rattle.sb_laws.proofs.Sums.{sum_by_le, sum_by_plus, sum_by_same, sum_by_swap}
 use Rattle.sb_net.proofs.GrownSums.{range_grows}
 
 -- a number where a test passes
@@ -89,7 +90,7 @@ module _ {A : Type 0} (top : ℕ) (test : ℕ → A → Bool) (once : (x : A) (d
       by_test false = omega arith
 
   pub shared_out : (xs : List A) → sum_by (λ d. length (filter (test d) xs)) (range_with_len 0 top) ≤ length xs
-  shared_out [] = let none : sum_by (λ (d : ℕ). 0) (range_with_len 0 top) ≡ 0 = sum_by_nothing (range_with_len 0 top) in omega (arith, none)
+  shared_out [] = let none : sum_by (λ (d : ℕ). 0) (range_with_len 0 top) ≡ 0 = sum_by-zeros (range_with_len 0 top) in omega (arith, none)
   shared_out (x ∷ xs) =
       let rest = shared_out xs in
       let one = taken_once top (λ d. test d x) 1 (λ d e first second. once x d e) 0 top (omega arith) in
