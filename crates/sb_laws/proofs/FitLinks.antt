@@ -8,7 +8,7 @@ use Rattle.std.proofs.lemmas.List.Elements.{All-nil, All-cons, All-head, All-wea
 use Rattle.std.proofs.lemmas.List.Kept.{AllPairs-cons}
 use Rattle.sb_packet.specs.Networks.{NetPlace, NetLink, Network, at_host, at_router, at_device, leads_to}
 use Rattle.sb_packet.specs.Sides.{leaves_from}
-use Rattle.sb_packet.specs.Ways.{router_of, is_some_number}
+use Rattle.sb_flow.specs.Ways.{router_at_end, is_some_number}
 use Rattle.sb_packet.proofs.Lists.{All-left, All-right}
 use Rattle.sb_flow.specs.Ends.{joins, keeps_sides, same_device, same_host, share_an_end, is_fit_link, unfit_behind, unfit_link}
 use Rattle.sb_laws.specs.NetworkWays.{is_link_to}
@@ -64,7 +64,7 @@ host_start h link e = by_end link.from refl
     by_end (at_router q) is = absurd (let never = rw is at e in cc)
     by_end (at_device k) is = absurd (let never = rw is at e in cc)
 
-pub router_end : (p : NetPlace) (r : ℕ) → router_of p ≡ Some r → p ≡ at_router r
+pub router_end : (p : NetPlace) (r : ℕ) → router_at_end p ≡ Some r → p ≡ at_router r
 router_end (at_host h) r e = absurd (cc)
 router_end (at_router q) r e = let same : q ≡ r = cc in ap at_router same
 router_end (at_device d) r e = absurd (cc)

@@ -9,10 +9,10 @@ use Rattle.std.proofs.lemmas.List.Elements.{All-head, All-tail, All-weaker, All-
 use Rattle.sb_packet.specs.Accesses.{Access}
 use Rattle.sb_packet.specs.Networks.{Network, device_at, has_address}
 use Rattle.sb_packet.specs.Journals.{journal_accesses, device_address, is_request}
-use Rattle.sb_packet.specs.Plans.{NetFlow}
+use Rattle.sb_link.specs.RingPlans.{NetFlow}
 use Rattle.sb_packet.specs.declared.entry.Entry.{Entry}
 use Rattle.sb_packet.proofs.Lists.{filter_none, All-kept, AllPairs-kept}
-use Rattle.sb_packet.specs.Prefixes.{IsPrefix}
+use Rattle.sb_link.specs.Prefixes.{IsPrefix}
 use Rattle.sb_laws.specs.Flows.{is_of, words_of, is_among_flows, script_of, aimed_script, asked_of}
 use Rattle.sb_laws.specs.Moments.{Moment, arrived}
 use Rattle.sb_laws.specs.Courses.{way_of, goes_over, flows_over, is_carried}

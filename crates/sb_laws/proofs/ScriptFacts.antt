@@ -10,7 +10,7 @@ use Rattle.sb_packet.specs.Accesses.{Access, access_at}
 use Rattle.sb_packet.specs.Networks.{NetHost, Network}
 use Rattle.sb_packet.specs.Scripts.{request_of, transaction_message, transaction_accesses, script_accesses}
 use Rattle.sb_packet.specs.Journals.{is_request, flow_part}
-use Rattle.sb_packet.specs.Plans.{NetFlow}
+use Rattle.sb_link.specs.RingPlans.{NetFlow}
 use Rattle.sb_packet.specs.declared.transaction.Kind.{Kind}
 use Rattle.sb_packet.specs.declared.transaction.Kind.TheVariants.{Read, Write, Posted, Atomic}
 use Rattle.sb_packet.proofs.Lists.{All-made, All-joined, AllPairs-head, AllPairs-tail}

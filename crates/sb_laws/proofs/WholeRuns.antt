@@ -10,10 +10,10 @@ use Rattle.sb_packet.specs.Memories.{MemoryState, access_step, access_answer}
 use Rattle.sb_packet.specs.Networks.{Network, device_at, opening_memory}
 use Rattle.sb_packet.specs.Journals.{journal_accesses, is_request}
 use Rattle.sb_packet.specs.Answers.{answer_at_first, access_reply, answer_from}
-use Rattle.sb_packet.specs.Plans.{NetFlow}
+use Rattle.sb_link.specs.RingPlans.{NetFlow}
 use Rattle.sb_packet.specs.declared.entry.Entry.{Entry}
 use Rattle.sb_packet.proofs.Lists.{filter_all}
-use Rattle.sb_packet.specs.Rings.{is_answered}
+use Rattle.sb_flow.specs.Rings.{is_answered}
 use Rattle.sb_laws.specs.Flows.{is_of, words_of, script_of, asked_of, answered_of, device_answers, given_to, replies_to}
 use Rattle.sb_laws.specs.Moments.{Moment}
 use Rattle.sb_laws.specs.Courses.{flows_over, budget_over, is_carried, goes_over, AlongWay}

@@ -8,11 +8,11 @@ use Rattle.sb_packet.specs.Accesses.{Access}
 use Rattle.sb_packet.specs.Memories.{MemoryState, access_step, access_answer}
 use Rattle.sb_packet.specs.Networks.{Network, opening_memory}
 use Rattle.sb_packet.specs.Journals.{journal_accesses, is_request}
-use Rattle.sb_packet.specs.Plans.{NetFlow}
-use Rattle.sb_packet.specs.Traffic.{item_accesses}
+use Rattle.sb_link.specs.RingPlans.{NetFlow}
+use Rattle.sb_link.specs.Traffic.{item_accesses}
 use Rattle.sb_packet.specs.declared.entry.Entry.{Entry}
 use Rattle.sb_packet.proofs.Lists.{All-kept}
-use Rattle.sb_packet.specs.Rings.{is_answered}
+use Rattle.sb_flow.specs.Rings.{is_answered}
 use Rattle.sb_laws.specs.Flows.{is_of, words_of, asked_of, given_to}
 use Rattle.sb_laws.specs.Moments.{Moment, arrived}
 use Rattle.sb_laws.specs.Courses.{Course, way_of, budget_over, came_for, AlongWay}

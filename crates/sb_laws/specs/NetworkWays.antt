@@ -2,8 +2,8 @@
 use Rattle.std.specs.Prelude.{◌≡◌, ◌<◌, ℕ, Bool, true, false, List, [], ◌∷◌, length, All, Contains, Some, None, slice_get, slice_index_or}
 use Rattle.std.specs.Option.{option_map_or}
 use Rattle.sb_packet.specs.Networks.{Network, leads_to}
-use Rattle.sb_packet.specs.Plans.{NetFlow}
-use Rattle.sb_packet.specs.Ways.{network_ways, flow_links, router_before, router_after}
+use Rattle.sb_link.specs.RingPlans.{NetFlow}
+use Rattle.sb_flow.specs.Ways.{network_ways, flow_links, router_before, router_after}
 use Rattle.sb_laws.specs.Flows.{is_among_flows, asked_of}
 use Rattle.sb_laws.specs.Layouts.{HasScripts}
 use Rattle.sb_laws.specs.NetworkLayouts.{flow_of, network_flows}

@@ -7,10 +7,10 @@ use Rattle.std.proofs.lemmas.List.Sums.{sum_by-set}
 use Rattle.std.proofs.lemmas.Grind.{flat_map-append}
 use Rattle.std.specs.List.{AllByRecursion}
 use Rattle.sb_packet.specs.Accesses.{Access, accesses_of_item}
-use Rattle.sb_packet.specs.Plans.{NetFlow}
-use Rattle.sb_packet.specs.Prefixes.{IsSubsequence}
+use Rattle.sb_link.specs.RingPlans.{NetFlow}
+use Rattle.sb_link.specs.Prefixes.{IsSubsequence}
 use Rattle.sb_packet.specs.Soundness.{IsSound}
-use Rattle.sb_packet.specs.Traffic.{item_accesses, item_messages}
+use Rattle.sb_link.specs.Traffic.{item_accesses, item_messages}
 use Rattle.sb_packet.specs.declared.item.Item.{Item}
 use Rattle.sb_node.specs.Sides.{received_words}
 use Rattle.sb_router.specs.Lanes.{InletState, LaneState, Route, came_at, held_at, held_words, inlet_at, no_inlet, offered_at}

@@ -5,8 +5,8 @@ use Rattle.std.specs.List.{list_all}
 use Rattle.std.proofs.lemmas.Bool.{and_parts}
 use Rattle.std.proofs.lemmas.List.{length-replicate}
 use Rattle.sb_packet.specs.Memories.{MemoryState}
-use Rattle.sb_packet.specs.Plans.{AddressRange, RingPlan}
-use Rattle.sb_packet.specs.Rings.{flow_table, ring_plan, ring_ways}
+use Rattle.sb_link.specs.RingPlans.{AddressRange, RingPlan}
+use Rattle.sb_flow.specs.Rings.{flow_table, ring_plan, ring_ways}
 use Rattle.sb_device.specs.Plans.{IsPlannedFor}
 use Rattle.sb_tests.specs.Samples.{sample}
 
