@@ -3,7 +3,7 @@ use Rattle.std.proofs.Common.{◌≡◌, arith, ℕ, true, [], ◌∷◌, ◌++�
 use Rattle.std.proofs.lemmas.List.Elements.{All-nil, All-cons}
 use Rattle.sb_packet.specs.Journals.{is_request}
 use Rattle.sb_packet.specs.Memories.{MemoryState}
-use Rattle.sb_packet.specs.Traffic.{MayFollow, has_close, item_accesses}
+use Rattle.sb_link.specs.Traffic.{MayFollow, has_close, item_accesses}
 use Rattle.sb_packet.specs.declared.entry.Entry.{Entry}
 use Rattle.sb_packet.specs.declared.item.Item.TheVariants as items
 use Rattle.sb_port.specs.Ports.{PortSide, IsFit, let_go, offered_words}

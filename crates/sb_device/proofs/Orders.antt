@@ -5,13 +5,12 @@ use Rattle.std.proofs.lemmas.List.{map-append}
 use Rattle.std.proofs.lemmas.List.FromFn.{length-map-range_with_len}
 use Rattle.std.proofs.lemmas.List.Elements.{All-append, All-nil, All-cons, All-head, All-tail}
 use Rattle.sb_packet.specs.Accesses.{accesses_of, access_at}
-use Rattle.sb_packet.specs.Ledger.{Ledger}
-use Rattle.sb_packet.specs.Journals.{is_request, journal_accesses}
-use Rattle.sb_packet.specs.Memories.{MemoryState, memory_after}
+use Rattle.sb_packet.specs.Journals.{Ledger, with_entry, is_request, journal_accesses}
+use Rattle.sb_packet.specs.Memories.{MemoryState, memory_after, answers_to}
 use Rattle.sb_packet.specs.Messages.{message_of}
-use Rattle.sb_packet.specs.Plans.{RingPlan}
-use Rattle.sb_packet.specs.Prefixes.{IsSubsequence}
-use Rattle.sb_packet.specs.Traffic.{item_accesses, has_close, MayFollow}
+use Rattle.sb_link.specs.RingPlans.{RingPlan}
+use Rattle.sb_link.specs.Prefixes.{IsSubsequence}
+use Rattle.sb_link.specs.Traffic.{item_accesses, has_close, MayFollow}
 use Rattle.sb_packet.specs.declared.entry.Entry.{Entry}
 use Rattle.sb_packet.specs.declared.packet.Packet.{Packet}
 use Rattle.sb_packet.specs.declared.item.Item.{Item}
@@ -24,7 +23,7 @@ use Rattle.sb_node.specs.Steps.{IsOffered, IsDropped}
 use Rattle.sb_node.proofs.Items.{item_more}
 use Rattle.sb_device.specs.Sides.{DeviceSide, held_bytes}
 use Rattle.sb_device.specs.Plans.{IsPlannedFor, IsDeviceInOrder}
-use Rattle.sb_device.specs.Served.{entry_accesses, entry_packets, item_packets, with_entry, answers_to, AreSound, HasServed}
+use Rattle.sb_device.specs.Served.{entry_accesses, entry_packets, item_packets, AreSound, HasServed}
 use Rattle.sb_device.specs.Requests.{IsUnanswered, IsReplied, ServesNone, ServesRequest}
 use Rattle.sb_device.proofs.SoundAnswers.{sound_answer}
 use Rattle.sb_device.proofs.PlannedPackets.{answer_planned}

@@ -1,14 +1,14 @@
 -- A device serves one request more.
-use Rattle.std.proofs.Common.{⊎_elim, inr, ◌≡◌, ◌≤◌, ◌+◌, List, [], ◌∷◌, ◌++◌, length, map, refl, sym, ap, ◌∙◌, subst, arith, append-nil, length-append}
-use Rattle.std.specs.Prelude.{Option, Some, None, IfSome, IfNone, filter_map, All}
+use Rattle.std.proofs.Common.{⊎_elim, inr, ◌≡◌, ◌≤◌, ◌+◌, List, [], ◌∷◌, ◌++◌, length, refl, sym, ap, ◌∙◌, subst, arith, append-nil, length-append}
+use Rattle.std.specs.Prelude.{filter_map, All}
 use Rattle.std.proofs.lemmas.Grind.{flat_map-append}
 use Rattle.std.proofs.lemmas.List.Elements.{filter_map-append, All-nil, All-cons, All-head, All-tail}
 use Rattle.sb_packet.specs.Accesses.{Access, accesses_of}
-use Rattle.sb_packet.specs.Memories.{MemoryState, memory_after, answers_in}
+use Rattle.sb_packet.specs.Memories.{MemoryState, memory_after, answers_in, answers_to}
 use Rattle.sb_packet.specs.Messages.{message_of}
-use Rattle.sb_packet.specs.Prefixes.{IsSubsequence}
+use Rattle.sb_link.specs.Prefixes.{IsSubsequence}
 use Rattle.sb_packet.specs.Soundness.{IsSound}
-use Rattle.sb_packet.specs.Traffic.{item_messages}
+use Rattle.sb_link.specs.Traffic.{item_messages}
 use Rattle.sb_packet.specs.declared.entry.Entry.{Entry}
 use Rattle.sb_packet.specs.declared.packet.Packet.{Packet}
 use Rattle.sb_packet.specs.declared.item.Item.{Item}
@@ -20,31 +20,11 @@ use Rattle.sb_node.specs.Steps.{IsHandedOn, IsOffered, IsDropped}
 use Rattle.sb_node.proofs.Subsequences.{more_kept, more_left_out}
 use Rattle.sb_device.specs.Sides.{DeviceSide}
 use Rattle.sb_device.specs.Requests.{IsServedBy}
-use Rattle.sb_device.specs.Served.{entry_accesses, answers_to, AreSound, HasServed}
+use Rattle.sb_device.specs.Served.{entry_accesses, AreSound, HasServed}
 
 -- an entry more, and so the words of its packet
 pub entry_more : (journal : List Entry) (e : Entry) → entry_accesses (journal ++ e ∷ []) ≡ entry_accesses journal ++ accesses_of e.packet
 entry_more journal e = flat_map-append (λ e. accesses_of e.packet) journal (e ∷ []) ∙ ap (λ xs. entry_accesses journal ++ xs) (append-nil (accesses_of e.packet))
-
--- what is found in a list of places that are all filled, or all empty
-all_found : (xs : List Access) → filter_map (λ answer. answer) (map Some xs) ≡ xs
-all_found [] = refl
-all_found (x ∷ xs) = ap (λ ys. x ∷ ys) (all_found xs)
-
-none_found : (xs : List Access) → filter_map {Y = Access} (λ answer. answer) (map (λ (x : Access). None) xs) ≡ []
-none_found [] = refl
-none_found (x ∷ xs) = none_found xs
-
--- where a packet has the answers that are found in those places, and where there are none
-pub found_answers : (result : Option Packet) (places : List (Option Access)) → IfSome result (λ a. places ≡ map Some (accesses_of a))
-    → IfSome result (λ a. filter_map (λ answer. answer) places ≡ accesses_of a)
-found_answers None places none = none
-found_answers (Some a) places filled = ap (filter_map (λ answer. answer)) filled ∙ all_found (accesses_of a)
-
-pub found_no_answers : (result : Option Packet) (words : List Access) (places : List (Option Access)) → IfNone result (places ≡ map (λ _. None) words)
-    → IfNone result (filter_map (λ answer. answer) places ≡ [])
-found_no_answers None words places empty = ap (filter_map (λ answer. answer)) empty ∙ none_found words
-found_no_answers (Some a) words places some = some
 
 -- what is handed on is not sent yet
 pub sent_as_before : {before after : PortSide} {p : Packet} → IsHandedOn before after p → after.state.sent ≡ before.state.sent

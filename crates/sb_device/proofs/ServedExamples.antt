@@ -2,9 +2,9 @@
 use Rattle.std.proofs.Common.{◌≡◌, ℕ, List, [], ◌∷◌, false, true, None, refl}
 use Rattle.sb_word.specs.declared.command.Op.TheVariants.{ReqRd, ReqWr, ReqWrPosted, RespRd, RespWr}
 use Rattle.sb_packet.specs.Accesses.{Access}
-use Rattle.sb_packet.specs.Memories.{MemoryState, memory_after}
+use Rattle.sb_packet.specs.Memories.{MemoryState, memory_after, answers_to}
 use Rattle.sb_packet.specs.declared.item.Item.TheVariants as items
-use Rattle.sb_device.specs.Served.{answers_to, item_packets}
+use Rattle.sb_device.specs.Served.{item_packets}
 
 -- a memory of two bytes
 abbrev two_bytes : MemoryState

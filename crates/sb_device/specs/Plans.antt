@@ -1,7 +1,7 @@
 -- For which rings a device is made, and what always holds of a device at its rings.
 use Rattle.std.specs.Prelude.{◌≡◌, ℕ, ◌+◌, ◌≤◌, true, false, length, All, Some, slice_get}
 use Rattle.sb_packet.specs.Memories.{MemoryState}
-use Rattle.sb_packet.specs.Plans.{RingPlan, NetFlow, device_ranges, goes_through}
+use Rattle.sb_link.specs.RingPlans.{RingPlan, NetFlow, device_ranges, goes_through}
 use Rattle.sb_node.specs.Sides.{received_words, has_ended}
 use Rattle.sb_device.specs.Sides.{DeviceSide, held_bytes}
 use Rattle.sb_device.specs.Served.{entry_packets, item_packets}

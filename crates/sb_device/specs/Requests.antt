@@ -2,14 +2,14 @@
 use Rattle.std.specs.Prelude.{◌≡◌, ◌⊎◌, ℕ, [], ◌∷◌, ◌++◌}
 use Rattle.sb_word.specs.declared.command.Op.TheVariants.{ReqWrPosted}
 use Rattle.sb_packet.specs.Accesses.{accesses_of}
-use Rattle.sb_packet.specs.Memories.{MemoryState, memory_after}
+use Rattle.sb_packet.specs.Memories.{MemoryState, memory_after, answers_to}
 use Rattle.sb_packet.specs.declared.packet.Packet.{Packet}
 use Rattle.sb_packet.specs.declared.item.Item.TheVariants as items
 use Rattle.sb_mem.specs.AnswerPackets.{IsAnswerTo}
 use Rattle.sb_port.specs.Ports.{PortSide, offered_words}
 use Rattle.sb_node.specs.Steps.{IsHandedOn}
 use Rattle.sb_device.specs.Sides.{DeviceSide}
-use Rattle.sb_device.specs.Served.{answers_to, item_packets}
+use Rattle.sb_device.specs.Served.{item_packets}
 
 -- nothing answers a posted write, and nothing happened to the port
 pub record IsUnanswered (m : MemoryState) (before after : PortSide) (request : Packet) : Type 0 where

@@ -1,7 +1,7 @@
 -- A device, as contracts see it.
 use Rattle.std.specs.Prelude.{ℕ, length}
 use Rattle.sb_packet.specs.Memories.{MemoryState}
-use Rattle.sb_packet.specs.Ledger.{Ledger}
+use Rattle.sb_packet.specs.Journals.{Ledger}
 use Rattle.sb_port.specs.Ports.{PortSide}
 use Rattle.sb_node.specs.Sides.{RingSide}
 

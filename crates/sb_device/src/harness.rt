@@ -2,7 +2,7 @@
 
 ghost use Rattle.std.specs.Prelude.{◌≡◌, true, Some, [], slice_get};
 ghost use Rattle.sb_link.specs.PlanOf.{flows_of};
-ghost use Rattle.sb_packet.specs.Plans.{NetFlow, device_ranges, goes_through};
+ghost use Rattle.sb_link.specs.RingPlans.{NetFlow, device_ranges, goes_through};
 ghost use Rattle.sb_port.specs.Ports.{IsFit};
 ghost use Rattle.sb_device.specs.Devices.{IsWholeDevice};
 

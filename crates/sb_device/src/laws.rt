@@ -3,7 +3,7 @@
 ghost use Rattle.std.specs.Prelude.{◌≡◌, ℕ, All, List};
 ghost use Rattle.sb_packet.specs.Journals.{journal_accesses};
 ghost use Rattle.sb_packet.specs.Memories.{MemoryState};
-ghost use Rattle.sb_packet.specs.Traffic.{item_accesses};
+ghost use Rattle.sb_link.specs.Traffic.{item_accesses};
 ghost use Rattle.sb_packet.specs.declared.entry.Entry.{Entry};
 ghost use Rattle.sb_packet.specs.declared.item.Item.{Item};
 ghost use Rattle.sb_port.specs.Ports.{PortSide, offered_words};

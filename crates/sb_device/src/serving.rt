@@ -3,14 +3,13 @@
 ghost use Rattle.std.specs.Prelude.{◌≡◌, ◌≢◌, ◌<◌, IsTrue, false};
 ghost use Rattle.sb_link.specs.declared.answers.Turn.TheVariants.{Moved};
 ghost use Rattle.sb_packet.specs.Accesses.{accesses_of};
-ghost use Rattle.sb_packet.specs.Journals.{is_request};
+ghost use Rattle.sb_packet.specs.Journals.{is_request, with_entry};
 ghost use Rattle.sb_packet.specs.Memories.{memory_after};
 ghost use Rattle.sb_mem.specs.AnswerPackets.{IsInRange};
 ghost use Rattle.sb_port.specs.Ports.{IsFit, owes};
 ghost use Rattle.sb_node.specs.Kept.{IsKeptPort};
 ghost use Rattle.sb_device.specs.Sides.{held_bytes};
 ghost use Rattle.sb_device.specs.SideOf.{side_of};
-ghost use Rattle.sb_device.specs.Served.{with_entry};
 ghost use Rattle.sb_device.specs.Requests.{IsServedBy};
 ghost use Rattle.sb_device.specs.Steps.{IsRingHandled};
 ghost use Rattle.sb_device.specs.Devices.{IsDeviceTurn, IsKeptDevice, IsWholeDevice};
@@ -18,8 +17,9 @@ ghost use Rattle.sb_device.specs.Rested.{IsRestedDevice};
 
 use crate::device_state::DeviceState;
 use sb_link::{RxEnd, Turn, TxEnd};
+use sb_mem::serve;
 use sb_node::{Findings, hand_on, pop_ring, turn_port};
-use sb_packet::{Item, Packet};
+use sb_packet::{Entry, Item, Packet};
 use sb_port::OutPort;
 
 // serves a request, and hands its answer on
@@ -49,7 +49,12 @@ fn serve_request<T: TxEnd>(
     ensures told { answers.new.state.close_requested ≡ false }
     ensures fit { IsFit answers.new.plan answers.new.state }
 {
-    if let Some(answer) = state.serve(round, request) {
+    let entry = Entry {
+        round,
+        device: state.number,
+        packet: *request,
+    };
+    if let Some(answer) = serve(&mut state.memory, &mut state.journal, &entry) {
         hand_on(answers, &answer);
     }
 }

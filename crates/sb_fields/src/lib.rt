@@ -6,7 +6,6 @@ mod counts;
 mod fault;
 mod json;
 mod narrow;
-mod numeral;
 mod objects;
 mod parts;
 mod paths;

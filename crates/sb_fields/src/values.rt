@@ -10,9 +10,9 @@ ghost use Rattle.sb_fields.specs.declared.fault.LoadFault.TheVariants as faults;
 ghost use Rattle.sb_fields.specs.Fields.{an_object as an_object_by, bytes_in, first_unknown as first_unknown_by, number_in, numeral_in, only_fields as only_fields_by, optional, required};
 
 use crate::fault::LoadFault;
-use crate::numeral::numeral;
 use crate::paths::{field_fault, whole_fault};
 use hex::FromHexError;
+use sb_text::numeral;
 use serde_json::{Map, Value};
 use std::alloc::Global;
 

@@ -2,7 +2,7 @@
 use Rattle.std.proofs.Common.{◌≡◌, refl, [], ◌∷◌, false, Some, None, map}
 use Rattle.std.specs.Prelude.{All, codes}
 use Rattle.sb_packet.specs.Networks.{NetDevice, NetLink, NetRouter, Network, at_host, at_router}
-use Rattle.sb_packet.specs.Ways.{network_ways}
+use Rattle.sb_flow.specs.Ways.{network_ways}
 use Rattle.sb_packet.proofs.NetworkExample.{cpu0, cpu1, eight_links, four_devices, three_routers, wired}
 use Rattle.sb_flow.specs.Accepted.{IsAccepted}
 use Rattle.sb_flow.specs.Courses.{IsCourse, link_rank}

@@ -5,7 +5,7 @@ use Rattle.std.specs.List.{AllByRecursion, list_all, list_any, range_with_len}
 use Rattle.std.proofs.lemmas.Bool.{and_parts, cases_eq, not-false}
 use mathlib.Core.Logic.{inl, inr}
 use Rattle.sb_packet.specs.Networks.{NetLink, NetPlace, Network, at_device, at_host, at_router}
-use Rattle.sb_packet.specs.Ways.{is_some_number, route_at}
+use Rattle.sb_flow.specs.Ways.{is_some_number, route_at}
 use Rattle.sb_flow.specs.Accepted.{IsAccepted}
 use Rattle.sb_flow.specs.Ends.{goes_back, is_fit_link, joins, keeps_sides, share_an_end, unfit_behind}
 use Rattle.sb_flow.specs.Routes.{is_stray, leads_on, stray_route, stray_route_of, lost_flow}

@@ -4,9 +4,9 @@ use Rattle.std.specs.Prelude.{nat_le, nat_lt, not}
 use Rattle.std.proofs.lemmas.Bool.{and_parts, leb-true, not-false, or_cases}
 use mathlib.Core.Logic.{inl, inr}
 use Rattle.sb_packet.specs.Networks.{NetDevice, Network, device_at, device_size, has_address}
-use Rattle.sb_packet.specs.Plans.{are_apart}
-use Rattle.sb_packet.specs.Ways.{is_some_number}
-use Rattle.sb_packet.specs.Rings.{range_of}
+use Rattle.sb_link.specs.RingPlans.{are_apart}
+use Rattle.sb_flow.specs.Ways.{is_some_number}
+use Rattle.sb_flow.specs.Rings.{range_of}
 use Rattle.sb_flow.specs.Ranges.{overlapping_device}
 use Rattle.sb_flow.proofs.Clashes.{no_clash}
 use Rattle.sb_flow.proofs.Singles.{IsSingle, position_from-is}

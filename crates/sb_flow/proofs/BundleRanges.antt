@@ -5,8 +5,8 @@ use Rattle.std.specs.List.{range_with_len}
 use Rattle.std.specs.Option.{option_map_or}
 use Rattle.std.specs.Vec.{vec_len}
 use Rattle.sb_packet.specs.Networks.{device_size}
-use Rattle.sb_packet.specs.Plans.{AddressRange, AreApart, RingFlows}
-use Rattle.sb_packet.specs.Rings.{network_ranges, range_of}
+use Rattle.sb_link.specs.RingPlans.{AddressRange, AreApart, RingFlows}
+use Rattle.sb_flow.specs.Rings.{network_ranges, range_of}
 use Rattle.sb_link.specs.Plans.{AreInRange, bits_of, ranges_of}
 use Rattle.sb_flow.specs.Rows.{device_of}
 use Rattle.sb_flow.specs.NetworkOf.{network_of}

@@ -8,8 +8,8 @@ use Rattle.std.proofs.lemmas.List.Elements.{All-map, All-nil}
 use Rattle.std.proofs.lemmas.List.Sums.{get_or-le-sum_by}
 use Rattle.sb_packet.specs.Networks.{NetDevice, NetHost, Network, has_address}
 use Rattle.sb_packet.specs.Scripts.{IsTransaction}
-use Rattle.sb_packet.specs.Ways.{aims_at, is_aimed_at, way_links}
-use Rattle.sb_packet.specs.Rings.{is_answered, way_accesses}
+use Rattle.sb_flow.specs.Ways.{aims_at, is_aimed_at, way_links}
+use Rattle.sb_flow.specs.Rings.{is_answered, way_accesses}
 use Rattle.std.specs.List.{list_any}
 use Rattle.sb_flow.specs.Rows.{device_of, host_of, link_of}
 use Rattle.sb_flow.specs.Accepted.{IsAccepted}

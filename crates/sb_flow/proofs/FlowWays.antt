@@ -7,9 +7,9 @@ use Rattle.std.proofs.lemmas.Bool.{cases_eq, cases_lt, eqb-true}
 use mathlib.Core.Logic.{inl, inr}
 use Rattle.std.proofs.lemmas.List.Elements.{filter-append}
 use Rattle.sb_packet.specs.Networks.{NetHost, Network, has_address}
-use Rattle.sb_packet.specs.Plans.{NetFlow}
-use Rattle.sb_packet.specs.Ways.{NetWay, aims_at, flow_links, host_ways, is_way_of, network_ways, way_links, is_some_number, is_aimed_at}
-use Rattle.sb_packet.specs.Rings.{has_link, link_ways}
+use Rattle.sb_link.specs.RingPlans.{NetFlow}
+use Rattle.sb_flow.specs.Ways.{NetWay, aims_at, flow_links, host_ways, is_way_of, network_ways, way_links, is_some_number, is_aimed_at}
+use Rattle.sb_flow.specs.Rings.{has_link, link_ways}
 use Rattle.sb_packet.specs.declared.transaction.Txn.{Txn}
 use Rattle.sb_flow.specs.Names.{repeated_id}
 use Rattle.sb_flow.specs.Tables.{aimed_links}

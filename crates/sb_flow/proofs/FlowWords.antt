@@ -10,8 +10,8 @@ use Rattle.sb_packet.specs.Accesses.{Access, access_at}
 use Rattle.sb_packet.specs.Networks.{NetDevice, NetHost, Network, has_address}
 use Rattle.sb_packet.specs.Scripts.{IsTransaction, request_of, script_accesses, transaction_accesses, transaction_message}
 use Rattle.sb_packet.specs.Journals.{flow_part, is_at, is_request}
-use Rattle.sb_packet.specs.Ways.{is_aimed_at}
-use Rattle.sb_packet.specs.Rings.{is_answered}
+use Rattle.sb_flow.specs.Ways.{is_aimed_at}
+use Rattle.sb_flow.specs.Rings.{is_answered}
 use Rattle.sb_packet.specs.declared.transaction.Txn.{Txn}
 use Rattle.sb_packet.specs.declared.transaction.Kind.{Kind}
 use Rattle.sb_packet.specs.declared.transaction.Kind.TheVariants.{Read, Write, Posted, Atomic}

@@ -28,3 +28,4 @@ pub mod SampleNetworks
 pub mod TestedNetworks
 pub mod RowNetworks
 pub mod RingLaws
+pub mod WayExamples

@@ -8,8 +8,8 @@ use Rattle.std.proofs.lemmas.List.{get_or-map, length-map}
 use Rattle.std.proofs.lemmas.List.Elements.{All-from_recursion, All-map}
 use Rattle.std.proofs.lemmas.List.FromFn.{fill_by_all, get_or-map-range_with_len, take-map-range_with_len}
 use Rattle.sb_packet.specs.Networks.{NetDevice, Network, device_size}
-use Rattle.sb_packet.specs.Plans.{AddressRange, AreApart, are_apart}
-use Rattle.sb_packet.specs.Rings.{network_ranges, range_of}
+use Rattle.sb_link.specs.RingPlans.{AddressRange, AreApart, are_apart}
+use Rattle.sb_flow.specs.Rings.{network_ranges, range_of}
 use Rattle.sb_link.specs.Plans.{AreInRange, ranges_of}
 use Rattle.sb_flow.specs.Accepted.{IsAccepted}
 use Rattle.sb_flow.specs.Ranges.{is_placed_device}

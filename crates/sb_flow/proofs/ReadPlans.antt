@@ -1,7 +1,7 @@
 -- A plan that is made of what was read of a ring's link.
 use Rattle.std.proofs.Common.{◌≡◌, ◌≤◌, ◌<◌, ℕ, Bool, List, length, get_or, ap, sym, ◌∙◌, map, Some}
-use Rattle.sb_packet.specs.Plans.{RingFlows, RingPlan}
-use Rattle.sb_packet.specs.Rings.{is_upward, network_ranges, ring_link, ring_plan}
+use Rattle.sb_link.specs.RingPlans.{RingFlows, RingPlan}
+use Rattle.sb_flow.specs.Rings.{is_upward, network_ranges, ring_link, ring_plan}
 use Rattle.sb_link.specs.Plans.{IsRingWidth, bits_of}
 use Rattle.sb_flow.specs.NetworkOf.{network_of}
 use Rattle.sb_flow.specs.LoadOf.{load_of}

@@ -5,9 +5,9 @@ use Rattle.std.specs.List.{find, enumerate_from}
 use Rattle.std.specs.Option.{option_map_or}
 use Rattle.sb_packet.specs.Accesses.{Access}
 use Rattle.sb_packet.specs.Networks.{NetHost, Network}
-use Rattle.sb_packet.specs.Plans.{NetFlow}
-use Rattle.sb_packet.specs.Ways.{NetWay, aims_at, flow_links, is_way_of, network_ways, way_links}
-use Rattle.sb_packet.specs.Rings.{counted_accesses, is_answered, is_upward, link_ways, ring_budget, ring_link, way_accesses}
+use Rattle.sb_link.specs.RingPlans.{NetFlow}
+use Rattle.sb_flow.specs.Ways.{NetWay, aims_at, flow_links, is_way_of, network_ways, way_links}
+use Rattle.sb_flow.specs.Rings.{counted_accesses, is_answered, is_upward, link_ways, ring_budget, ring_link, way_accesses}
 use Rattle.sb_flow.specs.Accepted.{IsAccepted}
 use Rattle.sb_flow.proofs.FlowWays.{find-filter, found_way, one_way}
 use Rattle.sb_flow.proofs.RingLinks.{ring_link-there}

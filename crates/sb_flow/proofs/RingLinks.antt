@@ -6,7 +6,7 @@ use Rattle.std.proofs.lemmas.Bool.{and_parts, eqb-true, leb-true}
 use Rattle.std.proofs.lemmas.List.{get_or-map, length-map}
 use Rattle.std.proofs.lemmas.List.Elements.{All-from_recursion, All-get_or}
 use Rattle.sb_packet.specs.Networks.{NetLink, Network}
-use Rattle.sb_packet.specs.Rings.{ring_link}
+use Rattle.sb_flow.specs.Rings.{ring_link}
 use Rattle.sb_link.specs.Plans.{IsRingWidth}
 use Rattle.sb_flow.specs.Accepted.{IsAccepted}
 use Rattle.sb_flow.specs.Ends.{is_width_now}

@@ -5,9 +5,9 @@ use Rattle.std.specs.Option.{option_map_or}
 use Rattle.std.proofs.lemmas.List.{get_or-map, length-map}
 use Rattle.std.proofs.lemmas.List.FromFn.{get_or-map-range_with_len, length-map-range_with_len}
 use Rattle.sb_packet.specs.Networks.{NetLink, Network}
-use Rattle.sb_packet.specs.Plans.{RingFlows, RingPlan}
-use Rattle.sb_packet.specs.Ways.{NetWay}
-use Rattle.sb_packet.specs.Rings.{counted_accesses, flow_table, is_answered, is_upward, link_ways, network_ranges, ring_link, ring_plan, way_accesses}
+use Rattle.sb_link.specs.RingPlans.{RingFlows, RingPlan}
+use Rattle.sb_flow.specs.Ways.{NetWay}
+use Rattle.sb_flow.specs.Rings.{counted_accesses, flow_table, is_answered, is_upward, link_ways, network_ranges, ring_link, ring_plan, way_accesses}
 use Rattle.sb_flow.specs.Accepted.{IsAccepted}
 use Rattle.sb_flow.specs.Tables.{LinkTable, link_table_of, paths_of}
 use Rattle.sb_flow.specs.LoadOf.{load_of}

@@ -3,7 +3,7 @@ use Rattle.std.proofs.Common.{◌≡◌, ◌≤◌, ◌<◌, ℕ, zero, suc, ◌
 use Rattle.std.specs.Prelude.{sum_by, if◌then◌else◌}
 use Rattle.std.specs.List.{position_from}
 use Rattle.std.proofs.lemmas.List.Sums.{sum_by-cons}
-use Rattle.sb_packet.specs.Ways.{is_some_number}
+use Rattle.sb_flow.specs.Ways.{is_some_number}
 
 -- no two items of a list pass a test
 abbrev pub IsSingle : {A : Type 0} → (A → Bool) → List A → Type 0

@@ -2,7 +2,7 @@
 use Rattle.std.proofs.Common.{◌≡◌, ℕ, zero, suc, ◌+◌, ◌-◌, ◌<◌, List, [], ◌∷◌, ◌++◌, refl, sym, ◌∙◌, arith, Option, Some, None, append_assoc, append-nil}
 use Rattle.std.specs.Prelude.{map}
 use Rattle.sb_packet.specs.Networks.{Network}
-use Rattle.sb_packet.specs.Ways.{links_from, next_link}
+use Rattle.sb_flow.specs.Ways.{links_from, next_link}
 use Rattle.sb_flow.specs.Tables.{leg_of}
 use Rattle.sb_flow.specs.declared.leg.Leg.{Leg}
 

@@ -7,7 +7,7 @@ use Rattle.std.proofs.lemmas.Bool.{and_parts, eqb-true, not-false}
 use Rattle.std.proofs.lemmas.List.Elements.{All-append, All-from_recursion}
 use Rattle.sb_packet.specs.Networks.{NetHost, NetLink, NetPlace, NetRouter, Network, at_device, at_host, at_router, leads_to}
 use Rattle.sb_packet.specs.Sides.{leaves_from}
-use Rattle.sb_packet.specs.Ways.{aims_at, first_link, host_ways, is_some_number, links_from, network_ways, next_link, route_at, router_after, router_before, router_of, way_links}
+use Rattle.sb_flow.specs.Ways.{aims_at, first_link, host_ways, is_some_number, links_from, network_ways, next_link, route_at, router_after, router_before, router_at_end, way_links}
 use Rattle.sb_flow.specs.Accepted.{IsAccepted}
 use Rattle.sb_flow.specs.Courses.{AreJoined, IsCourse, ends_at, link_rank}
 use Rattle.sb_flow.specs.Ends.{goes_back, joins}
@@ -33,11 +33,11 @@ record IsOn (network : Network) (d k : ℕ) (l : NetLink) : Type 0 where
   straight : is_other_device d l.to ≡ false
 
 -- the routers that a link joins, by its ends
-after-is : (network : Network) (k : ℕ) (l : NetLink) (to : NetPlace) → slice_get network.links k ≡ Some l → l.to ≡ to → router_after network k ≡ router_of to
-after-is network k l to got at = ap (λ (found : Option NetLink). option_and_then (λ link. router_of link.to) found) got ∙ ap router_of at
+after-is : (network : Network) (k : ℕ) (l : NetLink) (to : NetPlace) → slice_get network.links k ≡ Some l → l.to ≡ to → router_after network k ≡ router_at_end to
+after-is network k l to got at = ap (λ (found : Option NetLink). option_and_then (λ link. router_at_end link.to) found) got ∙ ap router_at_end at
 
-before-is : (network : Network) (k : ℕ) (l : NetLink) (from : NetPlace) → slice_get network.links k ≡ Some l → l.from ≡ from → router_before network k ≡ router_of from
-before-is network k l from got at = ap (λ (found : Option NetLink). option_and_then (λ link. router_of link.from) found) got ∙ ap router_of at
+before-is : (network : Network) (k : ℕ) (l : NetLink) (from : NetPlace) → slice_get network.links k ≡ Some l → l.from ≡ from → router_before network k ≡ router_at_end from
+before-is network k l from got at = ap (λ (found : Option NetLink). option_and_then (λ link. router_at_end link.from) found) got ∙ ap router_at_end at
 
 -- a number that is told
 pub some_number-is : (n : ℕ) (found : Option ℕ) → is_some_number n found ≡ true → found ≡ Some n
@@ -45,11 +45,11 @@ some_number-is n None h = cc
 some_number-is n (Some k) h = ap Some (eqb-true k n h)
 
 -- a link that leaves a router is there
-leaves_router : (found : Option NetLink) (r : ℕ) → option_and_then (λ link. router_of link.from) found ≡ Some r → (l : NetLink) × ((found ≡ Some l) × (router_of l.from ≡ Some r))
+leaves_router : (found : Option NetLink) (r : ℕ) → option_and_then (λ link. router_at_end link.from) found ≡ Some r → (l : NetLink) × ((found ≡ Some l) × (router_at_end l.from ≡ Some r))
 leaves_router None r h = cc
 leaves_router (Some l) r h = (l, (refl, h))
 
-pub place-is : (from : NetPlace) (r : ℕ) → router_of from ≡ Some r → from ≡ at_router r
+pub place-is : (from : NetPlace) (r : ℕ) → router_at_end from ≡ Some r → from ≡ at_router r
 place-is (at_host h) r e = cc
 place-is (at_device d) r e = cc
 place-is (at_router q) r e = let same : q ≡ r = cc in ap at_router same

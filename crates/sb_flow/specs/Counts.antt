@@ -2,7 +2,7 @@
 use Rattle.std.specs.Prelude.{ℕ, Bool, if◌then◌else◌}
 use Rattle.sb_packet.specs.Networks.{NetDevice, has_address}
 use Rattle.sb_packet.specs.Scripts.{request_of}
-use Rattle.sb_packet.specs.Rings.{is_answered}
+use Rattle.sb_flow.specs.Rings.{is_answered}
 use Rattle.sb_packet.specs.declared.transaction.Kind.{Kind}
 use Rattle.sb_packet.specs.declared.transaction.Txn.{Txn}
 

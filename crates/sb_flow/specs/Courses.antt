@@ -2,7 +2,7 @@
 use Rattle.std.specs.Prelude.{◌≡◌, ◌≢◌, ℕ, suc, ◌+◌, ◌-◌, ◌*◌, ◌≤◌, ◌<◌, Bool, true, false, List, [], ◌∷◌, length, Some, slice_get, AllPairs}
 use Rattle.std.specs.Option.{option_map_or}
 use Rattle.sb_packet.specs.Networks.{NetPlace, Network, at_device, at_host, at_router, leads_to}
-use Rattle.sb_packet.specs.Ways.{NetWay, router_after, router_before}
+use Rattle.sb_flow.specs.Ways.{NetWay, router_after, router_before}
 
 -- the last of some links leads to device d
 abbrev pub ends_at : Network → ℕ → List ℕ → Bool

@@ -4,7 +4,7 @@ use Rattle.std.specs.List.{find, list_any, position_from, range_with_len}
 use Rattle.std.specs.Option.{option_or}
 use Rattle.sb_packet.specs.Networks.{NetPlace, NetLink, Network, at_host, at_router, at_device, leads_to}
 use Rattle.sb_packet.specs.Sides.{leaves_from, side_at}
-use Rattle.sb_packet.specs.Ways.{is_some_number}
+use Rattle.sb_flow.specs.Ways.{is_some_number}
 
 -- the widths that a link may have, in bytes; the others come when packets are cut
 abbrev pub is_width_now : ℕ → Bool

@@ -1,3 +1,5 @@
+pub mod Ways
+pub mod Rings
 pub mod Rows
 pub mod Firsts
 pub mod Limits

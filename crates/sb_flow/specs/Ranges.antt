@@ -2,8 +2,8 @@
 use Rattle.std.specs.Prelude.{ℕ, ◌+◌, ◌%◌, ◌^◌, Bool, ◌&&◌, ◌==◌, nat_le, nat_lt, not, length, Option}
 use Rattle.std.specs.List.{position_from}
 use Rattle.sb_packet.specs.Networks.{NetDevice, Network, device_size}
-use Rattle.sb_packet.specs.Plans.{are_apart}
-use Rattle.sb_packet.specs.Rings.{range_of}
+use Rattle.sb_link.specs.RingPlans.{are_apart}
+use Rattle.sb_flow.specs.Rings.{range_of}
 use Rattle.sb_flow.specs.Firsts.{Clash, first_clash}
 
 -- a device begins with a page, and ends at most at 2 ^ 56

@@ -3,7 +3,7 @@ use Rattle.std.specs.Prelude.{ℕ, Bool, true, false, ◌&&◌, ◌==◌, not, l
 use Rattle.std.specs.List.{enumerate_from, range_with_len}
 use Rattle.std.specs.Option.{option_map_or, option_or}
 use Rattle.sb_packet.specs.Networks.{NetHost, NetPlace, Network, at_host, at_router, at_device}
-use Rattle.sb_packet.specs.Ways.{aims_at, is_some_number, route_at, router_after, router_before, way_links}
+use Rattle.sb_flow.specs.Ways.{aims_at, is_some_number, route_at, router_after, router_before, way_links}
 use Rattle.sb_flow.specs.Firsts.{first_told}
 
 -- a router, and a device that packets at it may be for

@@ -2,8 +2,8 @@
 use Rattle.std.specs.Prelude.{ℕ, Bool, ◌==◌, List, [], length, filter, map, sum_by, if◌then◌else◌}
 use Rattle.std.specs.List.{enumerate_from, list_any, range_with_len}
 use Rattle.sb_packet.specs.Networks.{NetHost, Network}
-use Rattle.sb_packet.specs.Ways.{NetWay, aims_at, router_after, router_before, way_links}
-use Rattle.sb_packet.specs.Rings.{flow_table, is_answered, link_ways, way_accesses}
+use Rattle.sb_flow.specs.Ways.{NetWay, aims_at, router_after, router_before, way_links}
+use Rattle.sb_flow.specs.Rings.{flow_table, is_answered, link_ways, way_accesses}
 use Rattle.sb_flow.specs.declared.leg.Leg.{Leg}
 
 -- the way between a host and a device: its links with the routers that they join, for each link whether it is among them, and the words that go over it and are answered

@@ -2,8 +2,8 @@
 
 ghost use Rattle.std.specs.Prelude.{◌≡◌, option_copied, option_map, IfOk, IsSome, if◌then◌else◌};
 ghost use Rattle.std.specs.List.{find};
-ghost use Rattle.sb_packet.specs.Ways.{is_some_number, link_down, link_up};
-ghost use Rattle.sb_packet.specs.Rings.{is_upward, ring_link, ring_plan};
+ghost use Rattle.sb_flow.specs.Ways.{is_some_number, link_down, link_up};
+ghost use Rattle.sb_flow.specs.Rings.{is_upward, ring_link, ring_plan};
 ghost use Rattle.sb_link.specs.PlanOf.{plan_of};
 ghost use Rattle.sb_flow.specs.NetworkOf.{network_of};
 ghost use Rattle.sb_flow.specs.Tables.{paths_of};

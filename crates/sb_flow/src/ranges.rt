@@ -4,7 +4,7 @@ ghost use Rattle.std.specs.Prelude.{◌≡◌, length, map, slice_get};
 ghost use Rattle.std.specs.List.{range_with_len};
 ghost use Rattle.std.specs.Option.{option_map_or};
 ghost use Rattle.sb_packet.specs.Networks.{device_size};
-ghost use Rattle.sb_packet.specs.Rings.{network_ranges};
+ghost use Rattle.sb_flow.specs.Rings.{network_ranges};
 ghost use Rattle.sb_link.specs.Plans.{bits_of};
 ghost use Rattle.sb_link.specs.PlanOf.{flows_of};
 ghost use Rattle.sb_flow.specs.Rows.{device_of};

@@ -7,10 +7,10 @@ use Rattle.std.proofs.Math.Seq.{drop-length, drop-nil}
 use Rattle.std.proofs.lemmas.List.Elements.{All-head, All-tail, filter-append}
 use Rattle.sb_packet.specs.Accesses.{Access, access_at, message_accesses}
 use Rattle.sb_packet.specs.Networks.{NetHost, Network, device_at}
-use Rattle.sb_packet.specs.Prefixes.{IsPrefix}
+use Rattle.sb_link.specs.Prefixes.{IsPrefix}
 use Rattle.sb_packet.specs.Scripts.{IsTransaction, script_accesses, transaction_accesses, transaction_message}
 use Rattle.sb_packet.specs.Messages.{Message}
-use Rattle.sb_packet.specs.Traffic.{MayPass, has_close}
+use Rattle.sb_link.specs.Traffic.{MayPass, has_close}
 use Rattle.sb_packet.specs.declared.transaction.Txn.{Txn}
 use Rattle.sb_packet.proofs.Lists.{All-made, filter_all, filter_none}
 use Rattle.sb_packet.proofs.ReplyAddresses.{word_within}

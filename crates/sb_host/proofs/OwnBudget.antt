@@ -10,9 +10,9 @@ use Rattle.std.proofs.lemmas.List.Sums.{sum_by-append, sum_by-cons}
 use Rattle.sb_packet.specs.Accesses.{Access, access_at}
 use Rattle.sb_packet.specs.Journals.{device_address, is_at}
 use Rattle.sb_packet.specs.Networks.{NetHost, Network, device_at, has_address}
-use Rattle.sb_packet.specs.Rings.{counted_accesses, has_link, is_answered, is_upward, link_ways, ring_budget, way_accesses}
+use Rattle.sb_flow.specs.Rings.{counted_accesses, has_link, is_answered, is_upward, link_ways, ring_budget, way_accesses}
 use Rattle.sb_packet.specs.Scripts.{IsTransaction, script_accesses, transaction_accesses, transaction_message}
-use Rattle.sb_packet.specs.Ways.{NetWay, aims_at, first_link, host_ways, way_links}
+use Rattle.sb_flow.specs.Ways.{NetWay, aims_at, first_link, host_ways, way_links}
 use Rattle.sb_packet.specs.declared.transaction.Txn.{Txn}
 use Rattle.sb_packet.proofs.Lists.{All-made}
 use Rattle.sb_link.proofs.Truths.{same_number}

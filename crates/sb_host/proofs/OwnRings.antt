@@ -8,10 +8,10 @@ use Rattle.std.proofs.lemmas.Bool.Decides.{nat_tests}
 use Rattle.std.proofs.lemmas.List.Elements.{All-get_or}
 use Rattle.std.proofs.lemmas.Option.{get_or_from_slice_get, slice_get-get_or}
 use Rattle.sb_packet.specs.Networks.{NetHost, NetLink, Network, at_host, at_router}
-use Rattle.sb_packet.specs.Rings.{ring_link, ring_plan}
+use Rattle.sb_flow.specs.Rings.{ring_link, ring_plan}
 use Rattle.sb_packet.specs.Scripts.{IsTransaction}
 use Rattle.sb_packet.specs.Sides.{leaves_from}
-use Rattle.sb_packet.specs.Ways.{first_link}
+use Rattle.sb_flow.specs.Ways.{first_link}
 use Rattle.sb_port.specs.Waiting.{IsWidth}
 use Rattle.sb_flow.specs.Accepted.{IsAccepted}
 use Rattle.sb_flow.specs.Ends.{is_width_now}

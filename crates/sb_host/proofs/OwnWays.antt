@@ -7,9 +7,9 @@ use Rattle.std.proofs.Math.ListN.{get_or}
 use Rattle.std.proofs.lemmas.Bool.Decides.{nat_tests}
 use Rattle.std.proofs.lemmas.List.FromFn.{get_or-enumerate_from, get_or-map-range_with_len, get_or-range_with_len, length-enumerate_from, length-range_with_len}
 use Rattle.sb_packet.specs.Networks.{NetHost, Network}
-use Rattle.sb_packet.specs.Plans.{NetFlow, goes_through}
-use Rattle.sb_packet.specs.Rings.{flow_table, has_link, link_ways, ring_flows, ring_link, ring_ways}
-use Rattle.sb_packet.specs.Ways.{NetWay, aims_at, first_link, host_ways, links_from, network_ways, next_link, way_links}
+use Rattle.sb_link.specs.RingPlans.{NetFlow, goes_through}
+use Rattle.sb_flow.specs.Rings.{flow_table, has_link, link_ways, ring_flows, ring_link, ring_ways}
+use Rattle.sb_flow.specs.Ways.{NetWay, aims_at, first_link, host_ways, links_from, network_ways, next_link, way_links}
 use Rattle.sb_link.proofs.Truths.{same_number}
 use Rattle.sb_flow.proofs.LinkMarks.{list_any-map}
 

@@ -5,10 +5,10 @@ use Rattle.std.proofs.lemmas.List.Elements.{All-nil, All-append, All-head, All-t
 use Rattle.std.proofs.lemmas.List.FromFn.{length-map-range_with_len}
 use Rattle.sb_packet.specs.Accesses.{Access, access_at, message_accesses}
 use Rattle.sb_packet.specs.Messages.{Message}
-use Rattle.sb_packet.specs.Plans.{RingPlan}
+use Rattle.sb_link.specs.RingPlans.{RingPlan}
 use Rattle.sb_packet.specs.Scripts.{IsTransaction}
 use Rattle.sb_packet.specs.Soundness.{IsFine, IsSound}
-use Rattle.sb_packet.specs.Traffic.{IsPlanned, MayPass}
+use Rattle.sb_link.specs.Traffic.{IsPlanned, MayPass}
 use Rattle.sb_packet.specs.Cuts.{cut_parts}
 use Rattle.sb_packet.proofs.Lists.{All-right}
 use Rattle.sb_packet.proofs.FineParts.{fine_cut, transaction_sound, transaction_whole}

@@ -15,8 +15,8 @@ use Rattle.std.proofs.lemmas.Bool.{and_parts}
 use Rattle.sb_packet.specs.Cuts.{cut_parts, first_part, is_one_part, other_parts, parts_in, words_in}
 use Rattle.sb_packet.specs.Messages.{Message, message_span}
 use Rattle.sb_packet.specs.Networks.{NetDevice, Network, device_size, has_address}
-use Rattle.sb_packet.specs.Plans.{AddressRange, device_ranges, holds_span}
-use Rattle.sb_packet.specs.Rings.{range_of, ring_flows}
+use Rattle.sb_link.specs.RingPlans.{AddressRange, device_ranges, holds_span}
+use Rattle.sb_flow.specs.Rings.{range_of, ring_flows}
 use Rattle.sb_packet.proofs.CutWords.{more_than_fit}
 use Rattle.sb_link.proofs.Truths.{same_test}
 use Rattle.sb_flow.specs.Ranges.{is_placed_device}

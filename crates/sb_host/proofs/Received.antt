@@ -1,7 +1,7 @@
 -- A host stays in order where an item comes in.
 use Rattle.std.proofs.Common.{◌≡◌, List, [], ◌∷◌, ◌++◌, true, sym, ap, subst, ◌∙◌, append-nil}
 use Rattle.sb_packet.specs.Accesses.{Access, accesses_of}
-use Rattle.sb_packet.specs.Traffic.{has_close, item_accesses}
+use Rattle.sb_link.specs.Traffic.{has_close, item_accesses}
 use Rattle.sb_packet.specs.declared.item.Item.{Item}
 use Rattle.sb_packet.specs.declared.item.Item.TheVariants as items
 use Rattle.sb_packet.specs.declared.packet.Packet.{Packet}

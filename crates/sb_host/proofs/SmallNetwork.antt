@@ -2,8 +2,8 @@
 use Rattle.std.proofs.Common.{◌≡◌, ◌<◌, ◌+◌, ◌*◌, arith, refl, ℕ, zero, suc, length, Some}
 use Rattle.std.specs.Prelude.{IsSome, slice_get}
 use Rattle.sb_packet.specs.Networks.{NetHost}
-use Rattle.sb_packet.specs.Rings.{ring_link}
-use Rattle.sb_packet.specs.Ways.{first_link}
+use Rattle.sb_flow.specs.Rings.{ring_link}
+use Rattle.sb_flow.specs.Ways.{first_link}
 use Rattle.sb_host.specs.SmallNetwork.{small}
 
 -- a host of the network, with its link and the rings of that

@@ -2,7 +2,7 @@
 use Rattle.std.proofs.Common.{◌≡◌, ◌++◌, List, ap, ◌∙◌}
 use Rattle.std.specs.Prelude.{flat_map}
 use Rattle.sb_packet.specs.Accesses.{message_accesses}
-use Rattle.sb_packet.specs.Traffic.{item_messages}
+use Rattle.sb_link.specs.Traffic.{item_messages}
 use Rattle.sb_packet.specs.declared.item.Item.{Item}
 use Rattle.sb_port.specs.Waiting.{Waiting, listed}
 use Rattle.sb_port.specs.Ports.{PortSide, let_go, offered_words}

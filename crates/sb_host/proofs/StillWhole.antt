@@ -1,6 +1,6 @@
 -- A host whose ends have met the other ones is whole still.
 use Rattle.std.proofs.Common.{List, sym, subst}
-use Rattle.sb_packet.specs.Plans.{RingPlan}
+use Rattle.sb_link.specs.RingPlans.{RingPlan}
 use Rattle.sb_packet.specs.declared.item.Item.{Item}
 use Rattle.sb_port.specs.Ports.{PortSide, PortState, IsFit}
 use Rattle.sb_node.specs.Sides.{RingSide}

@@ -2,8 +2,8 @@
 use Rattle.std.specs.Prelude.{ℕ, ◌≡◌, ◌≤◌, ◌<◌, ◌++◌, List, drop, length, flat_map, All, false, slice_index_or}
 use Rattle.sb_packet.specs.Accesses.{Access, message_accesses}
 use Rattle.sb_packet.specs.Messages.{Message}
-use Rattle.sb_packet.specs.Plans.{RingPlan}
-use Rattle.sb_packet.specs.Traffic.{IsPlanned}
+use Rattle.sb_link.specs.RingPlans.{RingPlan}
+use Rattle.sb_link.specs.Traffic.{IsPlanned}
 use Rattle.sb_host.specs.declared.transaction_plan.TransactionPlan.{TransactionPlan}
 use Rattle.sb_host.specs.Asked.{Asked, asked_accesses, asked_packets, packets_from, sent_packets}
 

@@ -1,16 +1,16 @@
 //! Laws of hosts.
 
 ghost use Rattle.std.specs.Prelude.{◌≡◌, ◌∷◌, ◌*◌, ℕ, List, true, None, Some, All, filter, is_some, length, slice_get};
-ghost use Rattle.sb_packet.specs.Rings.{ring_plan};
-ghost use Rattle.sb_packet.specs.Ways.{first_link};
+ghost use Rattle.sb_flow.specs.Rings.{ring_plan};
+ghost use Rattle.sb_flow.specs.Ways.{first_link};
 ghost use Rattle.sb_port.specs.Waiting.{IsWidth};
 ghost use Rattle.sb_flow.specs.Accepted.{IsAccepted};
 ghost use Rattle.sb_host.specs.Issuing.{IsMadeFor};
 ghost use Rattle.sb_packet.specs.Networks.{NetHost, Network, device_at};
-ghost use Rattle.sb_packet.specs.Prefixes.{IsPrefix};
+ghost use Rattle.sb_link.specs.Prefixes.{IsPrefix};
 ghost use Rattle.sb_packet.specs.Scripts.{IsTransaction, script_accesses};
 ghost use Rattle.sb_packet.specs.Messages.{Message};
-ghost use Rattle.sb_packet.specs.Traffic.{MayPass, has_close};
+ghost use Rattle.sb_link.specs.Traffic.{MayPass, has_close};
 ghost use Rattle.sb_flow.specs.Ranges.{misplaced_device};
 ghost use Rattle.sb_port.specs.Ports.{PortSide, let_go, offered_words};
 ghost use Rattle.sb_node.specs.Kept.{IsPortMet, IsRingMet};

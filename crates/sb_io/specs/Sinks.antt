@@ -1,6 +1,6 @@
 -- What a write does.
 use Rattle.std.specs.Prelude.{ℕ, ◌≡◌, ◌<◌, ◌≤◌, ◌++◌, List, length, take, Option, option_map}
-use Rattle.sb_io.specs.Counts.{Rose}
+use Rattle.sb_io.specs.Counts.{FaultsIncreased}
 use Rattle.sb_io.specs.declared.sink.Put.{Put}
 use Rattle.sb_io.specs.declared.sink.Put.TheVariants.{Took, Failed}
 
@@ -12,4 +12,4 @@ Writes before now Failed piece = now ≡ before
 -- a write that failed raises the count, and no other changes it
 abbrev pub CountsWriteFaults : ℕ → ℕ → Put → Type 0
 CountsWriteFaults before now (Took n) = now ≡ before
-CountsWriteFaults before now Failed = (before ≤ now) × Rose before now
+CountsWriteFaults before now Failed = (before ≤ now) × FaultsIncreased before now

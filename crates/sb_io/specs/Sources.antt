@@ -1,6 +1,6 @@
 -- What a read does.
 use Rattle.std.specs.Prelude.{ℕ, ◌≡◌, ◌<◌, ◌≤◌, List, [], length, take, drop, Option, IfSome, option_map}
-use Rattle.sb_io.specs.Counts.{Rose}
+use Rattle.sb_io.specs.Counts.{FaultsIncreased}
 use Rattle.sb_io.specs.declared.source.Got.{Got}
 use Rattle.sb_io.specs.declared.source.Got.TheVariants.{Bytes, End, Failed}
 
@@ -14,4 +14,4 @@ Reads before now Failed buf = now ≡ before
 abbrev pub CountsReadFaults : ℕ → ℕ → Got → Type 0
 CountsReadFaults before now (Bytes n) = now ≡ before
 CountsReadFaults before now End = now ≡ before
-CountsReadFaults before now Failed = (before ≤ now) × Rose before now
+CountsReadFaults before now Failed = (before ≤ now) × FaultsIncreased before now

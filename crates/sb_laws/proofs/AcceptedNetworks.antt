@@ -10,9 +10,9 @@ use Rattle.std.proofs.lemmas.List.Elements.{All-weaker}
 use Rattle.std.proofs.lemmas.List.FromFn.{length-range_with_len, get_or-range_with_len, length-enumerate_from, get_or-enumerate_from}
 use Rattle.sb_packet.specs.Networks.{NetHost, NetDevice, NetLink, NetPlace, Network, at_host, at_router, at_device, device_size, has_address, leads_to}
 use Rattle.sb_packet.specs.Sides.{leaves_from}
-use Rattle.sb_packet.specs.Plans.{are_apart}
-use Rattle.sb_packet.specs.Ways.{router_of, router_before, router_after, route_at, aims_at, is_some_number, way_links}
-use Rattle.sb_packet.specs.Rings.{range_of}
+use Rattle.sb_link.specs.RingPlans.{are_apart}
+use Rattle.sb_flow.specs.Ways.{router_at_end, router_before, router_after, route_at, aims_at, is_some_number, way_links}
+use Rattle.sb_flow.specs.Rings.{range_of}
 use Rattle.sb_packet.proofs.Lists.{All-kept}
 use Rattle.sb_flow.specs.Limits.{is_from_to, is_limited_host, is_limited_router, is_limited_device, is_limited_link, is_limited, page_count}
 use Rattle.sb_flow.specs.Names.{is_there, is_link_there}
@@ -170,9 +170,9 @@ module _ (network : Network) (accepted : IsAccepted network) where
           by_end (at_router r) is = record {
             there = inside;
             first = found;
-            leaves = ap (option_and_then (λ l. router_of l.from)) at ∙ ap router_of start;
+            leaves = ap (option_and_then (λ l. router_at_end l.from)) at ∙ ap router_at_end start;
             router = r;
-            leads = ap (option_and_then (λ l. router_of l.to)) at ∙ ap router_of is;
+            leads = ap (option_and_then (λ l. router_at_end l.to)) at ∙ ap router_at_end is;
           }
           by_end (at_device d) is = absurd (let never = ap (λ (p : NetPlace). joins p (at_device d)) (sym start) ∙ ap (joins link.from) (sym is) ∙ joined in cc)
 
@@ -199,10 +199,10 @@ module _ (network : Network) (accepted : IsAccepted network) where
     at : slice_get network.links k ≡ Some link
     is : end link ≡ at_router r
 
-  link_end : (end : NetLink → NetPlace) (k r : ℕ) → option_and_then (λ l. router_of (end l)) (slice_get network.links k) ≡ Some r → LinkEnd end k r
+  link_end : (end : NetLink → NetPlace) (k r : ℕ) → option_and_then (λ l. router_at_end (end l)) (slice_get network.links k) ≡ Some r → LinkEnd end k r
   link_end end k r e = by_link (slice_get network.links k) refl e
     where
-      by_link : (o : Option NetLink) → slice_get network.links k ≡ o → option_and_then (λ l. router_of (end l)) o ≡ Some r → LinkEnd end k r
+      by_link : (o : Option NetLink) → slice_get network.links k ≡ o → option_and_then (λ l. router_at_end (end l)) o ≡ Some r → LinkEnd end k r
       by_link None is e = absurd (cc)
       by_link (Some l) is e = record { link = l; inside = (at_place (λ z. true) network.links k (ap (λ (o : Option NetLink). option_map_or (λ z. true) o false) is)).1; at = is; is = place-is (end l) r e }
 
@@ -260,7 +260,7 @@ module _ (network : Network) (accepted : IsAccepted network) where
 
           by_end : (p : NetPlace) → link.to ≡ p → LeadsOn network d k
           by_end (at_host g) is = absurd (let never = ap (λ (p : NetPlace). joins p (at_host g)) (sym from) ∙ ap (joins link.from) (sym is) ∙ joined in cc)
-          by_end (at_router q) is = inr (q, ap (option_and_then (λ l. router_of l.to)) at ∙ ap router_of is)
+          by_end (at_router q) is = inr (q, ap (option_and_then (λ l. router_at_end l.to)) at ∙ ap router_at_end is)
           by_end (at_device e) is =
               let test : not (e == d) ≡ false = ap (is_other_device d) (sym is) ∙ not_other in
               let same : (e == d) ≡ true = is_placed (e == d) test in

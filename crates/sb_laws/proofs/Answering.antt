@@ -7,15 +7,15 @@ use Rattle.std.proofs.lemmas.List.Elements.{All-filter, All-head, All-tail}
 use Rattle.sb_word.specs.declared.command.Op.{Op}
 use Rattle.sb_word.specs.declared.command.Op.TheVariants.{ReqRd, ReqWr, ReqWrPosted, ReqAtomic, RespRd, RespWr}
 use Rattle.sb_packet.specs.Accesses.{Access}
-use Rattle.sb_packet.specs.Memories.{MemoryState, access_step, access_answer, answers_in, answer_by, reply, held_at, write_code, old_bytes}
+use Rattle.sb_packet.specs.Memories.{MemoryState, access_step, access_answer, answers_in, answer_by, reply, bytes_at, write_code, old_bytes}
 use Rattle.sb_packet.specs.declared.transaction.Code.TheVariants as the_codes
 use Rattle.sb_packet.specs.Networks.{Network}
 use Rattle.sb_packet.specs.Answers.{answer_at_first, same_access}
 use Rattle.sb_packet.specs.Journals.{is_request}
-use Rattle.sb_packet.specs.Plans.{NetFlow}
+use Rattle.sb_link.specs.RingPlans.{NetFlow}
 use Rattle.sb_packet.proofs.FoundAnswers.{same_access_self}
 use Rattle.sb_packet.proofs.Lists.{AllPairs-head, AllPairs-tail}
-use Rattle.sb_packet.specs.Rings.{is_answered}
+use Rattle.sb_flow.specs.Rings.{is_answered}
 use Rattle.sb_laws.specs.Flows.{is_of, words_of_flow}
 use Rattle.sb_host.specs.Outcomes.{is_answered_by}
 
@@ -37,7 +37,7 @@ answer_is network m a b e = by_op a.op refl e
     from_it x some is = let same : x ≡ b = cc in subst (IsAnswerOf network a) same is
 
     by_op : (op : Op) → a.op ≡ op → answer_by op m a ≡ Some b → IsAnswerOf network a b
-    by_op ReqRd is e = from_it (reply a RespRd the_codes.Ok (held_at m a)) e (record { flow = λ f. rw is refl; address = refl; op = rw is refl; size = refl })
+    by_op ReqRd is e = from_it (reply a RespRd the_codes.Ok (bytes_at m a)) e (record { flow = λ f. rw is refl; address = refl; op = rw is refl; size = refl })
     by_op ReqWr is e = from_it (reply a RespWr (write_code m) []) e (record { flow = λ f. rw is refl; address = refl; op = rw is refl; size = refl })
     by_op ReqWrPosted is e = absurd (cc)
     by_op ReqAtomic is e = from_it (reply a RespRd (write_code m) (old_bytes m a)) e (record { flow = λ f. rw is refl; address = refl; op = rw is refl; size = refl })

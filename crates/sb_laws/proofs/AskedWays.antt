@@ -12,8 +12,8 @@ use Rattle.sb_packet.specs.Accesses.{access_at}
 use Rattle.sb_packet.specs.Networks.{NetHost, NetDevice, Network, device_at, has_address}
 use Rattle.sb_packet.specs.Scripts.{IsTransaction, transaction_message, transaction_accesses, script_accesses}
 use Rattle.sb_packet.specs.Journals.{device_address}
-use Rattle.sb_packet.specs.Plans.{NetFlow}
-use Rattle.sb_packet.specs.Ways.{is_aimed_at, is_some_number, aims_at, host_ways, network_ways, way_links}
+use Rattle.sb_link.specs.RingPlans.{NetFlow}
+use Rattle.sb_flow.specs.Ways.{is_aimed_at, is_some_number, aims_at, host_ways, network_ways, way_links}
 use Rattle.sb_packet.specs.declared.transaction.Txn.{Txn}
 use Rattle.sb_packet.proofs.Lists.{All-made, All-joined, filter_none}
 use Rattle.sb_packet.proofs.ReplyAddresses.{word_within}

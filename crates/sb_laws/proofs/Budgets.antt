@@ -3,7 +3,7 @@ use Rattle.std.proofs.Common.{◌≡◌, ◌≤◌, ℕ, true, false, [], length
 use Rattle.std.specs.Prelude.{filter, sum_by, All, AllPairs, get_or}
 use Rattle.std.proofs.lemmas.List.Elements.{All-filter, All-weaker}
 use Rattle.sb_packet.specs.Networks.{Network}
-use Rattle.sb_packet.specs.Plans.{NetFlow}
+use Rattle.sb_link.specs.RingPlans.{NetFlow}
 use Rattle.sb_packet.proofs.Lists.{filter_none}
 use Rattle.sb_laws.specs.Flows.{is_of, words_of_flow, is_among_flows}
 use Rattle.sb_laws.specs.Moments.{Moment, arrived}

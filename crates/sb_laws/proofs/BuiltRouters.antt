@@ -8,9 +8,9 @@ use Rattle.std.proofs.lemmas.List.Elements.{All-weaker}
 use Rattle.sb_packet.specs.Accesses.{Access, accesses_of}
 use Rattle.sb_packet.specs.Messages.{message_of}
 use Rattle.sb_packet.specs.Networks.{Network}
-use Rattle.sb_packet.specs.Plans.{NetFlow, RingPlan, goes_through, message_flow}
-use Rattle.sb_packet.specs.Rings.{is_upward, ring_flows, ring_plan}
-use Rattle.sb_packet.specs.Traffic.{IsPlanned}
+use Rattle.sb_link.specs.RingPlans.{NetFlow, RingPlan, goes_through, message_flow}
+use Rattle.sb_flow.specs.Rings.{is_upward, ring_flows, ring_plan}
+use Rattle.sb_link.specs.Traffic.{IsPlanned}
 use Rattle.sb_packet.specs.declared.packet.Packet.{Packet}
 use Rattle.sb_packet.proofs.Lists.{filter_all, filter_none}
 use Rattle.sb_router.specs.Forwarding.{IsLaid}

@@ -5,10 +5,10 @@ use Rattle.std.specs.List.{list_any}
 use Rattle.std.proofs.lemmas.List.Elements.{All-weaker}
 use Rattle.sb_packet.specs.Accesses.{Access}
 use Rattle.sb_packet.specs.Networks.{Network}
-use Rattle.sb_packet.specs.Plans.{NetFlow}
-use Rattle.sb_packet.specs.Traffic.{item_accesses, AreInTurn}
-use Rattle.sb_packet.specs.Ways.{NetWay}
-use Rattle.sb_packet.specs.Rings.{ring_plan, ring_ways, link_ways}
+use Rattle.sb_link.specs.RingPlans.{NetFlow}
+use Rattle.sb_link.specs.Traffic.{item_accesses, AreInTurn}
+use Rattle.sb_flow.specs.Ways.{NetWay}
+use Rattle.sb_flow.specs.Rings.{ring_plan, ring_ways, link_ways}
 use Rattle.sb_packet.specs.declared.item.Item.{Item}
 use Rattle.sb_flow.proofs.LinkMarks.{list_any-map}
 use Rattle.sb_laws.specs.Flows.{is_of}

@@ -11,9 +11,9 @@ use Rattle.sb_packet.specs.Networks.{Network}
 use Rattle.sb_packet.specs.Scripts.{script_accesses}
 use Rattle.sb_packet.specs.Journals.{flow_part}
 use Rattle.sb_packet.specs.Answers.{access_reply, flow_answers}
-use Rattle.sb_packet.specs.Plans.{NetFlow}
-use Rattle.sb_packet.specs.Ways.{NetWay, network_ways}
-use Rattle.sb_packet.specs.Rings.{is_upward, has_link, link_ways, ring_ways, way_accesses, counted_accesses, ring_budget, is_answered, carried_accesses, is_on_way, IsCarried}
+use Rattle.sb_link.specs.RingPlans.{NetFlow}
+use Rattle.sb_flow.specs.Ways.{NetWay, network_ways}
+use Rattle.sb_flow.specs.Rings.{is_upward, has_link, link_ways, ring_ways, way_accesses, counted_accesses, ring_budget, is_answered, carried_accesses, is_on_way, IsCarried}
 use Rattle.sb_packet.specs.declared.entry.Entry.{Entry}
 use Rattle.sb_flow.proofs.LinkMarks.{list_any-map}
 use Rattle.sb_laws.specs.Flows.{is_of, words_of_flow, asked_words, answered_of, replies_to}

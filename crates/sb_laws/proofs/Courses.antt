@@ -7,11 +7,11 @@ use Rattle.std.proofs.lemmas.List.Concat.{flat_map-append}
 use Rattle.sb_packet.specs.Accesses.{Access, accesses_of_item}
 use Rattle.sb_packet.specs.Networks.{Network}
 use Rattle.sb_packet.specs.Soundness.{IsSound}
-use Rattle.sb_packet.specs.Plans.{NetFlow}
-use Rattle.sb_packet.specs.Traffic.{has_close, item_accesses, item_messages}
+use Rattle.sb_link.specs.RingPlans.{NetFlow}
+use Rattle.sb_link.specs.Traffic.{has_close, item_accesses, item_messages}
 use Rattle.sb_packet.specs.declared.item.Item.{Item}
 use Rattle.sb_packet.specs.declared.item.Item.TheVariants as items
-use Rattle.sb_packet.specs.Prefixes.{IsPrefix, IsSubsequence}
+use Rattle.sb_link.specs.Prefixes.{IsPrefix, IsSubsequence}
 use Rattle.sb_device.proofs.Requests.{messages_joined}
 use Rattle.sb_laws.specs.Flows.{is_of, words_of_flow}
 use Rattle.sb_device.specs.Served.{AreSound}

@@ -2,15 +2,16 @@
 use Rattle.std.proofs.Common.{◌≡◌, ◌<◌, ℕ, true, false, List, [], ◌∷◌, length, sym, ap, ◌∙◌, arith, subst, inl, inr}
 use Rattle.std.specs.Prelude.{◌⊎◌, Some, None}
 use Rattle.std.proofs.lemmas.List.Elements.{All-head}
+use Rattle.sb_packet.specs.Memories.{answers_to}
 use Rattle.sb_device.specs.Sides.{DeviceSide}
-use Rattle.sb_device.specs.Served.{AreSound, HasServed, entry_accesses, entry_packets, item_packets, answers_to}
+use Rattle.sb_device.specs.Served.{AreSound, HasServed, entry_accesses, entry_packets, item_packets}
 use Rattle.sb_node.specs.Idle.{IsIdleAt}
 use Rattle.sb_node.specs.Steps.{IsBlockedPort}
 use Rattle.sb_node.specs.Sides.{RingSide, has_rest, is_full, has_ended, is_drained}
 use Rattle.sb_packet.specs.Journals.{journal_accesses}
 use Rattle.sb_packet.specs.Networks.{Network, opening_memory}
-use Rattle.sb_packet.specs.Plans.{NetFlow}
-use Rattle.sb_packet.specs.Traffic.{has_close, item_accesses}
+use Rattle.sb_link.specs.RingPlans.{NetFlow}
+use Rattle.sb_link.specs.Traffic.{has_close, item_accesses}
 use Rattle.sb_packet.specs.declared.entry.Entry.{Entry}
 use Rattle.sb_port.specs.Ports.{IsFit, PortSide}
 use Rattle.sb_device.proofs.Orders.{words_that_came}

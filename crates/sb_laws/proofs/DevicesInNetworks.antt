@@ -2,7 +2,7 @@
 use Rattle.std.proofs.Common.{◌<◌, ℕ, List, length, sym, ap, ◌∙◌, arith, subst}
 use Rattle.std.specs.Prelude.{All, get_or}
 use Rattle.sb_packet.specs.Networks.{Network}
-use Rattle.sb_packet.specs.Plans.{RingPlan}
+use Rattle.sb_link.specs.RingPlans.{RingPlan}
 use Rattle.sb_packet.specs.declared.entry.Entry.{Entry}
 use Rattle.sb_device.specs.Sides.{DeviceSide}
 use Rattle.sb_laws.specs.Courses.{budget_over}

@@ -3,9 +3,9 @@ use Rattle.std.proofs.Common.{◌≡◌, ◌<◌, lit≤, lit<, ℕ, zero, suc, 
 use Rattle.std.specs.Prelude.{◌==◌, All, Option}
 use Rattle.std.proofs.lemmas.List.Elements.{All-nil}
 use Rattle.sb_packet.specs.Messages.{message_of}
-use Rattle.sb_packet.specs.Rings.{ring_plan}
+use Rattle.sb_flow.specs.Rings.{ring_plan}
 use Rattle.sb_packet.specs.Soundness.{IsSound}
-use Rattle.sb_packet.specs.Traffic.{IsCarriable, item_accesses}
+use Rattle.sb_link.specs.Traffic.{IsCarriable, item_accesses}
 use Rattle.sb_packet.specs.declared.item.Item.{Item}
 use Rattle.sb_packet.specs.declared.item.Item.TheVariants as items
 use Rattle.sb_packet.specs.declared.packet.Packet.{Packet}

@@ -3,8 +3,8 @@ use Rattle.std.proofs.Common.{◌≡◌, ◌<◌, lit<, ℕ, zero, suc, true, fa
 use Rattle.std.specs.Prelude.{◌⊎◌, All}
 use Rattle.sb_packet.specs.Journals.{journal_accesses}
 use Rattle.sb_packet.specs.Networks.{opening_memory}
-use Rattle.sb_packet.specs.Prefixes.{none, kept}
-use Rattle.sb_packet.specs.Traffic.{item_accesses}
+use Rattle.sb_link.specs.Prefixes.{none, kept}
+use Rattle.sb_link.specs.Traffic.{item_accesses}
 use Rattle.sb_packet.specs.declared.entry.Entry.{Entry}
 use Rattle.sb_node.specs.Idle.{IsIdleAt}
 use Rattle.sb_node.specs.Sides.{has_ended, has_rest, is_drained, is_full}

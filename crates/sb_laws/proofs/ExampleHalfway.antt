@@ -4,11 +4,11 @@ use Rattle.std.proofs.lemmas.List.Elements.{All-nil, All-from_recursion}
 use Rattle.sb_packet.specs.Accesses.{Access, access_at}
 use Rattle.sb_packet.specs.Messages.{message_of}
 use Rattle.sb_packet.specs.Soundness.{IsSound}
-use Rattle.sb_packet.specs.Traffic.{item_accesses}
+use Rattle.sb_link.specs.Traffic.{item_accesses}
 use Rattle.sb_packet.specs.declared.entry.Entry.{Entry}
 use Rattle.sb_packet.specs.declared.item.Item.{Item}
 use Rattle.sb_packet.specs.declared.item.Item.TheVariants as items
-use Rattle.sb_packet.specs.Prefixes.{IsPrefix, IsSubsequence, none, kept, left_out}
+use Rattle.sb_link.specs.Prefixes.{IsPrefix, IsSubsequence, none, kept, left_out}
 use Rattle.sb_node.proofs.Answering.{one_of}
 use Rattle.sb_laws.specs.Flows.{words_of_flow, asked_words}
 use Rattle.sb_device.specs.Served.{AreSound}
@@ -23,6 +23,7 @@ use Rattle.sb_laws.proofs.Prefixes.{front_prefix, same_prefix}
 use Rattle.sb_laws.proofs.ExampleNetwork.{small, asking, write, posted, read, written}
 use Rattle.sb_laws.proofs.ExampleLayout.{the_flow, is_request_ring, is_answer_ring, small_layout}
 use Rattle.sb_laws.proofs.ExampleRun.{sound_write, sound_read, sound_written, sound_asking}
+use Rattle.sb_host.specs.Places.{asked_of}
 
 -- The host has sent all. The router has taken two packets: one went on and was stepped, and the other is held. The first answer waits in its ring.
 abbrev pub half_sent : ℕ → List Item

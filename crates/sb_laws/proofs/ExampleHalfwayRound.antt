@@ -3,7 +3,7 @@ use Rattle.std.proofs.Common.{◌≡◌, lit≤, lit<, ℕ, zero, suc, true, fal
 use Rattle.std.specs.Prelude.{◌⊎◌, Option}
 use Rattle.sb_link.specs.declared.answers.Cause.TheVariants.{Empty}
 use Rattle.sb_link.specs.declared.answers.Turn.TheVariants.{Idle}
-use Rattle.sb_packet.specs.Traffic.{has_close}
+use Rattle.sb_link.specs.Traffic.{has_close}
 use Rattle.sb_node.specs.Idle.{IsIdleAt}
 use Rattle.sb_node.specs.Sides.{has_ended, has_rest, is_drained, is_full}
 use Rattle.sb_node.specs.Steps.{IsBlockedPort}

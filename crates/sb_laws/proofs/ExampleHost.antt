@@ -3,9 +3,9 @@ use denote.RawPtr.{null_ptr}
 use Rattle.std.proofs.Common.{◌≡◌, ◌<◌, ◌^◌, lit≤, lit<, ℕ, zero, suc, Bool, true, false, Global, List, [], ◌∷◌, length, refl, ap, arith, replicate}
 use Rattle.std.specs.Prelude.{if◌then◌else◌, slice_index_or}
 use Rattle.std.proofs.lemmas.List.Elements.{All-from_recursion, All-map}
-use Rattle.sb_packet.specs.Rings.{ring_plan}
+use Rattle.sb_flow.specs.Rings.{ring_plan}
 use Rattle.sb_packet.specs.Scripts.{IsTransaction}
-use Rattle.sb_packet.specs.Traffic.{IsPlanned, has_close, item_accesses}
+use Rattle.sb_link.specs.Traffic.{IsPlanned, has_close, item_accesses}
 use Rattle.sb_node.proofs.Answering.{one_of}
 use Rattle.sb_host.specs.Asked.{asked_by, asked_packets, line_in}
 use Rattle.sb_host.specs.Hosts.{HostSide, IsWholeHost}

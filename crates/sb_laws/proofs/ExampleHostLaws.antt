@@ -4,8 +4,8 @@ use Rattle.std.specs.Prelude.{◌⊎◌, All, Some}
 use Rattle.sb_link.specs.declared.answers.Turn.TheVariants.{Done}
 use Rattle.sb_packet.specs.Cuts.{transaction_packets}
 use Rattle.sb_packet.specs.Outcomes.{host_outcomes}
-use Rattle.sb_packet.specs.Rings.{ring_budget, ring_plan}
-use Rattle.sb_packet.specs.Traffic.{IsPlanned, item_accesses}
+use Rattle.sb_flow.specs.Rings.{ring_budget, ring_plan}
+use Rattle.sb_link.specs.Traffic.{IsPlanned, item_accesses}
 use Rattle.sb_packet.specs.declared.transaction.Kind.TheVariants.{Write}
 use Rattle.sb_packet.specs.declared.transaction.Txn.{Txn}
 use Rattle.sb_node.specs.Sides.{has_ended, has_rest, is_drained, is_full}

@@ -3,14 +3,14 @@ use Rattle.std.proofs.Common.{◌≡◌, lit≤, ℕ, replicate, refl, [], ◌�
 use Rattle.std.specs.Prelude.{codes}
 use Rattle.sb_packet.specs.Networks.{NetHost, Network, at_host, at_router, at_device}
 use Rattle.sb_packet.specs.Journals.{journal_accesses}
-use Rattle.sb_packet.specs.Traffic.{item_accesses}
+use Rattle.sb_link.specs.Traffic.{item_accesses}
 use Rattle.sb_packet.specs.declared.entry.Entry.{Entry}
 use Rattle.sb_packet.specs.declared.packet.Packet.{Packet}
 use Rattle.sb_packet.specs.declared.item.Item.{Item}
 use Rattle.sb_packet.specs.declared.item.Item.TheVariants as items
 use Rattle.sb_packet.specs.declared.transaction.Kind.TheVariants.{Read, Write, Posted}
 use Rattle.sb_word.specs.declared.command.Op.TheVariants.{ReqWrPosted, RespRd, RespWr}
-use Rattle.sb_packet.proofs.ReportExamples.{page_at, plain_read, plain_write}
+use Rattle.sb_packet.proofs.ExampleRuns.{page_at, plain_read, plain_write}
 use Rattle.sb_laws.specs.Flows.{device_answers}
 
 -- eight bytes, and eight others

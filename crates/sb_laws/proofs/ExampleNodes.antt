@@ -2,8 +2,8 @@
 use Rattle.std.proofs.Common.{ℕ, List, [], length, None}
 use Rattle.sb_packet.specs.Memories.{memory_after}
 use Rattle.sb_packet.specs.Networks.{opening_memory}
-use Rattle.sb_packet.specs.Rings.{ring_plan}
-use Rattle.sb_packet.specs.Traffic.{has_close, item_accesses}
+use Rattle.sb_flow.specs.Rings.{ring_plan}
+use Rattle.sb_link.specs.Traffic.{has_close, item_accesses}
 use Rattle.sb_packet.specs.declared.entry.Entry.{Entry}
 use Rattle.sb_packet.specs.declared.item.Item.{Item}
 use Rattle.sb_link.specs.Ends.{Mark}

@@ -7,11 +7,12 @@ use Rattle.sb_link.proofs.InTurn.{appended_in_turn, nothing_in_turn}
 use Rattle.sb_packet.specs.Accesses.{accesses_of, message_accesses}
 use Rattle.sb_packet.specs.Journals.{is_request}
 use Rattle.sb_packet.specs.Messages.{message_of, message_span}
-use Rattle.sb_packet.specs.Plans.{RingPlan, is_allowed}
-use Rattle.sb_packet.specs.Prefixes.{IsPrefix}
-use Rattle.sb_packet.specs.Rings.{ring_plan}
+use Rattle.sb_link.specs.RingPlans.{RingPlan, is_allowed}
+use Rattle.sb_link.specs.Prefixes.{IsPrefix}
+use Rattle.sb_flow.specs.Rings.{ring_plan}
 use Rattle.sb_packet.specs.Soundness.{IsSound}
-use Rattle.sb_packet.specs.Traffic.{AreInTurn, IsCarriable, item_accesses, item_messages}
+use Rattle.sb_link.specs.Traffic.{AreInTurn, IsCarriable, item_accesses, item_messages}
+use Rattle.sb_packet.specs.declared.item.Item.{Item}
 use Rattle.sb_packet.specs.declared.item.Item.TheVariants as items
 use Rattle.sb_packet.specs.declared.packet.Packet.{Packet}
 use Rattle.sb_port.specs.Ports.{IsFit, IsSendable, offered_words}

@@ -4,7 +4,7 @@ use Rattle.std.specs.Prelude.{map, All, false, slice_get}
 use Rattle.std.specs.Option.{option_map_or}
 use Rattle.std.proofs.lemmas.List.Elements.{All-from_recursion}
 use Rattle.sb_packet.specs.Networks.{NetHost, has_address}
-use Rattle.sb_packet.specs.Ways.{aims_at, route_at, router_before, router_after, way_links}
+use Rattle.sb_flow.specs.Ways.{aims_at, route_at, router_before, router_after, way_links}
 use Rattle.sb_node.proofs.Answering.{one_of}
 use Rattle.sb_laws.specs.NetworkLayouts.{network_flows, network_requests, network_answers, network_layout}
 use Rattle.sb_laws.specs.NetworkStages.{network_stages}

@@ -4,10 +4,10 @@ use Rattle.std.specs.Prelude.{All, Option, drop, slice_index_or, sum_by}
 use Rattle.std.proofs.lemmas.List.Elements.{filter-append}
 use Rattle.sb_packet.specs.Accesses.{Access}
 use Rattle.sb_packet.specs.Messages.{message_of}
-use Rattle.sb_packet.specs.Plans.{NetFlow, goes_through}
-use Rattle.sb_packet.specs.Prefixes.{IsSubsequence}
-use Rattle.sb_packet.specs.Rings.{flow_table, ring_plan, ring_ways}
-use Rattle.sb_packet.specs.Traffic.{IsCarriable, has_close}
+use Rattle.sb_link.specs.RingPlans.{NetFlow, goes_through}
+use Rattle.sb_link.specs.Prefixes.{IsSubsequence}
+use Rattle.sb_flow.specs.Rings.{flow_table, ring_plan, ring_ways}
+use Rattle.sb_link.specs.Traffic.{IsCarriable, has_close}
 use Rattle.sb_packet.specs.declared.item.Item.TheVariants as items
 use Rattle.sb_packet.specs.declared.packet.Packet.{Packet}
 use Rattle.sb_link.proofs.Truths.{none_set, none_in_row}

@@ -2,9 +2,9 @@
 use Rattle.std.proofs.Common.{◌≡◌, ◌≤◌, ◌<◌, ◌+◌, lit≤, lit<, ℕ, zero, suc, true, List, [], ◌∷◌, ◌++◌, length, refl, subst, arith, Some}
 use Rattle.std.specs.Prelude.{All, sum_by}
 use Rattle.sb_packet.specs.Accesses.{Access}
-use Rattle.sb_packet.specs.Plans.{NetFlow, goes_through}
-use Rattle.sb_packet.specs.Prefixes.{IsSubsequence}
-use Rattle.sb_packet.specs.Rings.{ring_plan}
+use Rattle.sb_link.specs.RingPlans.{NetFlow, goes_through}
+use Rattle.sb_link.specs.Prefixes.{IsSubsequence}
+use Rattle.sb_flow.specs.Rings.{ring_plan}
 use Rattle.sb_port.specs.Ports.{PortSide}
 use Rattle.sb_node.proofs.Subsequences.{same_subsequence}
 use Rattle.sb_node.proofs.Answering.{one_of}

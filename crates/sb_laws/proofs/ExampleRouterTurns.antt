@@ -2,9 +2,9 @@
 use Rattle.std.proofs.Common.{◌≡◌, ◌<◌, lit≤, lit<, ℕ, zero, suc, true, false, [], refl, arith, inl, inr, Some, None}
 use Rattle.std.specs.Prelude.{All, slice_index_or}
 use Rattle.sb_link.specs.declared.answers.Turn.TheVariants.{Done}
-use Rattle.sb_packet.specs.Rings.{ring_plan}
+use Rattle.sb_flow.specs.Rings.{ring_plan}
 use Rattle.sb_packet.specs.declared.packet.Packet.{Packet}
-use Rattle.sb_packet.specs.Traffic.{has_close}
+use Rattle.sb_link.specs.Traffic.{has_close}
 use Rattle.sb_packet.proofs.FoundAnswers.{eq_below}
 use Rattle.sb_node.specs.Sides.{has_rest, is_full}
 use Rattle.sb_node.proofs.Answering.{one_of}

@@ -6,7 +6,7 @@ use Rattle.sb_packet.specs.Soundness.{IsSound}
 use Rattle.sb_packet.specs.Spans.{span_of}
 use Rattle.sb_packet.specs.Networks.{width_to}
 use Rattle.sb_packet.specs.Journals.{IsLawful}
-use Rattle.sb_packet.specs.Traffic.{has_close, item_accesses}
+use Rattle.sb_link.specs.Traffic.{has_close, item_accesses}
 use Rattle.sb_packet.specs.declared.item.Item.{Item}
 use Rattle.sb_node.proofs.Answering.{one_of}
 use Rattle.sb_device.specs.Served.{AreSound}

@@ -1,6 +1,6 @@
 -- The laws of ports and rings at the example's: at each ring of its network, fresh, halfway and at the end; and in its last round.
 use Rattle.std.proofs.Common.{◌≡◌, ◌≤◌, ◌<◌, ℕ, zero, suc, ◌+◌, ◌*◌, true, refl, arith, length}
-use Rattle.sb_packet.specs.Rings.{ring_plan}
+use Rattle.sb_flow.specs.Rings.{ring_plan}
 use Rattle.sb_node.specs.Sides.{port_moves, is_full, has_rest}
 use Rattle.sb_laws.specs.Moments.{Moment}
 use Rattle.sb_laws.specs.Promises.{IsLink, IsPort}

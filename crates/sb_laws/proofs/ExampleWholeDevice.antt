@@ -4,7 +4,7 @@ use Rattle.std.specs.Prelude.{drop, false, true, slice_index_or}
 use Rattle.std.proofs.lemmas.List.Elements.{All-nil, All-from_recursion}
 use Rattle.sb_packet.specs.Memories.{memory_after}
 use Rattle.sb_packet.specs.Networks.{opening_memory}
-use Rattle.sb_packet.specs.Rings.{ring_plan}
+use Rattle.sb_flow.specs.Rings.{ring_plan}
 use Rattle.sb_link.proofs.Truths.{none_set, none_in_row}
 use Rattle.sb_device.specs.Devices.{IsWholeDevice}
 use Rattle.sb_device.specs.Plans.{IsPlannedFor}

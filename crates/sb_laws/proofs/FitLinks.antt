@@ -8,7 +8,7 @@ use Rattle.std.proofs.lemmas.List.Elements.{All-nil, All-cons, All-head, All-wea
 use Rattle.std.proofs.lemmas.List.Kept.{AllPairs-cons}
 use Rattle.sb_packet.specs.Networks.{NetPlace, NetLink, Network, at_host, at_router, at_device, leads_to}
 use Rattle.sb_packet.specs.Sides.{leaves_from}
-use Rattle.sb_packet.specs.Ways.{is_some_number}
+use Rattle.sb_flow.specs.Ways.{is_some_number, router_at_end}
 use Rattle.sb_packet.proofs.Lists.{All-left, All-right}
 use Rattle.sb_flow.specs.Ends.{joins, keeps_sides, same_device, same_host, share_an_end, is_fit_link, unfit_behind, unfit_link}
 use Rattle.sb_laws.specs.NetworkWays.{is_link_to}

@@ -8,7 +8,7 @@ use Rattle.sb_packet.specs.Memories.{access_answer}
 use Rattle.sb_packet.specs.Networks.{Network, opening_memory}
 use Rattle.sb_packet.specs.Journals.{journal_accesses}
 use Rattle.sb_packet.specs.Answers.{answer_at_first, access_reply}
-use Rattle.sb_packet.specs.Plans.{NetFlow}
+use Rattle.sb_link.specs.RingPlans.{NetFlow}
 use Rattle.sb_packet.specs.declared.entry.Entry.{Entry}
 use Rattle.sb_packet.proofs.Lists.{All-kept}
 use Rattle.sb_laws.specs.Flows.{is_of, words_of_flow, words_of_script, asked_words, given_to, replies_to}

@@ -15,10 +15,10 @@ use Rattle.sb_packet.specs.Journals.{device_address, is_at, is_request, journal_
 use Rattle.sb_packet.specs.Memories.{MemoryState, access_answer, answer_by}
 use Rattle.sb_packet.specs.Networks.{NetHost, Network, device_at, opening_memory}
 use Rattle.sb_packet.specs.Outcomes.{Outcome, host_outcomes, outcome_of}
-use Rattle.sb_packet.specs.Plans.{NetFlow}
-use Rattle.sb_packet.specs.Rings.{is_answered}
+use Rattle.sb_link.specs.RingPlans.{NetFlow}
+use Rattle.sb_flow.specs.Rings.{is_answered}
 use Rattle.sb_packet.specs.Scripts.{IsTransaction, request_of, script_accesses, transaction_accesses, transaction_message}
-use Rattle.sb_packet.specs.Traffic.{item_accesses}
+use Rattle.sb_link.specs.Traffic.{item_accesses}
 use Rattle.sb_packet.specs.declared.entry.Entry.{Entry}
 use Rattle.sb_packet.specs.declared.transaction.Kind.{Kind}
 use Rattle.sb_packet.specs.declared.transaction.Kind.TheVariants.{Read, Write, Posted, Atomic}

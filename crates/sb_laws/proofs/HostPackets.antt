@@ -14,11 +14,11 @@ use Rattle.sb_packet.specs.Cuts.{cut_parts}
 use Rattle.sb_packet.specs.Journals.{is_request}
 use Rattle.sb_packet.specs.Messages.{Message, message_span}
 use Rattle.sb_packet.specs.Networks.{NetDevice, NetHost, Network, device_at, device_size, has_address}
-use Rattle.sb_packet.specs.Plans.{AddressRange, device_ranges, goes_through, holds_span}
-use Rattle.sb_packet.specs.Rings.{is_upward, network_ranges, range_of, ring_flows, ring_plan}
+use Rattle.sb_link.specs.RingPlans.{AddressRange, device_ranges, goes_through, holds_span}
+use Rattle.sb_flow.specs.Rings.{is_upward, network_ranges, range_of, ring_flows, ring_plan}
 use Rattle.sb_packet.specs.Scripts.{IsTransaction, transaction_message}
 use Rattle.sb_packet.specs.Soundness.{device_place}
-use Rattle.sb_packet.specs.Traffic.{IsPlanned}
+use Rattle.sb_link.specs.Traffic.{IsPlanned}
 use Rattle.sb_packet.specs.declared.transaction.Txn.{Txn}
 use Rattle.sb_packet.proofs.PacketsOfTransactions.{transaction_is_even}
 use Rattle.sb_flow.proofs.AcceptedLinks.{got_below}

@@ -10,10 +10,10 @@ use Rattle.std.proofs.lemmas.Bool.{and_from}
 use Rattle.sb_packet.specs.Accesses.{Access, access_at}
 use Rattle.sb_packet.specs.Journals.{is_at, is_request}
 use Rattle.sb_packet.specs.Networks.{NetHost, Network, device_at}
-use Rattle.sb_packet.specs.Plans.{NetFlow}
-use Rattle.sb_packet.specs.Rings.{ring_budget}
+use Rattle.sb_link.specs.RingPlans.{NetFlow}
+use Rattle.sb_flow.specs.Rings.{ring_budget}
 use Rattle.sb_packet.specs.Scripts.{script_accesses, transaction_accesses, transaction_message}
-use Rattle.sb_packet.specs.Ways.{network_ways}
+use Rattle.sb_flow.specs.Ways.{network_ways}
 use Rattle.sb_packet.proofs.Lists.{All-joined, All-kept, All-made, filter_all, filter_none}
 use Rattle.sb_link.proofs.Truths.{same_number}
 use Rattle.sb_host.specs.Asked.{asked_accesses, asked_by}

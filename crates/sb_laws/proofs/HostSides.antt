@@ -9,18 +9,18 @@ use Rattle.sb_link.specs.declared.answers.Turn.{Turn}
 use Rattle.sb_link.specs.declared.answers.Turn.TheVariants.{Moved}
 use Rattle.sb_packet.specs.Networks.{NetHost, Network, device_at}
 use Rattle.sb_packet.specs.Scripts.{IsTransaction, transaction_accesses, transaction_message, script_accesses}
-use Rattle.sb_packet.specs.Traffic.{has_close, item_accesses}
-use Rattle.sb_packet.specs.Ways.{first_link}
+use Rattle.sb_link.specs.Traffic.{has_close, item_accesses}
+use Rattle.sb_flow.specs.Ways.{first_link}
 use Rattle.sb_packet.specs.declared.transaction.Txn.{Txn}
 use Rattle.sb_packet.proofs.Lists.{All-made, filter_all, filter_none}
-use Rattle.sb_packet.specs.Plans.{RingPlan}
+use Rattle.sb_link.specs.RingPlans.{RingPlan}
 use Rattle.sb_port.specs.Ports.{IsFit, PortSide, offered_words}
 use Rattle.sb_node.specs.Sides.{RingSide, has_ended, has_rest, is_drained, is_full, received_words}
 use Rattle.sb_host.specs.Asked.{accesses_from, asked_accesses, asked_by, line_in, sent_accesses}
 use Rattle.sb_host.specs.Hosts.{HostSide, IsHostTurn, IsKeptHost, IsWholeHost}
 use Rattle.sb_host.specs.Rows.{IsTable}
 use Rattle.sb_host.specs.Steps.{IsIdleHost}
-use Rattle.sb_packet.specs.Prefixes.{IsPrefix}
+use Rattle.sb_link.specs.Prefixes.{IsPrefix}
 use Rattle.sb_laws.specs.Flows.{aimed_script}
 use Rattle.sb_laws.specs.HostSides.{IsHostBuiltFor, IsHostOf}
 use Rattle.sb_laws.specs.Layouts.{HasScripts, Layout}

@@ -6,8 +6,8 @@ use Rattle.std.proofs.lemmas.List.{get_or-map, length-map, reverse-append}
 use Rattle.std.proofs.lemmas.List.Elements.{All-map}
 use Rattle.std.proofs.lemmas.Option.{get_or_from_slice_get}
 use Rattle.sb_packet.specs.Networks.{NetHost, Network}
-use Rattle.sb_packet.specs.Plans.{NetFlow}
-use Rattle.sb_packet.specs.Ways.{NetWay, first_link, flow_links, links_from, network_ways, next_link, way_links}
+use Rattle.sb_link.specs.RingPlans.{NetFlow}
+use Rattle.sb_flow.specs.Ways.{NetWay, first_link, flow_links, links_from, network_ways, next_link, way_links}
 use Rattle.sb_host.specs.Hosts.{HostSide}
 use Rattle.sb_flow.proofs.AcceptedLinks.{got_below}
 use Rattle.sb_laws.specs.Courses.{last_of}

@@ -2,9 +2,9 @@
 use Rattle.std.proofs.Common.{◌≤◌, List, [], ◌∷◌, ◌++◌, length, refl, sym, ap, ◌∙◌, arith, subst, append_assoc, append-nil, length-append}
 use Rattle.std.proofs.lemmas.List.Concat.{flat_map-append}
 use Rattle.sb_packet.specs.Accesses.{accesses_of_item}
-use Rattle.sb_packet.specs.Plans.{RingPlan}
-use Rattle.sb_packet.specs.Prefixes.{IsPrefix}
-use Rattle.sb_packet.specs.Traffic.{item_accesses, MayFollow, AreInTurn}
+use Rattle.sb_link.specs.RingPlans.{RingPlan}
+use Rattle.sb_link.specs.Prefixes.{IsPrefix}
+use Rattle.sb_link.specs.Traffic.{item_accesses, MayFollow, AreInTurn}
 use Rattle.sb_packet.specs.declared.item.Item.{Item}
 use Rattle.sb_laws.specs.Moments.{ClosesLast}
 

@@ -9,10 +9,10 @@ use Rattle.std.proofs.lemmas.List.Elements.{All-head, All-tail, All-weaker, All-
 use Rattle.sb_packet.specs.Accesses.{Access}
 use Rattle.sb_packet.specs.Networks.{Network, device_at, has_address}
 use Rattle.sb_packet.specs.Journals.{journal_accesses, device_address, is_request}
-use Rattle.sb_packet.specs.Plans.{NetFlow}
+use Rattle.sb_link.specs.RingPlans.{NetFlow}
 use Rattle.sb_packet.specs.declared.entry.Entry.{Entry}
 use Rattle.sb_packet.proofs.Lists.{filter_none, All-kept, AllPairs-kept}
-use Rattle.sb_packet.specs.Prefixes.{IsPrefix}
+use Rattle.sb_link.specs.Prefixes.{IsPrefix}
 use Rattle.sb_laws.specs.Flows.{is_of, words_of_flow, is_among_flows, words_of_script, aimed_script, asked_words}
 use Rattle.sb_laws.specs.Moments.{Moment, arrived}
 use Rattle.sb_laws.specs.Courses.{way_rings, goes_over, flows_over, is_of_ring}
@@ -26,6 +26,7 @@ use Rattle.sb_laws.proofs.Budgets.{none_of_others}
 use Rattle.sb_laws.proofs.Ways.{at_number}
 use Rattle.sb_laws.proofs.Courses.{prefix_law}
 use Rattle.sb_laws.proofs.ScriptFacts.{script_asks, asked_rises, asked_told, own_script}
+use Rattle.sb_host.specs.Places.{asked_of}
 
 -- what passes one test passes another: so the first keeps of what the second keeps what it keeps of all
 filter_within : {A : Type 0} (p q : A → Bool) (xs : List A) → All (λ x. p x ≡ true → q x ≡ true) xs → filter p (filter q xs) ≡ filter p xs

@@ -3,7 +3,7 @@ use Rattle.std.proofs.Common.{◌≡◌, ◌<◌, ℕ, true, List}
 use Rattle.std.specs.Prelude.{get_or}
 use Rattle.std.proofs.lemmas.List.Elements.{All-weaker}
 use Rattle.sb_packet.specs.Networks.{Network}
-use Rattle.sb_packet.specs.Traffic.{has_close}
+use Rattle.sb_link.specs.Traffic.{has_close}
 use Rattle.sb_packet.specs.declared.entry.Entry.{Entry}
 use Rattle.sb_laws.specs.Courses.{way_rings}
 use Rattle.sb_laws.specs.Layouts.{Layout, IsLayout}

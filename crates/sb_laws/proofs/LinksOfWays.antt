@@ -6,7 +6,7 @@ use Rattle.std.specs.Option.{option_map_or}
 use Rattle.std.proofs.lemmas.Bool.Decides.{nat_tests}
 use Rattle.std.proofs.lemmas.List.Elements.{All-nil, All-cons, All-head, All-tail}
 use Rattle.sb_packet.specs.Networks.{Network, NetLink, NetPlace, at_host, at_router, at_device, leads_to}
-use Rattle.sb_packet.specs.Ways.{router_of, router_before, router_after}
+use Rattle.sb_flow.specs.Ways.{router_at_end, router_before, router_after}
 use Rattle.sb_laws.specs.Courses.{last_of}
 use Rattle.sb_laws.specs.NetworkWays.{is_link_to, IsWayTo}
 use Rattle.sb_laws.proofs.Ways.{at_number}
@@ -24,7 +24,7 @@ in_cases P k x rest e first later = by_test (x == k) refl e
     by_test false t e = later e
 
 -- a link to a device leads to no router, and to no other device
-not_to_router : (d r : ℕ) (link : NetLink) → leads_to d link ≡ true → router_of link.to ≡ Some r → ⊥
+not_to_router : (d r : ℕ) (link : NetLink) → leads_to d link ≡ true → router_at_end link.to ≡ Some r → ⊥
 not_to_router d r link e f = by_end link.to refl
   where
     by_end : (p : NetPlace) → link.to ≡ p → ⊥
@@ -44,7 +44,7 @@ module _ (network : Network) where
   pub device_or_router : (d k r : ℕ) → is_link_to network d k ≡ true → router_after network k ≡ Some r → ⊥
   device_or_router d k r e f = by_link (slice_get network.links k) e f
     where
-      by_link : (o : Option NetLink) → option_map_or (leads_to d) o false ≡ true → option_and_then (λ link. router_of link.to) o ≡ Some r → ⊥
+      by_link : (o : Option NetLink) → option_map_or (leads_to d) o false ≡ true → option_and_then (λ link. router_at_end link.to) o ≡ Some r → ⊥
       by_link None e f = cc
       by_link (Some link) e f = not_to_router d r link e f
 

@@ -11,9 +11,9 @@ use Rattle.sb_packet.specs.Messages.{Message, message_span}
 use Rattle.sb_packet.specs.Soundness.{device_place}
 use Rattle.sb_packet.specs.Networks.{Network, device_at}
 use Rattle.sb_packet.specs.Journals.{is_request, device_address}
-use Rattle.sb_packet.specs.Plans.{AddressRange, NetFlow, holds_span, goes_home, goes_through, device_ranges, message_flow}
-use Rattle.sb_packet.specs.Ways.{NetWay}
-use Rattle.sb_packet.specs.Rings.{network_ranges, ring_flows, ring_ways}
+use Rattle.sb_link.specs.RingPlans.{AddressRange, NetFlow, holds_span, goes_home, goes_through, device_ranges, message_flow}
+use Rattle.sb_flow.specs.Ways.{NetWay}
+use Rattle.sb_flow.specs.Rings.{network_ranges, ring_flows, ring_ways}
 use Rattle.sb_packet.proofs.Lists.{All-made}
 use Rattle.sb_packet.proofs.ReplyAddresses.{word_within}
 use Rattle.sb_flow.proofs.LinkMarks.{list_any-map}

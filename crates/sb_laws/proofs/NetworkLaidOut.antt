@@ -7,9 +7,9 @@ use Rattle.std.proofs.lemmas.List.Elements.{All-nil, All-head, All-tail, All-map
 use Rattle.std.proofs.lemmas.List.{get_or-map, length-map}
 use Rattle.std.proofs.lemmas.List.FromFn.{length-range_with_len, get_or-range_with_len}
 use Rattle.sb_packet.specs.Networks.{NetHost, Network}
-use Rattle.sb_packet.specs.Plans.{NetFlow}
-use Rattle.sb_packet.specs.Ways.{network_ways, flow_links, is_some_number, router_before, router_after}
-use Rattle.sb_packet.specs.Rings.{is_upward}
+use Rattle.sb_link.specs.RingPlans.{NetFlow}
+use Rattle.sb_flow.specs.Ways.{network_ways, flow_links, is_some_number, router_before, router_after}
+use Rattle.sb_flow.specs.Rings.{is_upward}
 use Rattle.sb_flow.proofs.WayCourses.{some_number-is}
 use Rattle.sb_laws.specs.Courses.{way_rings, goes_over, flows_over, IsOneWay, last_of}
 use Rattle.sb_laws.specs.Layouts.{IsLayout, ring_home}
@@ -19,6 +19,7 @@ use Rattle.sb_laws.proofs.Ways.{at_last}
 use Rattle.sb_laws.proofs.LinksOfWays.{is_in, links_there, last_leads, only_to_device, one_into, one_out_of}
 use Rattle.sb_laws.proofs.LinksToDevices.{link_into_leads}
 use Rattle.sb_laws.proofs.RingsOfWays.{ring_by_ring, ring_by_ring_back, is_in-reverse, All-reverse, reversed, last_is_in, in_requests, in_answers, once_among}
+use Rattle.sb_flow.specs.Tables.{way_of}
 
 -- the way of a flow, link by link
 pub record FlowWay (network : Network) (f : NetFlow) : Type 0 where

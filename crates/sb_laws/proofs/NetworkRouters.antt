@@ -4,13 +4,12 @@ use Rattle.std.specs.Prelude.{filter, map, AllPairs, Option, Some, get_or}
 use Rattle.std.specs.List.{range_with_len}
 use Rattle.std.proofs.lemmas.List.Elements.{All-filter, All-map, All-weaker, filter_passes}
 use Rattle.sb_packet.specs.Networks.{Network}
-use Rattle.sb_packet.specs.Plans.{RingPlan}
-use Rattle.sb_packet.specs.Rings.{link_ways, ring_budget}
-use Rattle.sb_packet.specs.Ways.{is_some_number, router_after, router_before}
+use Rattle.sb_link.specs.RingPlans.{RingPlan}
+use Rattle.sb_flow.specs.Rings.{link_ways, ring_budget}
+use Rattle.sb_flow.specs.Ways.{is_some_number, router_after, router_before}
 use Rattle.sb_flow.proofs.WayCourses.{some_number-is}
 use Rattle.sb_router.specs.Forwarding.{IsLaid}
 use Rattle.sb_port.specs.Ports.{PortSide}
-use Rattle.sb_router.specs.Lanes.{}
 use Rattle.sb_router.specs.RouteOf.{route_of}
 use Rattle.sb_router.specs.Routers.{DirectionSide}
 use Rattle.sb_laws.specs.Courses.{Course, budget_over, flows_over, goes_over}

@@ -15,10 +15,10 @@ use Rattle.sb_packet.specs.Messages.{Message, message_of, message_span}
 use Rattle.sb_packet.specs.Soundness.{device_place}
 use Rattle.sb_packet.specs.Networks.{NetDevice, Network, device_at, device_size, has_address}
 use Rattle.sb_packet.specs.Journals.{is_request, device_address}
-use Rattle.sb_packet.specs.Plans.{AddressRange, NetFlow, RingFlows, holds_span, goes_home, goes_through, is_allowed, device_ranges}
-use Rattle.sb_packet.specs.Traffic.{item_accesses, MayFollow, AreInTurn}
-use Rattle.sb_packet.specs.Ways.{NetWay}
-use Rattle.sb_packet.specs.Rings.{range_of, network_ranges, flow_table, ring_flows, ring_plan, ring_ways}
+use Rattle.sb_link.specs.RingPlans.{AddressRange, NetFlow, RingFlows, holds_span, goes_home, goes_through, is_allowed, device_ranges}
+use Rattle.sb_link.specs.Traffic.{item_accesses, MayFollow, AreInTurn}
+use Rattle.sb_flow.specs.Ways.{NetWay}
+use Rattle.sb_flow.specs.Rings.{range_of, network_ranges, flow_table, ring_flows, ring_plan, ring_ways}
 use Rattle.sb_packet.specs.declared.item.Item.{Item}
 use Rattle.sb_packet.specs.declared.item.Item.TheVariants as items
 use Rattle.sb_packet.proofs.Lists.{All-made}

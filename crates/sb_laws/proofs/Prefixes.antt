@@ -4,7 +4,7 @@ use Rattle.std.specs.Prelude.{filter, All, AllPairs}
 use Rattle.std.proofs.lemmas.List.{append-nil, get_or_append_left}
 use Rattle.std.proofs.lemmas.List.Elements.{filter-append}
 use Rattle.sb_packet.proofs.Lists.{All-left}
-use Rattle.sb_packet.specs.Prefixes.{IsPrefix, IsSubsequence, none, kept, left_out}
+use Rattle.sb_link.specs.Prefixes.{IsPrefix, IsSubsequence, none, kept, left_out}
 use Rattle.sb_node.proofs.Subsequences.{front_of}
 
 pub same_prefix : {A : Type 0} {xs ys : List A} → xs ≡ ys → IsPrefix xs ys

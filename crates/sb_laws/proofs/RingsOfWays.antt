@@ -9,8 +9,8 @@ use Rattle.std.proofs.lemmas.List.Elements.{All-nil, All-cons, All-map, All-appe
 use Rattle.std.proofs.lemmas.List.Folds.{list_any-append}
 use Rattle.std.proofs.lemmas.List.Kept.{AllPairs-cons}
 use Rattle.sb_packet.specs.Networks.{Network}
-use Rattle.sb_packet.specs.Plans.{NetFlow}
-use Rattle.sb_packet.specs.Ways.{flow_links}
+use Rattle.sb_link.specs.RingPlans.{NetFlow}
+use Rattle.sb_flow.specs.Ways.{flow_links}
 use Rattle.sb_laws.specs.Courses.{last_of}
 use Rattle.sb_laws.specs.NetworkLayouts.{request_ring, answer_ring, links_back, rings_there, rings_back}
 use Rattle.sb_laws.proofs.FlowMembers.{not_true}

@@ -4,9 +4,9 @@ use Rattle.std.specs.Prelude.{reverse, All, Option, Some, None}
 use Rattle.std.specs.Option.{option_map_or}
 use Rattle.std.proofs.lemmas.List.Elements.{All-map, All-weaker}
 use Rattle.sb_packet.specs.Networks.{Network}
-use Rattle.sb_packet.specs.Plans.{NetFlow}
-use Rattle.sb_packet.specs.Ways.{router_before, router_after}
-use Rattle.sb_packet.specs.Rings.{is_upward}
+use Rattle.sb_link.specs.RingPlans.{NetFlow}
+use Rattle.sb_flow.specs.Ways.{router_before, router_after}
+use Rattle.sb_flow.specs.Rings.{is_upward}
 use Rattle.sb_laws.specs.Endings.{IsWithin}
 use Rattle.sb_laws.specs.NetworkLayouts.{network_flows, request_ring, answer_ring, ring_count, network_layout}
 use Rattle.sb_laws.specs.NetworkStages.{stage_before, stage_after, last_stage, answer_stage, stage_back_before, stage_back_after, network_stages}

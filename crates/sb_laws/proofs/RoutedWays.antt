@@ -8,7 +8,7 @@ use Rattle.std.proofs.lemmas.List.Elements.{All-map, All-filter, All-weaker, fil
 use Rattle.std.proofs.lemmas.Option.{slice_get-get_or}
 use Rattle.std.proofs.lemmas.List.Kept.{AllPairs-filter}
 use Rattle.sb_packet.specs.Networks.{NetHost, Network}
-use Rattle.sb_packet.specs.Ways.{NetWay, aims_at, next_link, links_from, way_links, host_ways, network_ways, is_way_of, flow_links, router_before}
+use Rattle.sb_flow.specs.Ways.{NetWay, aims_at, next_link, links_from, way_links, host_ways, network_ways, is_way_of, flow_links, router_before}
 use Rattle.sb_packet.proofs.Lists.{All-joined, AllPairs-head, AllPairs-tail}
 use Rattle.sb_laws.specs.NetworkLayouts.{way_flow}
 use Rattle.sb_laws.specs.NetworkWays.{IsWayTo}

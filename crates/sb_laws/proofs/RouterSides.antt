@@ -9,9 +9,9 @@ use Rattle.sb_link.specs.declared.answers.Turn.{Turn}
 use Rattle.sb_link.specs.declared.answers.Turn.TheVariants.{Moved}
 use Rattle.sb_packet.specs.Accesses.{Access}
 use Rattle.sb_packet.specs.Networks.{Network}
-use Rattle.sb_packet.specs.Plans.{NetFlow}
-use Rattle.sb_packet.specs.Prefixes.{IsSubsequence}
-use Rattle.sb_packet.specs.Traffic.{has_close, item_accesses}
+use Rattle.sb_link.specs.RingPlans.{NetFlow}
+use Rattle.sb_link.specs.Prefixes.{IsSubsequence}
+use Rattle.sb_link.specs.Traffic.{has_close, item_accesses}
 use Rattle.sb_packet.specs.declared.packet.Packet.{Packet}
 use Rattle.sb_node.specs.Sides.{is_drained, received_words}
 use Rattle.sb_router.specs.Forwarding.{HasForwarded, Passes, popped_for}

@@ -7,9 +7,9 @@ use Rattle.std.proofs.lemmas.List.{get_or-map, length-map}
 use Rattle.std.proofs.lemmas.List.FromFn.{get_or-range_with_len, length-range_with_len}
 use Rattle.std.proofs.lemmas.Bool.{and_parts}
 use Rattle.sb_packet.specs.Networks.{Network}
-use Rattle.sb_packet.specs.Plans.{NetFlow, RingPlan, goes_through}
-use Rattle.sb_packet.specs.Rings.{flow_table, ring_flows, ring_plan, ring_ways}
-use Rattle.sb_packet.specs.Ways.{NetWay}
+use Rattle.sb_link.specs.RingPlans.{NetFlow, RingPlan, goes_through}
+use Rattle.sb_flow.specs.Rings.{flow_table, ring_flows, ring_plan, ring_ways}
+use Rattle.sb_flow.specs.Ways.{NetWay}
 use Rattle.sb_flow.proofs.LinkMarks.{list_any-map}
 use Rattle.sb_router.specs.Forwarding.{HasForwarded, Passes, Words}
 use Rattle.sb_port.specs.Ports.{PortSide}

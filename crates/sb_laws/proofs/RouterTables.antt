@@ -10,9 +10,9 @@ use Rattle.std.proofs.lemmas.List.Elements.{All-contains, All-contains_itself, A
 use Rattle.std.proofs.lemmas.List.Kept.{AllPairs-filter}
 use Rattle.std.proofs.lemmas.Option.{slice_get-get_or}
 use Rattle.sb_packet.specs.Networks.{NetHost, Network}
-use Rattle.sb_packet.specs.Plans.{NetFlow, RingPlan, goes_through}
-use Rattle.sb_packet.specs.Rings.{has_link, link_ways, ring_plan, ring_ways}
-use Rattle.sb_packet.specs.Ways.{NetWay, flow_links, is_some_number, is_way_of, network_ways, router_after, router_before}
+use Rattle.sb_link.specs.RingPlans.{NetFlow, RingPlan, goes_through}
+use Rattle.sb_flow.specs.Rings.{has_link, link_ways, ring_plan, ring_ways}
+use Rattle.sb_flow.specs.Ways.{NetWay, flow_links, is_some_number, is_way_of, network_ways, router_after, router_before}
 use Rattle.sb_port.specs.Ports.{PortSide}
 use Rattle.sb_flow.proofs.WayCourses.{some_number-is}
 use Rattle.sb_router.specs.Lanes.{no_port, outlet_at}

@@ -5,9 +5,9 @@ use Rattle.std.proofs.lemmas.Bool.Decides.{nat_tests}
 use Rattle.std.proofs.lemmas.List.{reverse-append}
 use Rattle.std.proofs.lemmas.List.Elements.{All-contains, All-head, All-map, All-weaker}
 use Rattle.sb_packet.specs.Networks.{NetHost, Network}
-use Rattle.sb_packet.specs.Plans.{NetFlow, goes_through}
-use Rattle.sb_packet.specs.Rings.{link_ways, ring_flows}
-use Rattle.sb_packet.specs.Ways.{is_some_number, network_ways, router_after, router_before}
+use Rattle.sb_link.specs.RingPlans.{NetFlow, goes_through}
+use Rattle.sb_flow.specs.Rings.{link_ways, ring_flows}
+use Rattle.sb_flow.specs.Ways.{is_some_number, network_ways, router_after, router_before}
 use Rattle.sb_router.specs.Routers.{DirectionSide}
 use Rattle.sb_laws.specs.Courses.{AlongWay, flows_over, goes_over, last_of}
 use Rattle.sb_laws.specs.Moments.{Moment}

@@ -10,7 +10,9 @@ use Rattle.sb_packet.specs.Accesses.{Access, access_at}
 use Rattle.sb_packet.specs.Networks.{NetHost, Network}
 use Rattle.sb_packet.specs.Scripts.{transaction_message, transaction_accesses, script_accesses}
 use Rattle.sb_packet.specs.Journals.{is_request, flow_part}
-use Rattle.sb_packet.specs.Plans.{NetFlow}
+use Rattle.sb_link.specs.RingPlans.{NetFlow}
+use Rattle.sb_packet.specs.declared.transaction.Kind.{Kind}
+use Rattle.sb_packet.specs.declared.transaction.Kind.TheVariants.{Read, Write, Posted, Atomic}
 use Rattle.sb_packet.proofs.Lists.{All-made, All-joined, AllPairs-head, AllPairs-tail}
 use Rattle.sb_packet.proofs.ReplyAddresses.{reply_addresses_rise, reply_addresses_tell}
 use Rattle.sb_link.proofs.Truths.{same_number}

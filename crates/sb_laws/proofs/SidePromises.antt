@@ -5,9 +5,9 @@ use Rattle.std.proofs.lemmas.Bool.Decides.{nat_tests}
 use Rattle.std.proofs.lemmas.Bool.{or_parts}
 use Rattle.sb_link.specs.Ends.{HaveMet}
 use Rattle.sb_packet.specs.Messages.{Message}
-use Rattle.sb_packet.specs.Prefixes.{IsPrefix}
+use Rattle.sb_link.specs.Prefixes.{IsPrefix}
 use Rattle.sb_packet.specs.Soundness.{IsSound}
-use Rattle.sb_packet.specs.Traffic.{has_close, item_accesses, item_messages, AreInTurn}
+use Rattle.sb_link.specs.Traffic.{has_close, item_accesses, item_messages, AreInTurn}
 use Rattle.sb_packet.specs.declared.item.Item.{Item}
 use Rattle.sb_port.specs.Waiting.{some_owed}
 use Rattle.sb_port.specs.Ports.{IsFit, PortSide, PortState, owes}

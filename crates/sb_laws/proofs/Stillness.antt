@@ -2,7 +2,7 @@
 use Rattle.std.proofs.Common.{◌≡◌, ◌≤◌, ◌<◌, ℕ, zero, suc, ◌+◌, Bool, true, false, ◌⊎◌, inl, inr, refl, ap, ◌∙◌, arith, length}
 use Rattle.std.specs.Prelude.{Option, Some, None}
 use Rattle.std.proofs.lemmas.Bool.{cases_lt}
-use Rattle.sb_packet.specs.Traffic.{has_close}
+use Rattle.sb_link.specs.Traffic.{has_close}
 use Rattle.sb_laws.specs.Stages.{Stages}
 use Rattle.sb_laws.specs.Standstills.{RoundEnd, is_closed, is_ended, IsTrueRing, IsReceiverBlocked, IsStandstill}
 use Rattle.sb_laws.specs.Endings.{IsQuietSender, IsQuietReceiver, IsFinished, IsHostWaiting}

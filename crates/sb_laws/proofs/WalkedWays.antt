@@ -3,7 +3,7 @@ use Rattle.std.proofs.Common.{◌≡◌, ◌≤◌, ◌<◌, ℕ, zero, suc, ◌
 use Rattle.std.specs.Prelude.{All, Option, Some, None, option_and_then}
 use Rattle.std.proofs.lemmas.List.Elements.{All-nil, All-cons, All-head, All-tail, All-weaker}
 use Rattle.sb_packet.specs.Networks.{Network}
-use Rattle.sb_packet.specs.Ways.{route_at, router_before, router_after, next_link, links_from}
+use Rattle.sb_flow.specs.Ways.{route_at, router_before, router_after, next_link, links_from}
 use Rattle.sb_flow.proofs.Walks.{links_from-None}
 use Rattle.sb_laws.specs.NetworkWays.{IsWayTo}
 use Rattle.sb_laws.specs.Routed.{LeadsOn, IsRoute, IsRouted}

@@ -10,10 +10,10 @@ use Rattle.sb_packet.specs.Memories.{MemoryState, access_step, access_answer}
 use Rattle.sb_packet.specs.Networks.{Network, device_at, opening_memory}
 use Rattle.sb_packet.specs.Journals.{journal_accesses, is_request}
 use Rattle.sb_packet.specs.Answers.{answer_at_first, access_reply, answer_from}
-use Rattle.sb_packet.specs.Plans.{NetFlow}
+use Rattle.sb_link.specs.RingPlans.{NetFlow}
 use Rattle.sb_packet.specs.declared.entry.Entry.{Entry}
 use Rattle.sb_packet.proofs.Lists.{filter_all}
-use Rattle.sb_packet.specs.Rings.{is_answered}
+use Rattle.sb_flow.specs.Rings.{is_answered}
 use Rattle.sb_laws.specs.Flows.{is_of, words_of_flow, words_of_script, asked_words, answered_of, device_answers, given_to, replies_to}
 use Rattle.sb_laws.specs.Moments.{Moment}
 use Rattle.sb_laws.specs.Courses.{flows_over, budget_over, is_of_ring, goes_over, AlongWay}
@@ -31,6 +31,7 @@ use Rattle.sb_laws.proofs.Courses.{all_sound, whole_law, ring_whole_law}
 use Rattle.sb_laws.proofs.ScriptFacts.{asked_asks, own_script}
 use Rattle.sb_laws.proofs.Answering.{given, IsAnswerOf, answer_is, flow_answers_found, answers_are_few}
 use Rattle.sb_laws.proofs.Journals.{request_course, at_device, each_flow, history, journal_differs}
+use Rattle.sb_host.specs.Places.{asked_of}
 
 -- what holds of each word holds of its answer, so of all answers
 pub All-given : (P : Access → Type 0) → ((m : MemoryState) (a b : Access) → access_answer m a ≡ Some b → P a → P b) → (m : MemoryState) (list : List Access) → All P list → All P (given m list)

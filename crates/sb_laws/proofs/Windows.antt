@@ -8,11 +8,11 @@ use Rattle.sb_packet.specs.Accesses.{Access}
 use Rattle.sb_packet.specs.Memories.{MemoryState, access_step, access_answer}
 use Rattle.sb_packet.specs.Networks.{Network, opening_memory}
 use Rattle.sb_packet.specs.Journals.{journal_accesses, is_request}
-use Rattle.sb_packet.specs.Plans.{NetFlow}
-use Rattle.sb_packet.specs.Traffic.{item_accesses}
+use Rattle.sb_link.specs.RingPlans.{NetFlow}
+use Rattle.sb_link.specs.Traffic.{item_accesses}
 use Rattle.sb_packet.specs.declared.entry.Entry.{Entry}
 use Rattle.sb_packet.proofs.Lists.{All-kept}
-use Rattle.sb_packet.specs.Rings.{is_answered}
+use Rattle.sb_flow.specs.Rings.{is_answered}
 use Rattle.sb_laws.specs.Flows.{is_of, words_of_flow, asked_words, given_to}
 use Rattle.sb_laws.specs.Moments.{Moment, arrived}
 use Rattle.sb_laws.specs.Courses.{Course, way_rings, budget_over, came_for_ring, AlongWay}
@@ -33,6 +33,7 @@ use Rattle.sb_laws.proofs.ScriptFacts.{asked_asks}
 use Rattle.sb_laws.proofs.WholeRuns.{answer_course, device_offers}
 use Rattle.sb_laws.proofs.FoundReplies.{looks_like}
 use Rattle.sb_laws.proofs.Stillness.{quiet_sender, quiet_receiver}
+use Rattle.sb_host.specs.Places.{asked_of}
 
 -- nothing is under way over a ring
 record Rests (m : Moment) (r : ℕ) : Type 0 where

@@ -3,7 +3,7 @@ use Rattle.std.specs.Prelude.{◌≡◌, ℕ, Bool, true, false, ◌==◌, List,
 use Rattle.std.specs.List.{list_any}
 use Rattle.sb_packet.specs.Accesses.{Access}
 use Rattle.sb_packet.specs.Networks.{Network}
-use Rattle.sb_packet.specs.Plans.{NetFlow}
+use Rattle.sb_link.specs.RingPlans.{NetFlow}
 use Rattle.sb_laws.specs.Flows.{is_of}
 use Rattle.sb_laws.specs.Moments.{Moment, arrived}
 

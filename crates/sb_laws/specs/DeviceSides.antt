@@ -2,7 +2,7 @@
 use Rattle.std.specs.Prelude.{◌≡◌, ℕ, List}
 use Rattle.sb_packet.specs.Journals.{journal_accesses}
 use Rattle.sb_packet.specs.Networks.{Network, opening_memory}
-use Rattle.sb_packet.specs.Rings.{ring_plan}
+use Rattle.sb_flow.specs.Rings.{ring_plan}
 use Rattle.sb_packet.specs.declared.entry.Entry.{Entry}
 use Rattle.sb_device.specs.Served.{HasServed, entry_accesses}
 use Rattle.sb_device.specs.Sides.{DeviceSide}

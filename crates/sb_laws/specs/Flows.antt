@@ -7,8 +7,8 @@ use Rattle.sb_packet.specs.Networks.{Network, device_at}
 use Rattle.sb_packet.specs.Scripts.{script_accesses}
 use Rattle.sb_packet.specs.Journals.{journal_accesses, is_at}
 use Rattle.sb_packet.specs.Answers.{access_run, access_reply}
-use Rattle.sb_packet.specs.Plans.{NetFlow}
-use Rattle.sb_packet.specs.Rings.{is_answered}
+use Rattle.sb_link.specs.RingPlans.{NetFlow}
+use Rattle.sb_flow.specs.Rings.{is_answered}
 use Rattle.sb_packet.specs.declared.entry.Entry.{Entry}
 
 -- a word is of a flow: of its host, and at its device

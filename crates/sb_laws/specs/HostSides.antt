@@ -1,7 +1,7 @@
 -- A host as it stands in a network: whose script it asks for, and by which rings it asks and is answered.
 use Rattle.std.specs.Prelude.{◌≡◌, ℕ, All, Contains, Some, slice_get}
 use Rattle.sb_packet.specs.Networks.{NetHost, Network}
-use Rattle.sb_packet.specs.Ways.{first_link}
+use Rattle.sb_flow.specs.Ways.{first_link}
 use Rattle.sb_host.specs.Asked.{asked_by}
 use Rattle.sb_host.specs.Hosts.{HostSide, IsWholeHost}
 use Rattle.sb_laws.specs.Layouts.{Layout, ring_home}

@@ -1,7 +1,7 @@
 -- A moment of a run: what has gone over each ring, and what the nodes have offered and hold, as plain lists.
 use Rattle.std.specs.Prelude.{◌≡◌, ℕ, false, List, ◌∷◌, ◌++◌}
 use Rattle.sb_packet.specs.Accesses.{Access}
-use Rattle.sb_packet.specs.Traffic.{has_close, item_accesses}
+use Rattle.sb_link.specs.Traffic.{has_close, item_accesses}
 use Rattle.sb_packet.specs.declared.item.Item.{Item}
 
 -- what has been done by some moment, by the number of a ring

@@ -3,12 +3,13 @@ use Rattle.std.specs.Prelude.{ℕ, ◌+◌, ◌*◌, ◌/◌, ◌&&◌, nat_lt, 
 use Rattle.std.specs.List.{position_from, range_with_len}
 use Rattle.std.specs.Option.{option_map_or}
 use Rattle.sb_packet.specs.Networks.{Network, leads_to}
-use Rattle.sb_packet.specs.Plans.{NetFlow}
-use Rattle.sb_packet.specs.Ways.{NetWay, network_ways, flow_links, is_some_number, router_before, router_after}
-use Rattle.sb_packet.specs.Rings.{is_upward}
+use Rattle.sb_link.specs.RingPlans.{NetFlow}
+use Rattle.sb_flow.specs.Ways.{NetWay, network_ways, flow_links, is_some_number, router_before, router_after}
+use Rattle.sb_flow.specs.Rings.{is_upward}
 use Rattle.sb_laws.specs.Flows.{asked_words, answered_of}
 use Rattle.sb_laws.specs.Courses.{Course, last_of}
 use Rattle.sb_laws.specs.Layouts.{Layout}
+use Rattle.sb_host.specs.Places.{asked_of}
 
 -- the flow of a way
 abbrev pub way_flow : NetWay → NetFlow

@@ -2,8 +2,8 @@
 use Rattle.std.specs.Prelude.{ℕ, ◌+◌, ◌-◌, ◌*◌, ◌/◌, true, false, ◌&&◌, not, length, if◌then◌else◌}
 use Rattle.std.specs.Option.{option_map_or}
 use Rattle.sb_packet.specs.Networks.{Network}
-use Rattle.sb_packet.specs.Ways.{router_before, router_after}
-use Rattle.sb_packet.specs.Rings.{is_upward}
+use Rattle.sb_flow.specs.Ways.{router_before, router_after}
+use Rattle.sb_flow.specs.Rings.{is_upward}
 use Rattle.sb_laws.specs.NetworkLayouts.{ring_count}
 use Rattle.sb_laws.specs.Stages.{Stages}
 

@@ -2,11 +2,12 @@
 use Rattle.std.specs.Prelude.{◌≡◌, ◌<◌, ℕ, Bool, true, false, List, [], ◌∷◌, length, All, Contains, Some, None, slice_get, slice_index_or}
 use Rattle.std.specs.Option.{option_map_or}
 use Rattle.sb_packet.specs.Networks.{Network, leads_to}
-use Rattle.sb_packet.specs.Plans.{NetFlow}
-use Rattle.sb_packet.specs.Ways.{network_ways, flow_links, router_before, router_after}
+use Rattle.sb_link.specs.RingPlans.{NetFlow}
+use Rattle.sb_flow.specs.Ways.{network_ways, flow_links, router_before, router_after}
 use Rattle.sb_laws.specs.Flows.{is_among_flows, asked_words}
 use Rattle.sb_laws.specs.Layouts.{HasScripts}
 use Rattle.sb_laws.specs.NetworkLayouts.{way_flow, network_flows}
+use Rattle.sb_host.specs.Places.{asked_of}
 
 -- link k leads to device d
 abbrev pub is_link_to : Network → ℕ → ℕ → Bool

@@ -2,9 +2,9 @@
 use Rattle.std.specs.Prelude.{◌≡◌, ◌≤◌, ℕ, true, List, [], ◌++◌, length, All}
 use Rattle.sb_packet.specs.Accesses.{Access}
 use Rattle.sb_packet.specs.Networks.{Network}
-use Rattle.sb_packet.specs.Plans.{NetFlow}
-use Rattle.sb_packet.specs.Traffic.{has_close, item_accesses}
-use Rattle.sb_packet.specs.Prefixes.{IsPrefix, IsSubsequence}
+use Rattle.sb_link.specs.RingPlans.{NetFlow}
+use Rattle.sb_link.specs.Traffic.{has_close, item_accesses}
+use Rattle.sb_link.specs.Prefixes.{IsPrefix, IsSubsequence}
 use Rattle.sb_laws.specs.Flows.{words_of_flow}
 use Rattle.sb_device.specs.Served.{AreSound}
 use Rattle.sb_laws.specs.Moments.{Moment, arrived, ClosesLast}

@@ -2,7 +2,7 @@
 use Rattle.std.specs.Prelude.{◌≡◌, ◌≤◌, ◌<◌, ◌%◌, ℕ, true, false, slice_get, ◌⊎◌, length, All, Some, None}
 use Rattle.std.specs.Option.{option_map_or}
 use Rattle.sb_packet.specs.Networks.{NetHost, Network, has_address}
-use Rattle.sb_packet.specs.Ways.{aims_at, first_link, route_at, router_before, router_after, way_links}
+use Rattle.sb_flow.specs.Ways.{aims_at, first_link, route_at, router_before, router_after, way_links}
 use Rattle.sb_laws.specs.Layouts.{HasScripts}
 use Rattle.sb_laws.specs.NetworkWays.{is_link_to}
 

@@ -1,8 +1,8 @@
 -- The routers of a network: the rings at which each stands, and where its tables lead.
 use Rattle.std.specs.Prelude.{◌≡◌, ◌<◌, ℕ, Bool, true, List, length, map, All, Some}
 use Rattle.sb_packet.specs.Networks.{Network}
-use Rattle.sb_packet.specs.Plans.{NetFlow, goes_through}
-use Rattle.sb_packet.specs.Rings.{ring_plan}
+use Rattle.sb_link.specs.RingPlans.{NetFlow, goes_through}
+use Rattle.sb_flow.specs.Rings.{ring_plan}
 use Rattle.sb_router.specs.Lanes.{outlet_at}
 use Rattle.sb_router.specs.RouteOf.{route_of}
 use Rattle.sb_router.specs.Routers.{DirectionSide, ForwardsAll, IsWholeDirection}

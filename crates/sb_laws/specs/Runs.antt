@@ -3,10 +3,10 @@ use Rattle.std.specs.Prelude.{◌≡◌, ◌≤◌, ◌<◌, ℕ, true, List, le
 use Rattle.sb_packet.specs.Spans.{span_of}
 use Rattle.sb_packet.specs.Networks.{Network, width_to}
 use Rattle.sb_packet.specs.Journals.{journal_accesses, is_in_round_order}
-use Rattle.sb_packet.specs.Plans.{NetFlow}
-use Rattle.sb_packet.specs.Traffic.{has_close}
+use Rattle.sb_link.specs.RingPlans.{NetFlow}
+use Rattle.sb_link.specs.Traffic.{has_close}
 use Rattle.sb_packet.specs.declared.entry.Entry.{Entry}
-use Rattle.sb_packet.specs.Prefixes.{IsPrefix}
+use Rattle.sb_link.specs.Prefixes.{IsPrefix}
 use Rattle.sb_laws.specs.Flows.{aimed_script, device_answers}
 use Rattle.sb_device.specs.Served.{AreSound}
 use Rattle.sb_laws.specs.Moments.{Moment, arrived}

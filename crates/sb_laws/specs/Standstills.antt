@@ -1,6 +1,6 @@
 -- A standstill: what rings and nodes promise after a round in which no node moved. Each promise is of one ring or one node alone.
 use Rattle.std.specs.Prelude.{◌≡◌, ◌≤◌, ◌<◌, ℕ, Bool, true, false, ◌⊎◌, Option, Some, None, [], length}
-use Rattle.sb_packet.specs.Traffic.{has_close, item_accesses}
+use Rattle.sb_link.specs.Traffic.{has_close, item_accesses}
 use Rattle.sb_laws.specs.Moments.{Moment}
 use Rattle.sb_laws.specs.Promises.{IsLink}
 use Rattle.sb_laws.specs.Stages.{Stages, Rises}

@@ -5,9 +5,9 @@ use Rattle.sb_packet.specs.Networks.{Network}
 use Rattle.sb_packet.specs.Scripts.{script_accesses}
 use Rattle.sb_packet.specs.Journals.{journal_accesses, flow_part}
 use Rattle.sb_packet.specs.Answers.{access_reply}
-use Rattle.sb_packet.specs.Plans.{NetFlow}
+use Rattle.sb_link.specs.RingPlans.{NetFlow}
 use Rattle.sb_packet.specs.declared.entry.Entry.{Entry}
-use Rattle.sb_packet.specs.Prefixes.{IsPrefix}
+use Rattle.sb_link.specs.Prefixes.{IsPrefix}
 use Rattle.sb_host.specs.Outcomes.{is_answer_to}
 use Rattle.sb_laws.specs.Flows.{asked_words, replies_to}
 use Rattle.sb_laws.specs.Moments.{Moment, arrived}

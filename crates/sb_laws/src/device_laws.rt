@@ -8,7 +8,7 @@ ghost use Rattle.sb_node.specs.Idle.{IsIdleAt};
 ghost use Rattle.sb_node.specs.Sides.{RingSide, has_ended};
 ghost use Rattle.sb_packet.specs.Journals.{journal_accesses};
 ghost use Rattle.sb_packet.specs.Networks.{Network, opening_memory};
-ghost use Rattle.sb_packet.specs.Plans.{NetFlow};
+ghost use Rattle.sb_link.specs.RingPlans.{NetFlow};
 ghost use Rattle.sb_packet.specs.declared.entry.Entry.{Entry};
 ghost use Rattle.sb_port.specs.Ports.{IsFit, PortSide};
 ghost use Rattle.sb_laws.specs.Courses.{budget_over};

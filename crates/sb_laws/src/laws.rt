@@ -4,8 +4,8 @@ ghost use Rattle.std.specs.Prelude.{◌≡◌, ◌≤◌, ◌<◌, ◌+◌, ◌�
 ghost use Rattle.sb_packet.specs.Accesses.{Access};
 ghost use Rattle.sb_packet.specs.Journals.{IsLawful, IsPlaced};
 ghost use Rattle.sb_packet.specs.Networks.{Network};
-ghost use Rattle.sb_packet.specs.Plans.{NetFlow, RingPlan};
-ghost use Rattle.sb_packet.specs.Traffic.{AreInTurn, item_accesses};
+ghost use Rattle.sb_link.specs.RingPlans.{NetFlow, RingPlan};
+ghost use Rattle.sb_link.specs.Traffic.{AreInTurn, item_accesses};
 ghost use Rattle.sb_packet.specs.declared.entry.Entry.{Entry};
 ghost use Rattle.sb_packet.specs.declared.item.Item.{Item};
 ghost use Rattle.sb_laws.specs.Arrivals.{BeginsSources, CarriesSources, HasEnded, PicksSources};

@@ -2,8 +2,8 @@
 
 ghost use Rattle.std.specs.Prelude.{◌≡◌, ◌<◌, ℕ, true, List, All};
 ghost use Rattle.sb_packet.specs.Networks.{Network};
-ghost use Rattle.sb_packet.specs.Rings.{IsCarried, ring_budget, ring_plan};
-ghost use Rattle.sb_packet.specs.Traffic.{AreInTurn, item_accesses};
+ghost use Rattle.sb_flow.specs.Rings.{IsCarried, ring_budget, ring_plan};
+ghost use Rattle.sb_link.specs.Traffic.{AreInTurn, item_accesses};
 ghost use Rattle.sb_packet.specs.declared.entry.Entry.{Entry};
 ghost use Rattle.sb_packet.specs.declared.item.Item.{Item};
 ghost use Rattle.sb_flow.specs.Accepted.{IsAccepted};

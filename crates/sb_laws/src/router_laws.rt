@@ -4,8 +4,8 @@ ghost use Rattle.std.specs.Prelude.{◌≡◌, ◌≢◌, ◌<◌, ℕ, Some, tr
 ghost use Rattle.sb_link.specs.declared.answers.Turn.{Turn};
 ghost use Rattle.sb_link.specs.declared.answers.Turn.TheVariants.{Moved};
 ghost use Rattle.sb_packet.specs.Networks.{Network};
-ghost use Rattle.sb_packet.specs.Plans.{NetFlow};
-ghost use Rattle.sb_packet.specs.Rings.{ring_plan};
+ghost use Rattle.sb_link.specs.RingPlans.{NetFlow};
+ghost use Rattle.sb_flow.specs.Rings.{ring_plan};
 ghost use Rattle.sb_flow.specs.Accepted.{IsAccepted};
 ghost use Rattle.sb_router.specs.Forwarding.{HasForwarded, IsLaid, Passes, Words};
 ghost use Rattle.sb_router.specs.Lanes.{inlet_at, outlet_at};

@@ -3,8 +3,8 @@
 ghost use Rattle.std.specs.Prelude.{◌≡◌, ◌≤◌, ◌<◌, ◌+◌, ◌*◌, ℕ, true, length};
 ghost use Rattle.sb_link.specs.Ends.{HaveMet};
 ghost use Rattle.sb_node.specs.Sides.{RingSide, has_rest, is_full, port_moves};
-ghost use Rattle.sb_packet.specs.Prefixes.{IsPrefix};
-ghost use Rattle.sb_packet.specs.Traffic.{AreInTurn};
+ghost use Rattle.sb_link.specs.Prefixes.{IsPrefix};
+ghost use Rattle.sb_link.specs.Traffic.{AreInTurn};
 ghost use Rattle.sb_port.specs.Ports.{IsFit, PortSide};
 ghost use Rattle.sb_laws.specs.Moments.{Moment};
 ghost use Rattle.sb_laws.specs.Promises.{IsLink, IsPort};

@@ -1,11 +1,11 @@
 -- Lists of items of which each may follow those before it.
 use Rattle.std.proofs.Common.{◌≡◌, ◌≤◌, List, [], ◌∷◌, ◌++◌, false, ap, subst, arith, length}
-use Rattle.sb_packet.specs.Plans.{RingPlan}
+use Rattle.sb_link.specs.RingPlans.{RingPlan}
 use Rattle.std.proofs.Common.{◌<◌}
 use Rattle.std.proofs.lemmas.List.{length-append}
 use Rattle.std.proofs.lemmas.List.FromFn.{length-map-range_with_len}
 use Rattle.sb_packet.specs.Accesses.{accesses_of}
-use Rattle.sb_packet.specs.Traffic.{AreInTurn, MayFollow, has_close, item_accesses}
+use Rattle.sb_link.specs.Traffic.{AreInTurn, MayFollow, has_close, item_accesses}
 use Rattle.sb_packet.specs.declared.packet.Packet.{Packet}
 use Rattle.sb_packet.specs.declared.item.Item.{Item}
 use Rattle.sb_packet.specs.declared.item.Item.TheVariants as items

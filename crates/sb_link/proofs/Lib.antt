@@ -4,3 +4,4 @@ pub mod Ranges
 pub mod MessageFlows
 pub mod Pushes
 pub mod Rows
+pub mod PlanExamples

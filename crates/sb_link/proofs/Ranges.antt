@@ -3,7 +3,7 @@ use Rattle.std.proofs.Common.{◌≡◌, ℕ, zero, suc, ◌+◌, ◌-◌, ◌<�
 use Rattle.std.specs.Prelude.{Option, slice_index_or}
 use Rattle.std.specs.List.{position_from, zip}
 use Rattle.std.proofs.lemmas.List.FromFn.{take-map-range_with_len, fill_by_all}
-use Rattle.sb_packet.specs.Plans.{AddressRange, holds_span, are_apart, AreApart}
+use Rattle.sb_link.specs.RingPlans.{AddressRange, holds_span, are_apart, AreApart}
 use Rattle.sb_link.specs.Plans.{ranges_of}
 
 -- a range from its base and length

@@ -4,7 +4,7 @@ use Rattle.std.specs.Prelude.{if◌then◌else◌, ◌==◌, Option, Some, None,
 use Rattle.sb_link.specs.declared.plan.LinkPlan.{LinkPlan}
 use Rattle.sb_link.specs.declared.registered_ring.RegisteredRing.{RegisteredRing}
 use Rattle.std.proofs.lemmas.Option.{slice_get-get_or}
-use Rattle.sb_packet.specs.Plans.{RingPlan}
+use Rattle.sb_link.specs.RingPlans.{RingPlan}
 use Rattle.sb_link.specs.PlanOf.{plan_of}
 use Rattle.sb_link.specs.Ends.{IsNewRing}
 use Rattle.sb_link.specs.Registries.{end_of, plans_of, IsPlaceOfRing}

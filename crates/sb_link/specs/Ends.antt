@@ -1,9 +1,9 @@
 -- What the ends of a ring say of their calls.
 use Rattle.std.specs.Prelude.{◌≡◌, ◌≢◌, ℕ, ◌+◌, ◌<◌, ◌≤◌, List, [], ◌∷◌, ◌++◌, length, Option, All}
 use Rattle.atomic_table.specs.Seated.{TableId}
-use Rattle.sb_packet.specs.Prefixes.{IsPrefix}
-use Rattle.sb_packet.specs.Plans.{RingPlan}
-use Rattle.sb_packet.specs.Traffic.{MayFollow}
+use Rattle.sb_link.specs.Prefixes.{IsPrefix}
+use Rattle.sb_link.specs.RingPlans.{RingPlan}
+use Rattle.sb_link.specs.Traffic.{MayFollow}
 use Rattle.sb_packet.specs.declared.item.Item.{Item}
 use Rattle.sb_link.specs.declared.answers.Push.{Push}
 use Rattle.sb_link.specs.declared.answers.Push.TheVariants as pushes

@@ -1,7 +1,7 @@
 -- That a list is in turn holds of its front, too.
 use Rattle.std.proofs.Common.{List, ◌∷◌, ◌++◌, ap, ◌∙◌, append_assoc}
-use Rattle.sb_packet.specs.Plans.{RingPlan}
-use Rattle.sb_packet.specs.Traffic.{AreInTurn}
+use Rattle.sb_link.specs.RingPlans.{RingPlan}
+use Rattle.sb_link.specs.Traffic.{AreInTurn}
 use Rattle.sb_packet.specs.declared.item.Item.{Item}
 
 -- of a list in turn the front is in turn

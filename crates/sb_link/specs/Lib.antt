@@ -1,3 +1,6 @@
+pub mod Prefixes
+pub mod RingPlans
+pub mod Traffic
 pub mod Plans
 pub mod PlanOf
 pub mod Ends

@@ -1,7 +1,7 @@
 -- What is held between two rings, and why nothing moves.
 use Rattle.std.specs.Prelude.{◌≡◌, ◌⊎◌, ℕ, ◌+◌, List, [], ◌∷◌, length, Option, Some, None}
-use Rattle.sb_packet.specs.Plans.{RingPlan}
-use Rattle.sb_packet.specs.Traffic.{MayFollow}
+use Rattle.sb_link.specs.RingPlans.{RingPlan}
+use Rattle.sb_link.specs.Traffic.{MayFollow}
 use Rattle.sb_packet.specs.declared.item.Item.{Item}
 
 -- the item that is held, or nothing

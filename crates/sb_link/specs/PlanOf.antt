@@ -1,6 +1,6 @@
 -- What a plan says, in the words of the definitions.
 use Rattle.std.specs.Prelude.{map}
-use Rattle.sb_packet.specs.Plans.{RingFlows, RingPlan}
+use Rattle.sb_link.specs.RingPlans.{RingFlows, RingPlan}
 use Rattle.sb_link.specs.Plans.{ranges_of, bits_of}
 use Rattle.sb_link.specs.declared.flows.Flows.{Flows}
 use Rattle.sb_link.specs.declared.plan.LinkPlan.{LinkPlan}

@@ -1,7 +1,7 @@
 -- What the plain types of links say, in the words of the definitions.
 use Rattle.std.specs.Prelude.{ℕ, ◌+◌, ◌/◌, ◌^◌, ◌%◌, ◌≤◌, Bool, ◌==◌, ◌||◌, ◌&&◌, ◌-◌, nat_le, IsTrue, List, map, All, slice_index_or}
 use Rattle.std.specs.List.{range_with_len}
-use Rattle.sb_packet.specs.Plans.{AddressRange, NetFlow}
+use Rattle.sb_link.specs.RingPlans.{AddressRange, NetFlow}
 use Rattle.sb_link.specs.declared.flow.Flow.{Flow}
 
 -- a flow

@@ -1,6 +1,6 @@
 -- Which rings a fabric made, and which of their ends were handed back.
 use Rattle.std.specs.Prelude.{◌≡◌, ℕ, ◌<◌, List, [], ◌∷◌, map, if◌then◌else◌, ◌==◌, Option, Some, None, slice_get}
-use Rattle.sb_packet.specs.Plans.{RingPlan}
+use Rattle.sb_link.specs.RingPlans.{RingPlan}
 use Rattle.sb_link.specs.PlanOf.{plan_of}
 use Rattle.sb_link.specs.declared.registered_ring.RegisteredRing.{RegisteredRing}
 

@@ -1,8 +1,8 @@
 //! The two ends of a ring.
 
 ghost use Rattle.std.specs.Prelude.{◌≡◌, ℕ, ◌≤◌, List};
-ghost use Rattle.sb_packet.specs.Plans.{RingPlan};
-ghost use Rattle.sb_packet.specs.Traffic.{AreInTurn, MayFollow};
+ghost use Rattle.sb_link.specs.RingPlans.{RingPlan};
+ghost use Rattle.sb_link.specs.Traffic.{AreInTurn, MayFollow};
 ghost use Rattle.sb_packet.specs.declared.item.Item.{Item};
 ghost use Rattle.sb_link.specs.Ends.{Mark, Popped, Pushed};
 ghost use Rattle.sb_link.specs.PlanOf.{plan_of};

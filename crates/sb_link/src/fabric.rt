@@ -2,9 +2,9 @@
 
 ghost use Rattle.std.specs.Prelude.{◌≡◌, ◌≢◌, ℕ, ◌≤◌, Bool, true, false, List, [], ◌∷◌, ◌++◌, IfOk, IfErr, Contains, length};
 ghost use Rattle.sb_packet.specs.Accesses.{Access};
-ghost use Rattle.sb_packet.specs.Plans.{RingPlan};
-ghost use Rattle.sb_packet.specs.Prefixes.{IsPrefix};
-ghost use Rattle.sb_packet.specs.Traffic.{item_accesses};
+ghost use Rattle.sb_link.specs.RingPlans.{RingPlan};
+ghost use Rattle.sb_link.specs.Prefixes.{IsPrefix};
+ghost use Rattle.sb_link.specs.Traffic.{item_accesses};
 ghost use Rattle.sb_link.specs.Ends.{HaveMet, IsNewRing};
 ghost use Rattle.sb_link.specs.PlanOf.{plan_of};
 

@@ -1,7 +1,7 @@
 //! Which flows go over a ring.
 
 ghost use Rattle.std.specs.Prelude.{◌≡◌, ◌≤◌, length, take};
-ghost use Rattle.sb_packet.specs.Plans.{AreApart};
+ghost use Rattle.sb_link.specs.RingPlans.{AreApart};
 ghost use Rattle.sb_link.specs.Plans.{AreInRange, ranges_of};
 
 /// The ranges of a network's devices, and which flows go over a ring.

@@ -3,7 +3,7 @@
 ghost use Rattle.std.specs.Prelude.{◌≡◌, ◌≤◌, true, false, not, [], ◌∷◌, ◌++◌, length, IfOk};
 ghost use Rattle.sb_packet.specs.Journals.{is_request};
 ghost use Rattle.sb_packet.specs.Messages.{message_of};
-ghost use Rattle.sb_packet.specs.Traffic.{has_close, IsCarriable, item_accesses};
+ghost use Rattle.sb_link.specs.Traffic.{has_close, IsCarriable, item_accesses};
 ghost use Rattle.sb_link.specs.Moves.{held_items};
 ghost use Rattle.sb_link.specs.PlanOf.{plan_of};
 

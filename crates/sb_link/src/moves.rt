@@ -1,7 +1,7 @@
 //! From one ring to another.
 
 ghost use Rattle.std.specs.Prelude.{◌≡◌, ◌≤◌, true, false, List, [], ◌∷◌, ◌++◌, None, length, IfSome, IfNone};
-ghost use Rattle.sb_packet.specs.Traffic.{MayFollow};
+ghost use Rattle.sb_link.specs.Traffic.{MayFollow};
 ghost use Rattle.sb_packet.specs.declared.item.Item.{Item};
 ghost use Rattle.sb_link.specs.Moves.{CanFollow, held_items, IsStuck};
 

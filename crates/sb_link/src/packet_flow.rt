@@ -4,7 +4,7 @@ ghost use Rattle.std.specs.Prelude.{◌≡◌, ◌<◌, ◌-◌, ◌&&◌, nat_l
 ghost use Rattle.std.specs.List.{position_from, zip};
 ghost use Rattle.std.specs.Option.{option_map};
 ghost use Rattle.sb_packet.specs.Messages.{message_of};
-ghost use Rattle.sb_packet.specs.Plans.{device_ranges, goes_home, holds_span, is_allowed, message_flow};
+ghost use Rattle.sb_link.specs.RingPlans.{device_ranges, goes_home, holds_span, is_allowed, message_flow};
 ghost use Rattle.sb_packet.specs.Journals.{is_request};
 ghost use Rattle.sb_packet.specs.Soundness.{device_place};
 ghost use Rattle.sb_link.specs.Plans.{flow_of, has_bytes};

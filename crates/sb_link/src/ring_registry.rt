@@ -1,7 +1,7 @@
 //! Where a fabric keeps what its rings carried.
 
 ghost use Rattle.std.specs.Prelude.{◌≡◌, ◌≢◌, ℕ, [], ◌∷◌, ◌++◌, Some, None, IfOk, IfErr, slice_get};
-ghost use Rattle.sb_packet.specs.Plans.{RingPlan};
+ghost use Rattle.sb_link.specs.RingPlans.{RingPlan};
 ghost use Rattle.sb_link.specs.Ends.{IsNewRing};
 ghost use Rattle.sb_link.specs.PlanOf.{plan_of};
 ghost use Rattle.sb_link.specs.Registries.{end_of, plans_of};

@@ -75,7 +75,7 @@ impl Fabric for SerialFabric {
     ghost use Rattle.std.specs.Option.{option_map_or};
     ghost use Rattle.sb_link.specs.Registries.{end_of, plans_of};
     ghost use Rattle.sb_link.specs.declared.serial_rx.SerialRx.{SerialRx};
-    ghost use Rattle.sb_packet.specs.Traffic.{item_accesses};
+    ghost use Rattle.sb_link.specs.Traffic.{item_accesses};
 
     type Tx = SerialTx;
 

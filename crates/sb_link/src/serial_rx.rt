@@ -2,7 +2,7 @@
 
 ghost use Rattle.std.specs.Prelude.{◌≡◌, ◌≤◌, ◌+◌, ◌++◌, length};
 ghost use Rattle.std.specs.VecDeque.{deque_capacity};
-ghost use Rattle.sb_packet.specs.Traffic.{AreInTurn};
+ghost use Rattle.sb_link.specs.Traffic.{AreInTurn};
 ghost use Rattle.sb_link.specs.PlanOf.{plan_of};
 
 use crate::answers::Pop;

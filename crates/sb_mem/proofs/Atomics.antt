@@ -11,11 +11,11 @@ use Rattle.sb_packet.specs.Spans.{span_of, word_count_of}
 use Rattle.sb_packet.specs.Messages.{message_of}
 use Rattle.sb_packet.specs.Accesses.{Access, share, access_at, accesses_of}
 use Rattle.sb_packet.specs.Atomics.{number_of, left_by}
-use Rattle.sb_packet.specs.Codes.{code_number}
+use Rattle.sb_packet.specs.Memories.{code_number}
 use Rattle.sb_packet.specs.Memories.{MemoryState, loaded, stored, written, write_code, old_bytes, combined_bytes, access_answer, memory_after, answers_in}
 use Rattle.sb_packet.specs.declared.packet.Packet.{Packet}
 use Rattle.sb_packet.proofs.Overwrites.{access_step_taken}
-use Rattle.sb_mem.specs.AnswerPackets.{IsAnswerTo, body_of, answer_packet_body, answer_packet_bytes}
+use Rattle.sb_mem.specs.AnswerPackets.{IsAnswerTo, padded_body, answer_packet_body, answer_packet_bytes}
 
 -- an atomic speaks of one word
 pub atomic_span : (p : Packet) → p.cmd.op ≡ ReqAtomic → span_of p.cmd ≡ 2 ^ p.cmd.size
@@ -71,5 +71,5 @@ refused_body m p op refuses =
     let n = span_of p.cmd in
     let fits : n ≤ 32 = p.fits in
     let whole : n + (32 - n) ≡ 32 = omega arith in
-    let zeros : body_of (replicate n 0) ≡ replicate 32 0 = rw length-replicate (replicate-append-replicate n (32 - n) 0 ∙ ap (λ (k : ℕ). replicate k 0) whole) in
-    sym (ap (λ (o : Op). body_of (answer_packet_bytes m o p.dst n)) op ∙ ap (λ (r : Bool). body_of (if r then replicate n 0 else loaded m p.dst n)) refuses ∙ zeros)
+    let zeros : padded_body (replicate n 0) ≡ replicate 32 0 = rw length-replicate (replicate-append-replicate n (32 - n) 0 ∙ ap (λ (k : ℕ). replicate k 0) whole) in
+    sym (ap (λ (o : Op). padded_body (answer_packet_bytes m o p.dst n)) op ∙ ap (λ (r : Bool). padded_body (if r then replicate n 0 else loaded m p.dst n)) refuses ∙ zeros)

@@ -2,3 +2,4 @@ pub mod Atomics
 pub mod Requests
 pub mod TwosComplement
 pub mod WordBytes
+pub mod FoundAnswers

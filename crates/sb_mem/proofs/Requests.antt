@@ -9,7 +9,7 @@ use Rattle.sb_word.specs.declared.command.Op.TheVariants.{ReqRd, ReqWr, ReqWrPos
 use Rattle.sb_packet.specs.Spans.{span_of, carried_of, carried_by, word_count_of, word_count_by}
 use Rattle.sb_packet.specs.Messages.{message_of}
 use Rattle.sb_packet.specs.Accesses.{Access, share, access_at, accesses_of}
-use Rattle.sb_packet.specs.Codes.{code_number}
+use Rattle.sb_packet.specs.Memories.{code_number}
 use Rattle.sb_packet.specs.Memories.{MemoryState, loaded, stored, written, write_code, access_step, access_answer, memory_after, answers_in}
 use Rattle.sb_packet.specs.declared.packet.Packet.{Packet}
 use Rattle.sb_packet.proofs.Shares.{shares_joined, share-take, share-drop, length-share}

@@ -64,9 +64,9 @@ answer_packet_bytes m RespRd address count = []
 answer_packet_bytes m RespWr address count = []
 
 -- bytes as the body of a packet, with zeros behind them
-abbrev pub body_of : List ℕ → List ℕ
-body_of bytes = bytes ++ replicate (32 - length bytes) 0
+abbrev pub padded_body : List ℕ → List ℕ
+padded_body bytes = bytes ++ replicate (32 - length bytes) 0
 
 -- the body of the answer to a packet
 abbrev pub answer_packet_body : MemoryState → Packet → List ℕ
-answer_packet_body m p = body_of (answer_packet_bytes m p.cmd.op p.dst (span_of p.cmd))
+answer_packet_body m p = padded_body (answer_packet_bytes m p.cmd.op p.dst (span_of p.cmd))

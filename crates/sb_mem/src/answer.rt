@@ -1,7 +1,7 @@
 //! The packet that answers a request.
 
 ghost use Rattle.std.specs.Prelude.{◌≡◌, ◌-◌, drop, replicate};
-ghost use Rattle.sb_packet.specs.Codes.{code_number};
+ghost use Rattle.sb_packet.specs.Memories.{code_number};
 ghost use Rattle.sb_packet.specs.Spans.{carried_by, span_of};
 ghost use Rattle.sb_mem.specs.AnswerPackets.{IsAnswerTo, answer_len as len_of_answer, answer_op as op_of_answer};
 

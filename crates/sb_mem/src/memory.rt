@@ -5,7 +5,7 @@ ghost use Rattle.sb_word.specs.declared.command.Op.TheVariants.{ReqRd, ReqWr, Re
 ghost use Rattle.sb_packet.specs.Spans.{span_of};
 ghost use Rattle.sb_packet.specs.Accesses.{accesses_of};
 ghost use Rattle.sb_packet.specs.Journals.{is_request};
-ghost use Rattle.sb_packet.specs.Codes.{code_number};
+ghost use Rattle.sb_packet.specs.Memories.{code_number};
 ghost use Rattle.sb_packet.specs.Memories.{memory_after, answers_in, overwritten, stored, loaded, write_code};
 ghost use Rattle.sb_mem.specs.AnswerPackets.{IsInRange, IsAnswerTo, answer_packet_body, answer_packet_code};
 
@@ -46,7 +46,11 @@ impl Memory {
         requires few { pages ≤ 256 }
         requires in_range { base + pages * 4096 ≤ 2 ^ 56 }
         requires fits { length image.now ≤ pages * 4096 }
-        ensures { IfOk result (λ m. m ≡ record { base = base; bytes = image.now ++ replicate (pages * 4096 - length image.now) 0; readonly = readonly }) }
+        ensures { IfOk result (λ m. m ≡ record {
+          base = base;
+          bytes = image.now ++ replicate (pages * 4096 - length image.now) 0;
+          readonly = readonly;
+        }) }
     {
         let size = pages as usize * PAGE_BYTES as usize;
         let mut bytes = Vec::with_capacity(alloc, size)?;

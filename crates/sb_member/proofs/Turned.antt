@@ -2,7 +2,7 @@
 use Rattle.std.proofs.Common.{◌≡◌, ℕ, ◌<◌, List, [], ◌∷◌, length, refl, sym, ap, ◌∙◌, subst, arith}
 use Rattle.std.specs.Prelude.{All, slice_index_or}
 use Rattle.sb_drive.specs.Rounds.{EachReaches}
-use Rattle.sb_packet.specs.Plans.{RingPlan}
+use Rattle.sb_link.specs.RingPlans.{RingPlan}
 use Rattle.sb_node.specs.Kept.{IsKeptPort, IsKeptRing}
 use Rattle.sb_router.specs.Lanes.{no_port, no_ring}
 use Rattle.sb_router.proofs.EndPlaces as routers

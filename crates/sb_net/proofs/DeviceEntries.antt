@@ -7,10 +7,10 @@ use Rattle.std.proofs.lemmas.Bool.Decides.{nat_tests}
 use Rattle.std.proofs.lemmas.List.Elements.{All-cons, All-head, All-nil, All-tail}
 use Rattle.sb_packet.specs.Messages.{message_of}
 use Rattle.sb_packet.specs.Networks.{NetLink, Network, leads_to, width_to}
-use Rattle.sb_packet.specs.Plans.{RingPlan}
-use Rattle.sb_packet.specs.Rings.{ring_link, ring_plan}
+use Rattle.sb_link.specs.RingPlans.{RingPlan}
+use Rattle.sb_flow.specs.Rings.{ring_link, ring_plan}
 use Rattle.sb_packet.specs.Spans.{span_of}
-use Rattle.sb_packet.specs.Traffic.{AreInTurn, IsCarriable}
+use Rattle.sb_link.specs.Traffic.{AreInTurn, IsCarriable}
 use Rattle.sb_packet.specs.declared.entry.Entry.{Entry}
 use Rattle.sb_packet.specs.declared.item.Item.{Item}
 use Rattle.sb_packet.specs.declared.item.Item.TheVariants as items

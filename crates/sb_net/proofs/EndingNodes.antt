@@ -5,8 +5,8 @@ use Rattle.std.proofs.lemmas.Option.{slice_get_within}
 use Rattle.sb_packet.specs.Accesses.{accesses_of}
 use Rattle.sb_packet.specs.Memories.{memory_after}
 use Rattle.sb_packet.specs.Networks.{NetHost, Network, opening_memory}
-use Rattle.sb_packet.specs.Traffic.{has_close, item_accesses}
-use Rattle.sb_packet.specs.Rings.{IsCarried}
+use Rattle.sb_link.specs.Traffic.{has_close, item_accesses}
+use Rattle.sb_flow.specs.Rings.{IsCarried}
 use Rattle.sb_packet.specs.declared.entry.Entry.{Entry}
 use Rattle.sb_node.specs.Sides.{RingSide, received_words}
 use Rattle.sb_flow.specs.Accepted.{IsAccepted}

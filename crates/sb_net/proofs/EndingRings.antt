@@ -4,7 +4,7 @@ use Rattle.std.specs.Prelude.{◌&&◌, nat_lt, slice_index_or, if◌then◌else
 use Rattle.std.specs.List.{list_all}
 use Rattle.std.proofs.lemmas.Bool.Decides.{nat_tests}
 use Rattle.std.proofs.lemmas.List.Elements.{All-append, All-get_or}
-use Rattle.sb_packet.specs.Traffic.{has_close}
+use Rattle.sb_link.specs.Traffic.{has_close}
 use Rattle.sb_port.specs.Ports.{IsFit, PortSide}
 use Rattle.sb_node.specs.Sides.{RingSide, has_ended, is_done}
 use Rattle.sb_router.specs.Lanes.{no_port, no_ring}

@@ -4,8 +4,8 @@ use Rattle.std.specs.Prelude.{◌==◌, All, filter, slice_index_or}
 use Rattle.std.proofs.lemmas.List.Elements.{All-from_recursion}
 use Rattle.sb_link.specs.declared.answers.Turn.{Turn}
 use Rattle.sb_link.specs.declared.answers.Turn.TheVariants.{Done, Moved}
-use Rattle.sb_packet.specs.Traffic.{item_accesses}
-use Rattle.sb_packet.specs.Prefixes.{IsPrefix}
+use Rattle.sb_link.specs.Traffic.{item_accesses}
+use Rattle.sb_link.specs.Prefixes.{IsPrefix}
 use Rattle.sb_packet.specs.declared.item.Item.{Item}
 use Rattle.sb_packet.specs.declared.item.Item.TheVariants as items
 use Rattle.sb_packet.specs.declared.packet.Packet.{Packet}

@@ -6,8 +6,8 @@ use Rattle.std.proofs.lemmas.List.Elements.{All-nil, All-from_recursion}
 use Rattle.sb_link.specs.Ends.{HaveMet}
 use Rattle.sb_packet.specs.Journals.{flow_part}
 use Rattle.sb_packet.specs.Networks.{NetHost}
-use Rattle.sb_packet.specs.Rings.{IsCarried, carried_accesses, is_on_way, ring_ways}
-use Rattle.sb_packet.specs.Traffic.{item_accesses}
+use Rattle.sb_flow.specs.Rings.{IsCarried, carried_accesses, is_on_way, ring_ways}
+use Rattle.sb_link.specs.Traffic.{item_accesses}
 use Rattle.sb_flow.specs.Accepted.{IsAccepted}
 use Rattle.sb_flow.proofs.TestedNetworks.{accepted_by_test}
 use Rattle.sb_port.specs.Ports.{PortSide}

@@ -5,10 +5,10 @@ use Rattle.std.proofs.lemmas.Bool.{and_parts}
 use Rattle.std.proofs.lemmas.Bool.Decides.{nat_tests}
 use Rattle.std.proofs.lemmas.List.Elements.{All-from_recursion, All-nil}
 use Rattle.sb_packet.specs.Journals.{journal_accesses}
-use Rattle.sb_packet.specs.Rings.{is_upward}
+use Rattle.sb_flow.specs.Rings.{is_upward}
 use Rattle.sb_packet.specs.Soundness.{IsSound}
-use Rattle.sb_packet.specs.Traffic.{has_close, item_accesses}
-use Rattle.sb_packet.specs.Prefixes.{IsPrefix}
+use Rattle.sb_link.specs.Traffic.{has_close, item_accesses}
+use Rattle.sb_link.specs.Prefixes.{IsPrefix}
 use Rattle.sb_port.specs.Ports.{PortSide, offered_words}
 use Rattle.sb_device.specs.Served.{AreSound}
 use Rattle.sb_router.specs.Lanes.{no_port, no_ring}

@@ -9,8 +9,8 @@ use Rattle.std.proofs.lemmas.List.FromFn.{length-map-range_with_len}
 use Rattle.sb_packet.specs.Accesses.{access_at, accesses_of}
 use Rattle.sb_packet.specs.Messages.{message_of}
 use Rattle.sb_packet.specs.Networks.{Network}
-use Rattle.sb_packet.specs.Rings.{ring_budget, ring_plan}
-use Rattle.sb_packet.specs.Traffic.{AreInTurn, item_accesses}
+use Rattle.sb_flow.specs.Rings.{ring_budget, ring_plan}
+use Rattle.sb_link.specs.Traffic.{AreInTurn, item_accesses}
 use Rattle.sb_packet.specs.declared.entry.Entry.{Entry}
 use Rattle.sb_packet.specs.declared.item.Item.{Item}
 use Rattle.sb_packet.specs.declared.item.Item.TheVariants as items

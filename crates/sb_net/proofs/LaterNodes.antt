@@ -6,8 +6,8 @@ use Rattle.std.proofs.lemmas.List.{get_or-append_right, get_or-map, get_or-set_o
 use Rattle.std.proofs.lemmas.List.Elements.{All-from_get_or}
 use Rattle.sb_packet.specs.Memories.{MemoryState}
 use Rattle.sb_packet.specs.Networks.{Network, opening_memory}
-use Rattle.sb_packet.specs.Plans.{NetFlow, RingPlan, goes_through}
-use Rattle.sb_packet.specs.Rings.{ring_plan}
+use Rattle.sb_link.specs.RingPlans.{NetFlow, RingPlan, goes_through}
+use Rattle.sb_flow.specs.Rings.{ring_plan}
 use Rattle.sb_port.specs.Ports.{PortSide}
 use Rattle.sb_node.specs.Kept.{IsPortMet, IsRingMet}
 use Rattle.sb_node.specs.Sides.{RingSide}

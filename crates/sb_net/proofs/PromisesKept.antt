@@ -7,9 +7,9 @@ use Rattle.sb_flow.specs.Accepted.{IsAccepted}
 use Rattle.sb_packet.specs.Accesses.{accesses_of}
 use Rattle.sb_packet.specs.Journals.{is_in_round_order, journal_accesses}
 use Rattle.sb_packet.specs.Networks.{Network, width_to}
-use Rattle.sb_packet.specs.Rings.{ring_plan}
+use Rattle.sb_flow.specs.Rings.{ring_plan}
 use Rattle.sb_packet.specs.Spans.{span_of}
-use Rattle.sb_packet.specs.Traffic.{AreInTurn}
+use Rattle.sb_link.specs.Traffic.{AreInTurn}
 use Rattle.sb_packet.specs.declared.entry.Entry.{Entry}
 use Rattle.sb_packet.proofs.Lists.{All-kept}
 use Rattle.sb_port.specs.Ports.{PortSide}

@@ -7,10 +7,10 @@ use Rattle.std.proofs.lemmas.List.FromFn.{length-range_with_len}
 use Rattle.std.proofs.lemmas.List.Sums.{sum_by-le}
 use Rattle.std.proofs.lemmas.List.Elements.{All-get_or}
 use Rattle.sb_packet.specs.Networks.{Network}
-use Rattle.sb_packet.specs.Plans.{RingPlan}
-use Rattle.sb_packet.specs.Prefixes.{IsPrefix}
-use Rattle.sb_packet.specs.Rings.{ring_budget, ring_plan}
-use Rattle.sb_packet.specs.Traffic.{AreInTurn}
+use Rattle.sb_link.specs.RingPlans.{RingPlan}
+use Rattle.sb_link.specs.Prefixes.{IsPrefix}
+use Rattle.sb_flow.specs.Rings.{ring_budget, ring_plan}
+use Rattle.sb_link.specs.Traffic.{AreInTurn}
 use Rattle.sb_packet.specs.declared.item.Item.{Item}
 use Rattle.sb_packet.specs.declared.packet.Packet.{Packet}
 use Rattle.sb_port.specs.Ports.{IsFit}

@@ -8,8 +8,8 @@ use Rattle.std.proofs.lemmas.Bool.Decides.{nat_tests}
 use Rattle.std.proofs.lemmas.List.Elements.{All-filter, All-map, filter_passes}
 use Rattle.std.proofs.lemmas.Option.{slice_get_cases}
 use Rattle.sb_packet.specs.Networks.{NetLink, Network}
-use Rattle.sb_packet.specs.Rings.{ring_plan}
-use Rattle.sb_packet.specs.Ways.{is_some_number, router_after, router_before}
+use Rattle.sb_flow.specs.Rings.{ring_plan}
+use Rattle.sb_flow.specs.Ways.{is_some_number, router_after, router_before}
 use Rattle.sb_port.specs.Ports.{PortSide}
 use Rattle.sb_flow.specs.Accepted.{IsAccepted}
 use Rattle.sb_flow.specs.Limits.{is_limited_link}

@@ -7,7 +7,7 @@ use Rattle.sb_drive.specs.Rounds.{EndsWith}
 use Rattle.sb_link.specs.declared.answers.Turn.{Turn}
 use Rattle.sb_link.specs.declared.answers.Turn.TheVariants.{Done, Moved}
 use Rattle.sb_packet.specs.Networks.{Network}
-use Rattle.sb_packet.specs.Plans.{RingPlan}
+use Rattle.sb_link.specs.RingPlans.{RingPlan}
 use Rattle.sb_packet.specs.declared.entry.Entry.{Entry}
 use Rattle.sb_port.specs.Ports.{IsFit}
 use Rattle.sb_router.specs.Lanes.{no_port}

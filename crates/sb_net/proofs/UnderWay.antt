@@ -5,8 +5,7 @@ use Rattle.std.specs.List.{range_with_len}
 use Rattle.std.proofs.lemmas.List.{length-append}
 use Rattle.std.proofs.lemmas.List.Elements.{All-append, All-nil, All-weaker}
 use Rattle.std.proofs.lemmas.List.FromFn.{get_or-map-range_with_len, length-map-range_with_len}
-use Rattle.sb_packet.specs.Journals.{is_in_round_order}
-use Rattle.sb_packet.specs.Ledger.{Ledger}
+use Rattle.sb_packet.specs.Journals.{is_in_round_order, Ledger}
 use Rattle.sb_packet.specs.Networks.{Network}
 use Rattle.sb_packet.specs.declared.entry.Entry.{Entry}
 use Rattle.sb_flow.specs.Accepted.{IsAccepted}

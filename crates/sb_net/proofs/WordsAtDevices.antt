@@ -11,9 +11,9 @@ use Rattle.std.proofs.lemmas.List.Elements.{All-head, All-tail}
 use Rattle.sb_packet.specs.Accesses.{Access, access_at}
 use Rattle.sb_packet.specs.Journals.{device_address, is_at}
 use Rattle.sb_packet.specs.Networks.{NetHost, Network, device_at}
-use Rattle.sb_packet.specs.Rings.{counted_accesses, has_link, is_answered, is_upward, link_ways, ring_budget, ring_link, ring_ways, way_accesses}
+use Rattle.sb_flow.specs.Rings.{counted_accesses, has_link, is_answered, is_upward, link_ways, ring_budget, ring_link, ring_ways, way_accesses}
 use Rattle.sb_packet.specs.Scripts.{script_accesses, transaction_accesses, transaction_message}
-use Rattle.sb_packet.specs.Ways.{NetWay, aims_at, host_ways, network_ways, way_links}
+use Rattle.sb_flow.specs.Ways.{NetWay, aims_at, host_ways, network_ways, way_links}
 use Rattle.sb_packet.specs.declared.transaction.Txn.{Txn}
 use Rattle.sb_flow.specs.Limits.{word_count}
 use Rattle.sb_flow.proofs.Maps.{sum_by_map}

@@ -1,7 +1,7 @@
 -- What stands at the two ends of each ring of a network's nodes, by the ring's number: the moment of a run at which they are, and what there is after a round.
 use Rattle.std.specs.Prelude.{ℕ, ◌<◌, nat_lt, Bool, false, is_some, List, [], ◌∷◌, ◌++◌, length, map, Option, None, slice_index_or, if◌then◌else◌}
 use Rattle.sb_packet.specs.Accesses.{Access}
-use Rattle.sb_packet.specs.Prefixes.{IsPrefix}
+use Rattle.sb_link.specs.Prefixes.{IsPrefix}
 use Rattle.sb_port.specs.Ports.{PortSide, offered_words, owes}
 use Rattle.sb_node.specs.Sides.{RingSide, is_drained, is_full}
 use Rattle.sb_host.specs.Hosts.{host_wait}

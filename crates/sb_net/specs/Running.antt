@@ -1,6 +1,6 @@
 -- A run of a network's nodes, from its first round to its end.
 use Rattle.std.specs.Prelude.{◌≡◌, ◌≤◌, ◌<◌, ◌+◌, ℕ, Bool, List, [], length, All}
-use Rattle.sb_packet.specs.Ledger.{Ledger}
+use Rattle.sb_packet.specs.Journals.{Ledger}
 use Rattle.sb_packet.specs.Networks.{Network}
 use Rattle.sb_packet.specs.declared.entry.Entry.{Entry}
 use Rattle.sb_flow.specs.Accepted.{IsAccepted}

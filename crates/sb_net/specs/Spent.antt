@@ -2,7 +2,7 @@
 use Rattle.std.specs.Prelude.{ℕ, ◌+◌, nat_lt, List, [], ◌∷◌, ◌++◌, length, map, slice_index_or, if◌then◌else◌, sum_by}
 use Rattle.std.specs.List.{range_with_len}
 use Rattle.sb_packet.specs.Networks.{Network}
-use Rattle.sb_packet.specs.Rings.{ring_budget}
+use Rattle.sb_flow.specs.Rings.{ring_budget}
 use Rattle.sb_node.specs.Sides.{port_moves}
 use Rattle.sb_router.specs.Moves.{inlet_moves}
 use Rattle.sb_laws.specs.Moves.{move_bound}

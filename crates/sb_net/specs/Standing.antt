@@ -1,7 +1,7 @@
 -- A network of nodes that stands: its nodes are those of a network, at its rings, whatever turns they took and however often their ends met.
 use Rattle.std.specs.Prelude.{◌≡◌, ℕ, ◌+◌, ◌<◌, List, length}
 use Rattle.sb_packet.specs.Networks.{Network, opening_memory}
-use Rattle.sb_packet.specs.Rings.{ring_plan}
+use Rattle.sb_flow.specs.Rings.{ring_plan}
 use Rattle.sb_device.specs.Sides.{DeviceSide}
 use Rattle.sb_device.specs.Served.{HasServed}
 use Rattle.sb_router.specs.Routers.{ForwardsAll, RouterSide}

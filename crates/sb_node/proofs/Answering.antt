@@ -5,7 +5,7 @@ use Rattle.std.proofs.lemmas.List.Elements.{All-nil, All-cons}
 use Rattle.sb_link.specs.declared.answers.Turn.{Turn}
 use Rattle.sb_link.specs.declared.answers.Turn.TheVariants.{Moved, Idle, Done}
 use Rattle.sb_link.specs.declared.answers.Cause.{Cause}
-use Rattle.sb_packet.specs.Prefixes.{IsPrefix}
+use Rattle.sb_link.specs.Prefixes.{IsPrefix}
 use Rattle.sb_port.specs.Waiting.{Waiting, some_owed}
 use Rattle.sb_port.specs.Ports.{IsFit, PortSide, PortState}
 use Rattle.sb_node.specs.Sides.{RingSide, has_rest, node_moves, port_moves}

@@ -2,7 +2,7 @@
 use Rattle.std.proofs.Common.{◌≡◌, ℕ, ◌≤◌, ◌+◌, Bool, true, List, [], ◌∷◌, ◌++◌, length, sym, ap, ◌∙◌, subst, inl, inr, arith}
 use Rattle.std.proofs.lemmas.Bool.{eq-eqb}
 use Rattle.std.proofs.lemmas.List.{length-append}
-use Rattle.sb_packet.specs.Plans.{RingPlan}
+use Rattle.sb_link.specs.RingPlans.{RingPlan}
 use Rattle.sb_packet.specs.declared.item.Item.{Item}
 use Rattle.sb_packet.specs.declared.item.Item.TheVariants as items
 use Rattle.sb_port.specs.Ports.{PortSide, PortState}

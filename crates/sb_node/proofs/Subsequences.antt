@@ -1,6 +1,6 @@
 -- Lists that are others with some items left out, as these grow.
 use Rattle.std.proofs.Common.{List, [], ◌∷◌, ◌++◌}
-use Rattle.sb_packet.specs.Prefixes.{IsSubsequence, none, kept, left_out}
+use Rattle.sb_link.specs.Prefixes.{IsSubsequence, none, kept, left_out}
 
 pub same_subsequence : {A : Type 0} (xs : List A) → IsSubsequence xs xs
 same_subsequence [] = none

@@ -3,7 +3,7 @@ use Rattle.std.proofs.Common.{◌≡◌, [], ◌∷◌, true, false, refl}
 use Rattle.std.specs.Prelude.{Some, None}
 use Rattle.sb_link.specs.Ends.{Mark}
 use Rattle.sb_link.specs.declared.answers.Cause.TheVariants as causes
-use Rattle.sb_packet.specs.Plans.{RingPlan}
+use Rattle.sb_link.specs.RingPlans.{RingPlan}
 use Rattle.sb_packet.specs.declared.item.Item.TheVariants as items
 use Rattle.sb_port.specs.Waiting.{nothing_waits}
 use Rattle.sb_port.specs.Ports.{PortSide}

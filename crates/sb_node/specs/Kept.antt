@@ -1,7 +1,7 @@
 -- What stays of a node's ports and rings, whatever turns it takes: nothing is taken back.
 use Rattle.std.specs.Prelude.{◌≡◌, ◌≤◌, true, List, [], ◌++◌}
 use Rattle.std.proofs.Common.{refl, sym, ap, ◌∙◌, append_assoc, append-nil, arith}
-use Rattle.sb_packet.specs.Prefixes.{IsPrefix}
+use Rattle.sb_link.specs.Prefixes.{IsPrefix}
 use Rattle.sb_port.specs.Ports.{PortSide, let_go, offered_words}
 use Rattle.sb_node.specs.Sides.{RingSide}
 

@@ -3,9 +3,9 @@ use Rattle.std.specs.Prelude.{ℕ, ◌+◌, Bool, ◌&&◌, ◌||◌, ◌==◌, 
 use Rattle.std.specs.List.{sum_by, list_all}
 use Rattle.sb_link.specs.Ends.{Mark}
 use Rattle.sb_link.specs.declared.ends.RxEnd as rx
-use Rattle.sb_packet.specs.Plans.{RingPlan}
+use Rattle.sb_link.specs.RingPlans.{RingPlan}
 use Rattle.sb_packet.specs.Accesses.{Access}
-use Rattle.sb_packet.specs.Traffic.{item_accesses, has_close}
+use Rattle.sb_link.specs.Traffic.{item_accesses, has_close}
 use Rattle.sb_packet.specs.declared.item.Item.{Item}
 use Rattle.sb_port.specs.Ports.{PortSide, offered_words, let_go, owes}
 

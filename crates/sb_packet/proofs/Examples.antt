@@ -8,13 +8,7 @@ use Rattle.sb_packet.specs.Memories.{MemoryState, access_step, access_answer, me
 use Rattle.sb_packet.specs.Networks.{NetHost}
 use Rattle.sb_packet.specs.Scripts.{script_accesses}
 use Rattle.sb_packet.specs.Cuts.{transaction_packets}
-use Rattle.sb_packet.specs.Outcomes.{host_outcomes}
-use Rattle.sb_packet.specs.Solo.{solo_network, solo_host, solo_packets}
-use Rattle.sb_packet.specs.declared.transaction.Txn.{Txn}
-use Rattle.sb_packet.specs.declared.transaction.Kind.TheVariants.{Read, Write, Posted}
-use Rattle.sb_packet.specs.declared.transaction.Code.TheVariants as the_codes
-use Rattle.sb_packet.specs.declared.transaction.TxnState.TheVariants as the_states
-use Rattle.sb_packet.specs.declared.transaction.TxnState.TheVariants.{Answered}
+use Rattle.sb_packet.specs.declared.transaction.Kind.TheVariants.{Read, Write}
 use Rattle.sb_word.specs.declared.atomic.AtomicOp.{AtomicOp}
 use Rattle.sb_word.specs.declared.atomic.AtomicOp.TheVariants as atomics
 use Rattle.sb_word.specs.declared.command.Op.TheVariants.{ReqRd, ReqWr, ReqWrPosted, ReqAtomic, RespRd, RespWr}
@@ -122,21 +116,6 @@ refused = refl
 -- None of them changes it.
 pub unchanged : memory_after refusing (the_write ∷ record the_write { op = ReqWrPosted } ∷ record the_write { op = ReqAtomic; atomic = Some atomics.Swap } ∷ the_read ∷ []) ≡ refusing
 unchanged = refl
-
--- a script whose read and posted write lie behind the memory of `solo`, which ends at 65,536
-abbrev behind_the_memory : List Txn
-behind_the_memory =
-    record { kind = Read; size = 1; addr = 65536; count = 2; body = [] }
-    ∷ record { kind = Posted; size = 0; addr = 65540; count = 1; body = 9 ∷ [] } ∷ []
-
--- No device has the addresses, so the read is answered with code 3 and zeros, and the journal may be empty.
-pub lost_outcomes : host_outcomes (solo_network behind_the_memory) [] (solo_host behind_the_memory) ≡
-    record { state = Answered the_codes.NetErr; body = 0 ∷ 0 ∷ 0 ∷ 0 ∷ [] } ∷ record { state = the_states.Posted; body = [] } ∷ []
-lost_outcomes = refl
-
--- No packet of it is aimed at the memory.
-pub lost_packets : solo_packets behind_the_memory ≡ []
-lost_packets = refl
 
 -- the words of `count` from 1 on, of one byte each
 abbrev counted : ℕ → ℕ → List ℕ

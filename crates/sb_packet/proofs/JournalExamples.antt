@@ -8,11 +8,10 @@ use Rattle.sb_packet.specs.Accesses.{Access, accesses_of}
 use Rattle.sb_packet.specs.Networks.{NetHost}
 use Rattle.sb_packet.specs.Scripts.{script_accesses}
 use Rattle.sb_packet.specs.Journals.{journal_accesses, flow_part, is_at, IsPlaced, IsLawful}
-use Rattle.sb_packet.specs.Solo.{solo_host, IsSoloJournal}
 use Rattle.sb_packet.specs.declared.entry.Entry.{Entry}
 use Rattle.sb_packet.specs.declared.packet.Packet.{Packet}
 use Rattle.sb_packet.proofs.FoundAnswers.{eq_below}
-use Rattle.sb_packet.proofs.ReportExamples.{alpha, beta, two_hosts, two_rounds, one_page, write_and_read, write_packet, read_packet, alpha_write, alpha_read, beta_write, beta_addition}
+use Rattle.sb_packet.proofs.ExampleRuns.{alpha, beta, one_host, two_hosts, two_rounds, one_page, write_and_read, write_packet, read_packet, alpha_write, alpha_read, beta_write, beta_addition}
 
 -- the words of a host at each device are those of its script there
 abbrev IsKept : List Entry → NetHost → Type 0
@@ -49,14 +48,6 @@ two_rounds_are_lawful =
       in_round_order = refl;
     }
 
--- The journal of a write and a read at the memory of `solo` has a packet for each, in round 0 at device 0.
-pub journal_of_a_write_and_a_read : IsSoloJournal write_and_read (record { round = 0; device = 0; packet = write_packet } ∷ record { round = 0; device = 0; packet = read_packet } ∷ [])
-journal_of_a_write_and_a_read = record {
-  packets = refl;
-  first_round = All-from_recursion (λ e. e.round ≡ 0) (record { round = 0; device = 0; packet = write_packet } ∷ record { round = 0; device = 0; packet = read_packet } ∷ []) (refl, (refl, tt));
-  one_device = All-from_recursion (λ e. e.device ≡ 0) (record { round = 0; device = 0; packet = write_packet } ∷ record { round = 0; device = 0; packet = read_packet } ∷ []) (refl, (refl, tt));
-}
-
 -- the opcodes of accesses, in order
 abbrev opcodes : List Access → List ℕ
 opcodes list = map (λ a. opcode_of a.op) list
@@ -64,21 +55,21 @@ opcodes list = map (λ a. opcode_of a.op) list
 -- A journal that has the read before the write isn't lawful, since the script has the write first.
 pub not_in_script_order : IsLawful (one_page write_and_read) (record { round = 0; device = 0; packet = read_packet } ∷ record { round = 0; device = 0; packet = write_packet } ∷ []) → ⊥
 not_in_script_order lawful =
-    let swapped : 1 ∷ 3 ∷ [] ≡ 3 ∷ 1 ∷ [] = ap opcodes (lawful.in_script_order 0 (solo_host write_and_read) (omega arith) 0) in
+    let swapped : 1 ∷ 3 ∷ [] ≡ 3 ∷ 1 ∷ [] = ap opcodes (lawful.in_script_order 0 (one_host write_and_read) (omega arith) 0) in
     let first : 1 ≡ 3 = ap (λ (list : List ℕ). slice_index list 0) swapped in
     absurd (omega (arith, first))
 
 -- Nor is one that leaves out the read.
 pub not_complete : IsLawful (one_page write_and_read) (record { round = 0; device = 0; packet = write_packet } ∷ []) → ⊥
 not_complete lawful =
-    let lost : 3 ∷ [] ≡ 3 ∷ 1 ∷ [] = ap opcodes (lawful.in_script_order 0 (solo_host write_and_read) (omega arith) 0) in
+    let lost : 3 ∷ [] ≡ 3 ∷ 1 ∷ [] = ap opcodes (lawful.in_script_order 0 (one_host write_and_read) (omega arith) 0) in
     let count : 1 ≡ 2 = ap length lost in
     absurd (omega (arith, count))
 
 -- Nor one that has it twice.
 pub not_once : IsLawful (one_page write_and_read) (record { round = 0; device = 0; packet = write_packet } ∷ record { round = 0; device = 0; packet = read_packet } ∷ record { round = 0; device = 0; packet = read_packet } ∷ []) → ⊥
 not_once lawful =
-    let more : 3 ∷ 1 ∷ 1 ∷ [] ≡ 3 ∷ 1 ∷ [] = ap opcodes (lawful.in_script_order 0 (solo_host write_and_read) (omega arith) 0) in
+    let more : 3 ∷ 1 ∷ 1 ∷ [] ≡ 3 ∷ 1 ∷ [] = ap opcodes (lawful.in_script_order 0 (one_host write_and_read) (omega arith) 0) in
     let count : 3 ≡ 2 = ap length more in
     absurd (omega (arith, count))
 

@@ -1,22 +1,19 @@
--- The run of a network of two hosts, three routers, four devices and a wire: its text, computed, and that it is lawful.
-use Rattle.std.proofs.Common.{◌≡◌, lit≤, replicate, refl, arith, [], ◌∷◌, List, ℕ, zero, suc, false, true, Some, None}
+-- The run of a network of two hosts, three routers, four devices and a wire, which is lawful.
+use Rattle.std.proofs.Common.{◌≡◌, lit≤, replicate, refl, arith, [], ◌∷◌, List, ℕ, zero, suc, true, Some, None}
 use Rattle.std.specs.Prelude.{All, IsTrue, codes}
 use Rattle.std.specs.List.{range_with_len, AllByRecursion}
 use Rattle.std.proofs.lemmas.List.Elements.{All-from_recursion}
-use Rattle.std.specs.Fmt.{digits}
-use Rattle.hex.specs.Hex.{encode_with}
 use Rattle.sb_word.specs.declared.atomic.AtomicOp.TheVariants as atomics
 use Rattle.sb_packet.specs.Accesses.{accesses_of}
 use Rattle.sb_packet.specs.Networks.{NetHost, NetRouter, NetDevice, NetLink, Network, at_host, at_router, at_device}
 use Rattle.sb_packet.specs.Scripts.{script_accesses}
 use Rattle.sb_packet.specs.Journals.{journal_accesses, flow_part, is_at, IsPlaced, IsLawful}
-use Rattle.sb_packet.specs.Reports.{run_report, entry_line}
 use Rattle.sb_packet.specs.declared.entry.Entry.{Entry}
 use Rattle.sb_packet.specs.declared.packet.Packet.{Packet}
 use Rattle.sb_packet.specs.declared.transaction.Kind.TheVariants.{Read, Write, Posted, Atomic}
 use Rattle.sb_word.specs.declared.command.Op.TheVariants.{ReqRd, ReqWr, ReqWrPosted, ReqAtomic}
 use Rattle.sb_packet.proofs.FoundAnswers.{eq_below}
-use Rattle.sb_packet.proofs.ReportExamples.{page_at, plain_read, plain_write, swap, swap_packet}
+use Rattle.sb_packet.proofs.ExampleRuns.{page_at, plain_read, plain_write, swap, swap_packet}
 
 -- the numbers 0 to 31
 abbrev pub rising_bytes : List ℕ
@@ -114,26 +111,6 @@ wired_run =
     ∷ record { round = 2; device = 1; packet = cpu0_read_back }
     ∷ record { round = 2; device = 2; packet = cpu1_maximum }
     ∷ record { round = 2; device = 3; packet = cpu1_read } ∷ []
-
--- The whole text of that run.
-pub text_of_wired : run_report wired wired_run false None ≡ codes "sb 1\nhost cpu0 5\nt 0 ok -\nt 1 ok 000102030405060708090a0b0c0d0e0f101112131415161718191a1b1c1d1e1f\nt 2 posted -\nt 3 ok aabbccdd\nt 4 ok 0000000000000000\nhost cpu1 5\nt 0 ok 00000000\nt 1 deverr -\nt 2 ok deadbeef\nt 3 neterr 00000000\nt 4 ok 78563412\ndevice m0 1\nm 00000 000102030405060708090a0b0c0d0e0f101112131415161718191a1b1c1d1e1f\ndevice m1 1\nm 00000 00000000000000000000000000000000aabbccdd000000000000000000000000\ndevice m2 1\nm 00000 0100000000000000000000800000000000000000000000000000000000000000\ndevice rom 1\nm 00000 deadbeef00000000000000000000000000000000000000000000000000000000\nend\n"
-unfolding digits encode_with
-text_of_wired = refl
-
--- Side 0 prints both hosts, and the two devices on their side of the wire.
-pub text_of_side_0 : run_report wired wired_run false (Some 0) ≡ codes "sb 1 side 0\nhost cpu0 5\nt 0 ok -\nt 1 ok 000102030405060708090a0b0c0d0e0f101112131415161718191a1b1c1d1e1f\nt 2 posted -\nt 3 ok aabbccdd\nt 4 ok 0000000000000000\nhost cpu1 5\nt 0 ok 00000000\nt 1 deverr -\nt 2 ok deadbeef\nt 3 neterr 00000000\nt 4 ok 78563412\ndevice m0 1\nm 00000 000102030405060708090a0b0c0d0e0f101112131415161718191a1b1c1d1e1f\ndevice m1 1\nm 00000 00000000000000000000000000000000aabbccdd000000000000000000000000\nend\n"
-unfolding digits encode_with
-text_of_side_0 = refl
-
--- Side 1 prints the two devices behind the wire.
-pub text_of_side_1 : run_report wired wired_run false (Some 1) ≡ codes "sb 1 side 1\ndevice m2 1\nm 00000 0100000000000000000000800000000000000000000000000000000000000000\ndevice rom 1\nm 00000 deadbeef00000000000000000000000000000000000000000000000000000000\nend\n"
-unfolding digits encode_with
-text_of_side_1 = refl
-
--- The swap's line of the history.
-pub line_of_the_swap : entry_line wired (record { round = 0; device = 2; packet = swap_packet }) ≡ codes "e 0 m2 08430849 00000000030008 00010000000000 78563412\n"
-unfolding digits encode_with
-line_of_the_swap = refl
 
 -- the words of a host at each device are those of its script there
 abbrev IsKept : NetHost → Type 0

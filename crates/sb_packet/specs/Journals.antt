@@ -1,5 +1,5 @@
 -- A journal says which packets the devices stepped. When is it one legal history of a network's scripts?
-use Rattle.std.specs.Prelude.{ℕ, ◌≡◌, ◌≤◌, ◌<◌, Bool, true, false, ◌&&◌, ◌||◌, ◌==◌, nat_le, nat_lt, List, ◌∷◌, map, flat_map, filter, length, All, Contains, IsTrue, if◌then◌else◌}
+use Rattle.std.specs.Prelude.{ℕ, ◌≡◌, ◌≤◌, ◌<◌, Bool, true, false, ◌-◌, ◌++◌, ◌&&◌, ◌||◌, ◌==◌, nat_le, nat_lt, List, [], ◌∷◌, map, flat_map, filter, length, All, Contains, IsTrue, if◌then◌else◌}
 use Rattle.std.specs.Option.{option_map_or}
 use Rattle.sb_word.specs.declared.command.Op.{Op}
 use Rattle.sb_word.specs.declared.command.Op.TheVariants.{ReqRd, ReqWr, ReqWrPosted, ReqAtomic, RespRd, RespWr}
@@ -8,6 +8,15 @@ use Rattle.sb_packet.specs.Accesses.{Access, accesses_of}
 use Rattle.sb_packet.specs.Networks.{NetHost, Network, device_at, width_to}
 use Rattle.sb_packet.specs.Scripts.{script_accesses}
 use Rattle.sb_packet.specs.declared.entry.Entry.{Entry}
+
+-- what contracts see of a journal: the entries in order, and how many more it takes without memory
+pub record Ledger : Type 0 where
+  pub entries : List Entry
+  pub spare : ℕ
+
+-- a journal with one entry more, which takes a place that was reserved
+abbrev pub with_entry : Ledger → Entry → Ledger
+with_entry journal e = record { entries = journal.entries ++ e ∷ []; spare = journal.spare - 1 }
 
 -- the words that a journal has at a device, in order
 abbrev pub journal_accesses : List Entry → ℕ → List Access

@@ -1,6 +1,7 @@
 //! The journal of a run.
 
-ghost use Rattle.std.specs.Prelude.{◌≡◌, ◌≤◌, ◌<◌, ◌-◌, ◌++◌, [], ◌∷◌, OnOk, OnErr};
+ghost use Rattle.std.specs.Prelude.{◌≡◌, ◌≤◌, ◌<◌, [], OnOk, OnErr};
+ghost use Rattle.sb_packet.specs.Journals.{with_entry};
 
 use crate::entry::Entry;
 use std::alloc::{AllocError, Global};
@@ -16,7 +17,7 @@ pub struct Journal {
 
 impl Model for Journal {
     ghost use Rattle.std.specs.Prelude.{◌+◌, ◌≤◌, vec_len, vec_capacity};
-    ghost use Rattle.sb_packet.specs.Ledger.{Ledger};
+    ghost use Rattle.sb_packet.specs.Journals.{Ledger};
 
     ghost Value = { Ledger };
 
@@ -52,8 +53,8 @@ impl Journal {
 
     /// Puts an entry at the end. It takes no memory.
     pub fn add(&mut self, entry: &Entry)
-        requires { 0 < self.old.spare }
-        ensures { self.new ≡ record { entries = self.old.entries ++ entry.now ∷ []; spare = self.old.spare - 1 } }
+        requires room { 0 < self.old.spare }
+        ensures entry { self.new ≡ with_entry self.old entry.now }
     {
         self.kept.push_reserved(*entry);
         self.spare -= 1;

@@ -10,9 +10,6 @@ ghost use Rattle.sb_packet.specs.Cuts.{cut_parts, first_part, is_one_part, other
 ghost use Rattle.sb_packet.specs.Journals.{journal_accesses, IsLawful};
 ghost use Rattle.sb_packet.specs.Soundness.{IsFine, IsSound, IsWhole};
 ghost use Rattle.sb_packet.specs.Answers.{access_run, answer_at_first, answer_body, answer_code};
-ghost use Rattle.sb_packet.specs.Outcomes.{run_results};
-ghost use Rattle.sb_packet.specs.Solo.{solo_network, solo_packets, IsSoloJournal};
-ghost use Rattle.sb_packet.specs.SoloRuns.{solo_outcomes_from, solo_results};
 ghost use Rattle.sb_packet.specs.declared.entry.Entry.{Entry};
 ghost use Rattle.sb_packet.specs.declared.packet.Packet.{Packet};
 ghost use Rattle.sb_packet.specs.declared.transaction.Txn.{Txn};
@@ -121,30 +118,4 @@ pub fn lawful_answers_are_found()
         → IsLawful network journal
         → (d : ℕ) → let list = journal_accesses journal d in
         map (answer_at_first (opening_memory network d) list) list ≡ (access_run network d list).answers }
-{}
-
-/// A solo journal is one legal history of its script.
-pub fn solo_journals_are_lawful()
-    ensures lawful { (script : List Txn) (journal : List Entry)
-        → All IsTransaction script → IsSoloJournal script journal
-        → IsLawful (solo_network script) journal }
-{}
-
-/// What a solo journal comes to is what its script comes to, transaction by transaction.
-pub fn solo_results_are_the_journals()
-    ensures results { (script : List Txn) (journal : List Entry)
-        → All IsTransaction script → IsSoloJournal script journal
-        → run_results (solo_network script) journal ≡ solo_results script }
-{}
-
-/// A script has no more packets than words.
-pub fn solo_packets_are_few()
-    ensures few { (script : List Txn)
-        → All IsTransaction script → length (solo_packets script) ≤ sum_by (λ t. t.count) script }
-{}
-
-/// Each transaction has an outcome.
-pub fn outcomes_are_many()
-    ensures one_each { (script : List Txn) (i : ℕ) (m : MemoryState) (txns : List Txn)
-        → length (solo_outcomes_from script i m txns) ≡ length txns }
 {}

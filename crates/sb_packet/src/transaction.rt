@@ -1,7 +1,7 @@
 //! What a script asks for, and what comes of it.
 
 ghost use Rattle.std.specs.Prelude.{◌≡◌, ◌≤◌};
-ghost use Rattle.sb_packet.specs.Codes.{code_number};
+ghost use Rattle.sb_packet.specs.Memories.{code_number};
 ghost use Rattle.sb_packet.specs.Outcomes.{code_numbered};
 
 use crate::bytes::Bytes;

@@ -4,8 +4,8 @@ use Rattle.std.specs.Prelude.{flat_map}
 use Rattle.std.proofs.lemmas.List.{append-nil}
 use Rattle.sb_packet.specs.Accesses.{message_accesses}
 use Rattle.sb_packet.specs.Messages.{Message, message_of}
-use Rattle.sb_packet.specs.Prefixes.{IsPrefix}
-use Rattle.sb_packet.specs.Traffic.{item_messages}
+use Rattle.sb_link.specs.Prefixes.{IsPrefix}
+use Rattle.sb_link.specs.Traffic.{item_messages}
 use Rattle.sb_packet.specs.declared.item.Item.TheVariants as items
 use Rattle.sb_port.specs.Waiting.{listed, released}
 use Rattle.sb_port.specs.Ports.{PortSide, PortState, port_messages, port_accesses, offered_words, let_go}

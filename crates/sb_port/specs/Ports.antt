@@ -2,8 +2,8 @@
 use Rattle.std.specs.Prelude.{◌≡◌, ℕ, ◌≤◌, Bool, true, false, not, ◌&&◌, ◌||◌, List, [], ◌++◌, length, flat_map, All, None}
 use Rattle.sb_packet.specs.Accesses.{Access, message_accesses}
 use Rattle.sb_packet.specs.Messages.{Message}
-use Rattle.sb_packet.specs.Plans.{RingPlan}
-use Rattle.sb_packet.specs.Traffic.{AreInTurn, IsPlanned, has_close, item_messages}
+use Rattle.sb_link.specs.RingPlans.{RingPlan}
+use Rattle.sb_link.specs.Traffic.{AreInTurn, IsPlanned, has_close, item_messages}
 use Rattle.sb_packet.specs.Soundness.{IsSound, IsFine}
 use Rattle.sb_packet.specs.declared.item.Item.{Item}
 use Rattle.sb_link.specs.Ends.{Mark}

@@ -6,9 +6,9 @@ use Rattle.std.proofs.lemmas.List.Elements.{All-get_or}
 use Rattle.std.proofs.lemmas.List.Sums.{sum_by-set}
 use Rattle.sb_packet.specs.Accesses.{Access}
 use Rattle.sb_packet.specs.Messages.{message_of}
-use Rattle.sb_packet.specs.Plans.{RingPlan, goes_through, message_flow}
-use Rattle.sb_packet.specs.Prefixes.{IsSubsequence}
-use Rattle.sb_packet.specs.Traffic.{IsPlanned, item_accesses}
+use Rattle.sb_link.specs.RingPlans.{RingPlan, goes_through, message_flow}
+use Rattle.sb_link.specs.Prefixes.{IsSubsequence}
+use Rattle.sb_link.specs.Traffic.{IsPlanned, item_accesses}
 use Rattle.sb_packet.specs.declared.packet.Packet.{Packet}
 use Rattle.sb_packet.specs.declared.item.Item.{Item}
 use Rattle.sb_port.specs.Ports.{PortSide, offered_words}

@@ -5,8 +5,8 @@ use Rattle.std.proofs.lemmas.List.{length-map}
 use Rattle.std.proofs.lemmas.List.Elements.{All-cons, All-nil}
 use Rattle.std.proofs.lemmas.List.Sums.{sum_by-cons}
 use Rattle.sb_packet.specs.Accesses.{Access}
-use Rattle.sb_packet.specs.Plans.{NetFlow}
-use Rattle.sb_packet.specs.Prefixes.{IsSubsequence, none}
+use Rattle.sb_link.specs.RingPlans.{NetFlow}
+use Rattle.sb_link.specs.Prefixes.{IsSubsequence, none}
 use Rattle.sb_port.specs.Ports.{PortSide, fresh_port, offered_words}
 use Rattle.sb_node.specs.Sides.{received_words}
 use Rattle.sb_router.specs.Lanes.{InletState, LaneState, Route, held_words, no_inlet, no_port}

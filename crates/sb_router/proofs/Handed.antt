@@ -2,7 +2,7 @@
 use Rattle.std.proofs.Common.{◌≡◌, ◌⊎◌, inl, inr, ℕ, Some, set, sym, refl, ap, ◌∙◌, subst, length}
 use Rattle.std.proofs.lemmas.List.{set-get_or}
 use Rattle.sb_packet.specs.Messages.{message_of}
-use Rattle.sb_packet.specs.Traffic.{MayPass}
+use Rattle.sb_link.specs.Traffic.{MayPass}
 use Rattle.sb_packet.specs.declared.packet.Packet.{Packet}
 use Rattle.sb_port.specs.Ports.{offered_words, PortSide}
 use Rattle.sb_router.specs.Lanes.{LaneState, Route, inlet_at, next_place, no_port, outlet_at}

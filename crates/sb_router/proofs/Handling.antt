@@ -8,10 +8,10 @@ use Rattle.std.proofs.lemmas.List.FromFn.{length-map-range_with_len}
 use Rattle.std.proofs.lemmas.List.Sums.{get_or-le-sum_by, sum_by-set}
 use Rattle.sb_packet.specs.Accesses.{Access, access_at, accesses_of}
 use Rattle.sb_packet.specs.Messages.{Message, message_of}
-use Rattle.sb_packet.specs.Plans.{NetFlow, RingFlows, RingPlan, goes_through, is_allowed, message_flow}
-use Rattle.sb_packet.specs.Prefixes.{IsSubsequence}
+use Rattle.sb_link.specs.RingPlans.{NetFlow, RingFlows, RingPlan, goes_through, is_allowed, message_flow}
+use Rattle.sb_link.specs.Prefixes.{IsSubsequence}
 use Rattle.sb_packet.specs.Soundness.{IsSound}
-use Rattle.sb_packet.specs.Traffic.{MayPass, item_messages}
+use Rattle.sb_link.specs.Traffic.{MayPass, item_messages}
 use Rattle.sb_packet.specs.declared.packet.Packet.{Packet}
 use Rattle.sb_packet.specs.declared.item.Item.{Item}
 use Rattle.sb_port.proofs.Items.{item_messages-packet}

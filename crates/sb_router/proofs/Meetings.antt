@@ -3,8 +3,8 @@ use Rattle.std.proofs.Common.{ℕ, ◌<◌, length, refl, sym, ap, ◌∙◌, su
 use Rattle.std.proofs.lemmas.List.{length-set}
 use Rattle.std.proofs.lemmas.List.Elements.{All-get_or, All-set}
 use Rattle.sb_packet.specs.Messages.{message_of}
-use Rattle.sb_packet.specs.Plans.{RingPlan}
-use Rattle.sb_packet.specs.Traffic.{IsCarriable, has_close}
+use Rattle.sb_link.specs.RingPlans.{RingPlan}
+use Rattle.sb_link.specs.Traffic.{IsCarriable, has_close}
 use Rattle.sb_port.specs.Ports.{IsFit, PortSide, PortState, port_accesses}
 use Rattle.sb_node.specs.Kept.{IsPortMet, IsRingMet}
 use Rattle.sb_node.specs.Sides.{RingSide}

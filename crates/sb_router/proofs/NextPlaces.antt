@@ -2,7 +2,7 @@
 use Rattle.std.proofs.Common.{◌≡◌, ℕ, ◌<◌, Option, Some, None, refl}
 use Rattle.std.specs.Option.{option_and_then}
 use Rattle.sb_packet.specs.Messages.{message_of}
-use Rattle.sb_packet.specs.Plans.{NetFlow, RingPlan, message_flow}
+use Rattle.sb_link.specs.RingPlans.{NetFlow, RingPlan, message_flow}
 use Rattle.sb_packet.specs.declared.packet.Packet.{Packet}
 use Rattle.sb_router.specs.Lanes.{Route, next_place}
 

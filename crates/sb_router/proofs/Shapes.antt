@@ -1,7 +1,7 @@
 -- What no step changes: how many rings there are, and their plans.
 use Rattle.std.proofs.Common.{◌≡◌, ℕ, ◌<◌, length, set, get_or, refl, sym, ap, ◌∙◌, arith}
 use Rattle.std.proofs.lemmas.List.{length-set}
-use Rattle.sb_packet.specs.Plans.{NetFlow, RingPlan, goes_through}
+use Rattle.sb_link.specs.RingPlans.{NetFlow, RingPlan, goes_through}
 use Rattle.sb_port.specs.Ports.{PortSide}
 use Rattle.sb_router.specs.Lanes.{InletState, LaneState, Route, inlet_at, no_inlet, no_port, outlet_at}
 use Rattle.sb_router.specs.Steps.{Step, Steps, receives, looks, drops, offers, turns, tells, none, further, emptied}

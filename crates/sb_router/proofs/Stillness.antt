@@ -2,8 +2,8 @@
 use Rattle.std.proofs.Common.{◌≡◌, ℕ, ◌<◌, ◌≤◌, List, [], ◌∷◌, ◌++◌, length, set, refl, sym, ap, ◌∙◌, arith, append-nil, length-append}
 use Rattle.std.specs.Prelude.{flat_map}
 use Rattle.sb_packet.specs.Accesses.{message_accesses}
-use Rattle.sb_packet.specs.Prefixes.{IsPrefix}
-use Rattle.sb_packet.specs.Traffic.{item_messages}
+use Rattle.sb_link.specs.Prefixes.{IsPrefix}
+use Rattle.sb_link.specs.Traffic.{item_messages}
 use Rattle.sb_port.specs.Ports.{PortSide, offered_words}
 use Rattle.sb_port.specs.Waiting.{Waiting, listed}
 use Rattle.sb_node.specs.Kept.{IsKeptPort}

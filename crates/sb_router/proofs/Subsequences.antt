@@ -1,7 +1,7 @@
 -- Lists that are others with some items left out, as these grow.
 use Rattle.std.proofs.Common.{◌≡◌, List, [], ◌++◌, sym, ap, ◌∙◌, subst}
 use Rattle.std.proofs.lemmas.List.{append-nil}
-use Rattle.sb_packet.specs.Prefixes.{IsSubsequence}
+use Rattle.sb_link.specs.Prefixes.{IsSubsequence}
 use Rattle.sb_node.proofs.Subsequences.{front_of, more_kept, subsequence_then}
 
 -- the end may be left out

@@ -2,7 +2,7 @@
 use Rattle.std.specs.Prelude.{◌≡◌, ◌<◌, ◌⊎◌, ◌++◌, ℕ, true, length, Option, Some}
 use Rattle.sb_packet.specs.Accesses.{accesses_of}
 use Rattle.sb_packet.specs.Messages.{message_of}
-use Rattle.sb_packet.specs.Traffic.{MayPass}
+use Rattle.sb_link.specs.Traffic.{MayPass}
 use Rattle.sb_packet.specs.declared.packet.Packet.{Packet}
 use Rattle.sb_port.specs.Ports.{PortSide, offered_words, owes}
 use Rattle.sb_node.specs.Sides.{is_full}

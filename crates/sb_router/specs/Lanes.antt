@@ -3,7 +3,7 @@ use Rattle.std.specs.Prelude.{ℕ, Bool, false, List, [], Option, None, Some, sl
 use Rattle.std.specs.Option.{option_and_then}
 use Rattle.sb_packet.specs.Accesses.{Access, accesses_of}
 use Rattle.sb_packet.specs.Messages.{message_of}
-use Rattle.sb_packet.specs.Plans.{NetFlow, RingPlan, message_flow}
+use Rattle.sb_link.specs.RingPlans.{NetFlow, RingPlan, message_flow}
 use Rattle.sb_packet.specs.declared.packet.Packet.{Packet}
 use Rattle.sb_port.specs.Waiting.{nothing_waits}
 use Rattle.sb_port.specs.Ports.{PortSide, offered_words}

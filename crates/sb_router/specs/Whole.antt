@@ -1,7 +1,7 @@
 -- When a direction of a router is whole: it knows the truth about its rings.
 use Rattle.std.specs.Prelude.{◌≡◌, ◌<◌, ℕ, true, List, [], ◌∷◌, ◌++◌, length, All, Some}
 use Rattle.sb_packet.specs.Messages.{message_of}
-use Rattle.sb_packet.specs.Traffic.{IsCarriable, has_close}
+use Rattle.sb_link.specs.Traffic.{IsCarriable, has_close}
 use Rattle.sb_packet.specs.declared.packet.Packet.{Packet}
 use Rattle.sb_packet.specs.declared.item.Item.{Item}
 use Rattle.sb_port.specs.Ports.{IsFit, PortSide}

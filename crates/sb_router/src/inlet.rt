@@ -5,7 +5,7 @@ ghost use Rattle.std.specs.List.{list_all};
 ghost use Rattle.std.specs.Option.{option_map};
 ghost use Rattle.std.specs.Borrow.{sem, Lends};
 ghost use Rattle.sb_packet.specs.Messages.{message_of};
-ghost use Rattle.sb_packet.specs.Plans.{message_flow};
+ghost use Rattle.sb_link.specs.RingPlans.{message_flow};
 ghost use Rattle.sb_link.specs.Plans.{flow_of};
 ghost use Rattle.sb_node.specs.Sides.{ring_side};
 ghost use Rattle.sb_router.specs.Causes.{FindsBesides};

@@ -4,8 +4,8 @@ ghost use Rattle.std.specs.Prelude.{◌≡◌, ◌<◌, ℕ, true, length, set, 
 ghost use Rattle.sb_node.specs.Kept.{IsKeptPort, IsKeptRing, IsPortMet, IsRingMet};
 ghost use Rattle.sb_node.specs.Sides.{RingSide};
 ghost use Rattle.sb_port.specs.Ports.{PortSide};
-ghost use Rattle.sb_packet.specs.Plans.{NetFlow};
-ghost use Rattle.sb_packet.specs.Traffic.{has_close};
+ghost use Rattle.sb_link.specs.RingPlans.{NetFlow};
+ghost use Rattle.sb_link.specs.Traffic.{has_close};
 ghost use Rattle.sb_router.specs.Forwarding.{HasForwarded, Passes, Words};
 ghost use Rattle.sb_router.specs.Lanes.{inlet_at, outlet_at};
 ghost use Rattle.sb_router.specs.RouteOf.{route_of};

@@ -1,7 +1,7 @@
 //! A router at its links.
 
 ghost use Rattle.std.specs.Prelude.{◌≡◌, ◌<◌, ℕ, true, false, All, Some, length, map, IfOk};
-ghost use Rattle.sb_packet.specs.Plans.{NetFlow};
+ghost use Rattle.sb_link.specs.RingPlans.{NetFlow};
 ghost use Rattle.std.specs.Borrow.{sem, Lends};
 ghost use Rattle.sb_node.specs.Sides.{ring_side};
 ghost use Rattle.sb_port.specs.Ports.{fresh_port};

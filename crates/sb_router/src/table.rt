@@ -1,7 +1,7 @@
 //! The table that says where each flow goes.
 
 ghost use Rattle.std.specs.Prelude.{◌≡◌, ◌<◌, ◌==◌, ℕ, None, Some, length, slice_index_or, vec_len, IfOk, IfSome};
-ghost use Rattle.sb_packet.specs.Plans.{NetFlow};
+ghost use Rattle.sb_link.specs.RingPlans.{NetFlow};
 ghost use Rattle.sb_flow.specs.NetworkOf.{network_of};
 ghost use Rattle.sb_flow.specs.Tables.{paths_of};
 ghost use Rattle.sb_router.specs.RouteOf.{route_of};

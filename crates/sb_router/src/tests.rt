@@ -3,7 +3,7 @@
 ghost use Rattle.std.specs.Prelude.{◌≡◌, ◌≤◌, ◌<◌, ◌+◌, ◌*◌, All, IfOk, IsSome, [], ◌∷◌, length};
 ghost use Rattle.sb_flow.specs.NetworkOf.{network_of};
 ghost use Rattle.sb_flow.specs.Tables.{paths_of};
-ghost use Rattle.sb_packet.specs.Rings.{ring_link, ring_plan};
+ghost use Rattle.sb_flow.specs.Rings.{ring_link, ring_plan};
 ghost use Rattle.sb_port.specs.Ports.{fresh_port};
 ghost use Rattle.sb_port.specs.Waiting.{IsWidth};
 ghost use Rattle.sb_router.specs.Fresh.{IsFreshPair};

@@ -4,8 +4,8 @@ use Rattle.std.specs.Prelude.{slice_index_or}
 use Rattle.std.proofs.lemmas.List.Elements.{All-from_recursion}
 use Rattle.sb_link.specs.declared.ends.RxEnd as rx
 use Rattle.sb_link.specs.declared.ends.TxEnd as tx
-use Rattle.sb_packet.specs.Plans.{RingPlan}
-use Rattle.sb_packet.specs.Rings.{ring_plan}
+use Rattle.sb_link.specs.RingPlans.{RingPlan}
+use Rattle.sb_flow.specs.Rings.{ring_plan}
 use Rattle.sb_port.specs.Ports.{PortSide, fresh_port}
 use Rattle.sb_node.specs.Sides.{RingSide, ring_side}
 use Rattle.sb_device.specs.Sides.{DeviceSide}

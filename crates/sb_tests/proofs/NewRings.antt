@@ -3,8 +3,8 @@ use Rattle.std.proofs.Common.{◌≡◌, ℕ, List, [], ◌∷◌, ◌++◌, ref
 use Rattle.std.specs.Prelude.{◌≢◌}
 use Rattle.std.proofs.lemmas.List.Elements.{All-from_recursion}
 use Rattle.sb_link.specs.Ends.{IsNewRing}
-use Rattle.sb_packet.specs.Plans.{RingPlan}
-use Rattle.sb_packet.specs.Rings.{ring_plan}
+use Rattle.sb_link.specs.RingPlans.{RingPlan}
+use Rattle.sb_flow.specs.Rings.{ring_plan}
 use Rattle.sb_port.specs.Waiting.{IsWidth}
 use Rattle.sb_tests.specs.Samples.{sample}
 

@@ -3,8 +3,8 @@ use Rattle.std.proofs.Common.{◌≡◌, ℕ, zero, suc, ◌-◌, ◌*◌, Bool,
 use Rattle.std.specs.Prelude.{Option, Some, drop, replicate, slice_index_or}
 use Rattle.std.proofs.lemmas.List.{length-replicate}
 use Rattle.sb_packet.specs.Memories.{MemoryState}
-use Rattle.sb_packet.specs.Plans.{AddressRange, RingPlan}
-use Rattle.sb_packet.specs.Rings.{flow_table, ring_plan, ring_ways}
+use Rattle.sb_link.specs.RingPlans.{AddressRange, RingPlan}
+use Rattle.sb_flow.specs.Rings.{flow_table, ring_plan, ring_ways}
 use Rattle.sb_link.proofs.Truths.{none_set, none_in_row}
 use Rattle.sb_device.specs.Plans.{IsPlannedFor}
 use Rattle.sb_tests.specs.Samples.{sample}

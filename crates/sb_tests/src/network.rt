@@ -1,7 +1,7 @@
 //! The links of a small network, and its nodes at them.
 
 ghost use Rattle.std.specs.Prelude.{◌≡◌, [], ◌∷◌, ◌++◌, IfOk};
-ghost use Rattle.sb_packet.specs.Rings.{ring_plan};
+ghost use Rattle.sb_flow.specs.Rings.{ring_plan};
 ghost use Rattle.sb_link.specs.Ends.{IsNewRing};
 ghost use Rattle.sb_link.specs.PlanOf.{plan_of};
 ghost use Rattle.sb_port.specs.Ports.{fresh_port};

@@ -5,9 +5,9 @@ use Rattle.hex.specs.Hex.{decode_pairs}
 use Rattle.sb_word.specs.declared.atomic.AtomicOp.TheVariants.{Swap}
 use Rattle.sb_packet.specs.declared.transaction.Kind.TheVariants.{Read, Write, Posted, Atomic}
 use Rattle.sb_text.specs.Numerals.{numeral_of}
-use Rattle.sb_text.specs.Lines.{lines_of, words_of}
+use Rattle.sb_text.specs.Lines.{lines_of, words_in_line}
 use Rattle.sb_text.specs.Sentences.{line_of}
-use Rattle.sb_text.specs.Scripts.{script_of}
+use Rattle.sb_text.specs.Scripts.{script_of_text}
 use Rattle.sb_text.specs.declared.line_fault.LineFault.TheVariants as faults
 use Rattle.sb_text.specs.declared.script_fault.ScriptFault.TheVariants as script_faults
 
@@ -45,10 +45,10 @@ letters_are_not_decimal = refl
 
 -- ---- words and lines
 
-words : words_of (codes "\t wr\t0x10 ") ≡ codes "wr" ∷ codes "0x10" ∷ []
+words : words_in_line (codes "\t wr\t0x10 ") ≡ codes "wr" ∷ codes "0x10" ∷ []
 words = refl
 
-no_words : words_of (codes " \t ") ≡ []
+no_words : words_in_line (codes " \t ") ≡ []
 no_words = refl
 
 lines : lines_of (codes "a\r\n\nb") ≡ codes "a\r" ∷ [] ∷ codes "b" ∷ []
@@ -149,14 +149,14 @@ last_in_range = refl
 
 -- ---- scripts
 
-two_lines : script_of (codes "wr 0x10 2 0102030405060708\r\nrd 0x10 2 2") ≡ Ok (
+two_lines : script_of_text (codes "wr 0x10 2 0102030405060708\r\nrd 0x10 2 2") ≡ Ok (
     record { kind = Write; size = 2; addr = 16; count = 2; body = 1 ∷ 2 ∷ 3 ∷ 4 ∷ 5 ∷ 6 ∷ 7 ∷ 8 ∷ [] } ∷
     record { kind = Read; size = 2; addr = 16; count = 2; body = [] } ∷ [])
 unfolding decode_pairs
 two_lines = refl
 
-third_line : script_of (codes "# one\n\nrd 0 4 1\nrd\n") ≡ Err (script_faults.Line 3 faults.Size)
+third_line : script_of_text (codes "# one\n\nrd 0 4 1\nrd\n") ≡ Err (script_faults.Line 3 faults.Size)
 third_line = refl
 
-nothing : script_of (codes "\n \n#\n") ≡ Ok []
+nothing : script_of_text (codes "\n \n#\n") ≡ Ok []
 nothing = refl

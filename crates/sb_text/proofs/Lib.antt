@@ -5,3 +5,4 @@ pub mod BodyLemmas
 pub mod TextLemmas
 pub mod ScriptLemmas
 pub mod Examples
+pub mod ReportExamples

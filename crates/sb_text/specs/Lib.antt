@@ -4,3 +4,5 @@ pub mod Faults
 pub mod Transactions
 pub mod Sentences
 pub mod Scripts
+pub mod TextLines
+pub mod Reports

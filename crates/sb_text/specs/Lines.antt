@@ -26,8 +26,8 @@ abbrev pub lines_of : List ℕ → List (List ℕ)
 lines_of text = without_empty_end (slice_split is_line_end text)
 
 -- The words of a line are its pieces between blanks and tabs that aren't empty.
-abbrev pub words_of : List ℕ → List (List ℕ)
-words_of line = filter (λ piece. not (is_empty piece)) (slice_split is_blank line)
+abbrev pub words_in_line : List ℕ → List (List ℕ)
+words_in_line line = filter (λ piece. not (is_empty piece)) (slice_split is_blank line)
 
 -- a line begins with no blank
 abbrev pub IsTrimmed : List ℕ → Type 0

@@ -22,8 +22,8 @@ abbrev pub is_number_of : ℕ → ℕ → List ℕ → Bool
 is_number_of base most digits = nat_le 1 (length digits) && nat_le (length digits) most && list_all (is_digit_of base) digits && nat_lt (digits_value base digits) (2 ^ 64)
 
 -- the value of such digits
-abbrev pub number_of : ℕ → ℕ → List ℕ → Option ℕ
-number_of base most digits = if is_number_of base most digits then Some (digits_value base digits) else None
+abbrev pub digits_number : ℕ → ℕ → List ℕ → Option ℕ
+digits_number base most digits = if is_number_of base most digits then Some (digits_value base digits) else None
 
 -- A word is hexadecimal if it begins with `0x`.
 abbrev pub is_hexadecimal : List ℕ → Bool
@@ -31,4 +31,4 @@ is_hexadecimal word = bytes_eq (take 2 word) (codes "0x")
 
 -- The value of a word that is a number: `0x` and 1 to 16 hexadecimal digits, or 1 to 20 decimal ones.
 abbrev pub numeral_of : List ℕ → Option ℕ
-numeral_of word = if is_hexadecimal word then number_of 16 16 (drop 2 word) else number_of 10 20 word
+numeral_of word = if is_hexadecimal word then digits_number 16 16 (drop 2 word) else digits_number 10 20 word

@@ -28,15 +28,15 @@ transactions_from number (line ∷ lines) = do
   Ok (before txn txns)
 
 -- the words of all transactions together
-abbrev pub words_in : List Txn → ℕ
-words_in txns = sum_by (λ txn. txn.count) txns
+abbrev pub words_together : List Txn → ℕ
+words_together txns = sum_by (λ txn. txn.count) txns
 
 -- A script is the transactions of its lines, of which there are at most 65,536, with 262,144 words at most.
-abbrev pub script_of : List ℕ → Result (List Txn) ScriptFault
-script_of text = do
+abbrev pub script_of_text : List ℕ → Result (List Txn) ScriptFault
+script_of_text text = do
   done ← unless (nat_le (length (lines_of text)) 65536) (Lines (length (lines_of text)))
   txns ← transactions_from 1 (lines_of text)
-  done ← unless (nat_le (words_in txns) 262144) (Words (words_in txns))
+  done ← unless (nat_le (words_together txns) 262144) (Words (words_together txns))
   Ok txns
 
 -- a script's fault never says of a line that memory was missing

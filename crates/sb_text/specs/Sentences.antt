@@ -7,7 +7,7 @@ use Rattle.sb_packet.specs.declared.transaction.Kind.{Kind}
 use Rattle.sb_packet.specs.declared.transaction.Kind.TheVariants.{Read, Write, Posted, Atomic}
 use Rattle.sb_packet.specs.declared.transaction.Txn.{Txn}
 use Rattle.sb_text.specs.Faults.{◌>>=◌, some_or}
-use Rattle.sb_text.specs.Lines.{words_of}
+use Rattle.sb_text.specs.Lines.{words_in_line}
 use Rattle.sb_text.specs.Transactions.{transaction_of}
 use Rattle.sb_text.specs.declared.line_fault.LineFault.{LineFault}
 use Rattle.sb_text.specs.declared.line_fault.LineFault.TheVariants as faults
@@ -48,4 +48,4 @@ words_say words = if is_comment words then Ok None else sentence_of words
 
 -- A line says a transaction, or nothing, or has a fault. One carriage return at its end counts for nothing.
 abbrev pub line_of : List ℕ → Result (Option Txn) LineFault
-line_of line = words_say (words_of (strip_carriage_return line))
+line_of line = words_say (words_in_line (strip_carriage_return line))

@@ -1,4 +1,4 @@
-//! The text of a script: its lines, its words, and the transactions that they say.
+//! The text of a script: its lines, its words, and the transactions that they say. Its specs/ define the text of a run too.
 #![tactic(auto)]
 
 mod body;
@@ -6,7 +6,7 @@ mod digit;
 mod line;
 mod line_fault;
 mod lines;
-mod numeral;
+mod numerals;
 mod script;
 mod script_fault;
 #[cfg(test)]
@@ -17,5 +17,6 @@ mod words;
 
 pub use line::read_line;
 pub use line_fault::LineFault;
+pub use numerals::numeral;
 pub use script::read_script;
 pub use script_fault::ScriptFault;

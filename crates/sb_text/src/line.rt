@@ -3,7 +3,7 @@
 ghost use Rattle.std.specs.Prelude.{◌≡◌, ◌⊎◌, IfOk, IfErr, IfSome};
 ghost use Rattle.std.specs.Str.Lines.{strip_carriage_return};
 ghost use Rattle.sb_packet.specs.Scripts.{IsTransaction};
-ghost use Rattle.sb_text.specs.Lines.{words_of};
+ghost use Rattle.sb_text.specs.Lines.{words_in_line};
 ghost use Rattle.sb_text.specs.Sentences.{arguments_of, line_of, sentence_of};
 ghost use Rattle.sb_text.specs.declared.line_fault.LineFault.TheVariants as faults;
 
@@ -17,8 +17,9 @@ use std::alloc::Global;
 /// A transaction from the words behind its verb, which are to be three.
 fn arguments(alloc: Global, kind: Kind, mut words: Words) -> Result<Txn, LineFault>
     ensures transaction { IfOk result IsTransaction }
-    ensures value { IfOk result (λ txn. arguments_of kind (words_of words.entry.rest.now) ≡ Ok txn) }
-    ensures first_fault { IfErr result (λ fault. (fault ≡ faults.Memory) ⊎ (arguments_of kind (words_of words.entry.rest.now) ≡ Err fault)) }
+    ensures value { IfOk result (λ txn. arguments_of kind (words_in_line words.entry.rest.now) ≡ Ok txn) }
+    ensures first_fault { IfErr result (λ fault. (fault ≡ faults.Memory)
+        ⊎ (arguments_of kind (words_in_line words.entry.rest.now) ≡ Err fault)) }
 {
     let Some(addr) = words.next_word() else {
         return Err(LineFault::Number);
@@ -38,8 +39,8 @@ fn arguments(alloc: Global, kind: Kind, mut words: Words) -> Result<Txn, LineFau
 /// What words say that aren't a comment's; nothing, where there are none.
 fn sentence(alloc: Global, mut words: Words) -> Result<Option<Txn>, LineFault>
     ensures transaction { IfOk result (λ txn. IfSome txn IsTransaction) }
-    ensures value { IfOk result (λ txn. sentence_of (words_of words.entry.rest.now) ≡ Ok txn) }
-    ensures first_fault { IfErr result (λ fault. (fault ≡ faults.Memory) ⊎ (sentence_of (words_of words.entry.rest.now) ≡ Err fault)) }
+    ensures value { IfOk result (λ txn. sentence_of (words_in_line words.entry.rest.now) ≡ Ok txn) }
+    ensures first_fault { IfErr result (λ fault. (fault ≡ faults.Memory) ⊎ (sentence_of (words_in_line words.entry.rest.now) ≡ Err fault)) }
 {
     match words.next_word() {
         None => Ok(None),

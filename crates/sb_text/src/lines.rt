@@ -21,7 +21,8 @@ impl<'a> Lines<'a> {
 
     /// Takes off the next line, without its line feed.
     pub fn next_line(&mut self) -> Option<&'a [u8]>
-        ensures line { MatchOption result (self.old.rest.now ≡ []) (λ line. lines_of self.old.rest.now ≡ line.now ∷ lines_of self.new.rest.now) }
+        ensures line { MatchOption result (self.old.rest.now ≡ [])
+            (λ line. lines_of self.old.rest.now ≡ line.now ∷ lines_of self.new.rest.now) }
         ensures shorter { IfSome result (λ line. length self.new.rest.now < length self.old.rest.now) }
     {
         if self.rest.is_empty() {

@@ -3,7 +3,7 @@
 ghost use Rattle.std.specs.Prelude.{◌≡◌, ◌⊎◌, ◌≤◌, ◌+◌, ◌^◌, ◌++◌, [], All, length, vec_len, IfOk, IfErr, IfSome, OnOk, Ok, Err};
 ghost use Rattle.sb_packet.specs.Scripts.{IsTransaction};
 ghost use Rattle.sb_text.specs.Lines.{lines_of};
-ghost use Rattle.sb_text.specs.Scripts.{before, SaysNoMemory, script_of, transactions_from, words_in};
+ghost use Rattle.sb_text.specs.Scripts.{before, SaysNoMemory, script_of_text, transactions_from, words_together};
 ghost use Rattle.sb_text.specs.declared.line_fault.LineFault.TheVariants as line_faults;
 ghost use Rattle.sb_text.specs.declared.script_fault.ScriptFault.TheVariants as faults;
 
@@ -22,7 +22,7 @@ const MOST_WORDS: u32 = 262144;
 fn fault_of(text: &[u8], line: u32, fault: LineFault) -> ScriptFault
     requires limit { length text.now ≤ 2 ^ 26 }
     requires line { (fault ≡ line_faults.Memory) ⊎ (transactions_from 1 (lines_of text.now) ≡ Err (faults.Line line fault)) }
-    ensures first_fault { (result ≡ faults.Memory) ⊎ (script_of text.now ≡ Err result) }
+    ensures first_fault { (result ≡ faults.Memory) ⊎ (script_of_text text.now ≡ Err result) }
     ensures no_memory { SaysNoMemory result }
 {
     if fault == LineFault::Memory {
@@ -57,7 +57,7 @@ fn transactions(alloc: Global, text: &[u8]) -> Result<Vec<Txn>, ScriptFault>
     ensures lines { IfOk result (λ txns. length (lines_of text.now) ≤ 65536) }
     ensures transactions { IfOk result (λ txns. All IsTransaction txns.items) }
     ensures limit { IfOk result (λ txns. vec_len txns ≤ 65536) }
-    ensures first_fault { IfErr result (λ fault. (fault ≡ faults.Memory) ⊎ (script_of text.now ≡ Err fault)) }
+    ensures first_fault { IfErr result (λ fault. (fault ≡ faults.Memory) ⊎ (script_of_text text.now ≡ Err fault)) }
     ensures no_memory { IfErr result SaysNoMemory }
 {
     let mut lines = Lines::new(text);
@@ -83,7 +83,7 @@ fn transactions(alloc: Global, text: &[u8]) -> Result<Vec<Txn>, ScriptFault>
 fn word_count(txns: &[Txn]) -> u32
     requires limit { length txns.now ≤ 65536 }
     requires transactions { All IsTransaction txns.now }
-    ensures { result ≡ words_in txns.now }
+    ensures { result ≡ words_together txns.now }
 {
     let mut words = 0;
     for txn in txns {
@@ -98,11 +98,11 @@ fn word_count(txns: &[Txn]) -> u32
 /// memory was missing.
 pub fn read_script(alloc: Global, text: &[u8]) -> Result<Script, ScriptFault>
     requires { length text.now ≤ 2 ^ 26 }
-    ensures value { IfOk result (λ script. script_of text.now ≡ Ok script) }
+    ensures value { IfOk result (λ script. script_of_text text.now ≡ Ok script) }
     ensures transactions { IfOk result (λ script. All IsTransaction script) }
     ensures lines { IfOk result (λ script. length script ≤ 65536) }
-    ensures words { IfOk result (λ script. words_in script ≤ 262144) }
-    ensures first_fault { IfErr result (λ fault. (fault ≡ faults.Memory) ⊎ (script_of text.now ≡ Err fault)) }
+    ensures words { IfOk result (λ script. words_together script ≤ 262144) }
+    ensures first_fault { IfErr result (λ fault. (fault ≡ faults.Memory) ⊎ (script_of_text text.now ≡ Err fault)) }
     ensures no_memory { IfErr result SaysNoMemory }
 {
     let txns = transactions(alloc, text)?;

@@ -7,7 +7,7 @@ ghost use Rattle.sb_text.specs.declared.line_fault.LineFault.TheVariants as faul
 
 use crate::body::decoded;
 use crate::line_fault::LineFault;
-use crate::numeral::numeral;
+use crate::numerals::numeral;
 use sb_packet::{ADDRESS_END, Bytes, Kind, PAGE_BYTES, Txn};
 use std::alloc::Global;
 

@@ -1,7 +1,7 @@
 //! The words of a line.
 
 ghost use Rattle.std.specs.Prelude.{◌≡◌, ◌<◌, ◌≤◌, true, false, [], ◌∷◌, All, length, slice_index, take, MatchOption};
-ghost use Rattle.sb_text.specs.Lines.{IsTrimmed, is_blank as blank_test, words_of};
+ghost use Rattle.sb_text.specs.Lines.{IsTrimmed, is_blank as blank_test, words_in_line};
 ghost use Rattle.sb_text.specs.Sentences.{is_comment as comment_test};
 
 use memchr::memchr2;
@@ -38,7 +38,7 @@ fn blank_len(line: &[u8]) -> usize
 /// A line without the blanks and tabs at its front.
 #[inline(always)]
 fn trimmed(line: &[u8]) -> &[u8]
-    ensures words { words_of result.now ≡ words_of line.now }
+    ensures words { words_in_line result.now ≡ words_in_line line.now }
     ensures front { IsTrimmed result.now }
 {
     let (_, rest) = line.split_at(blank_len(line));
@@ -74,7 +74,7 @@ impl<'a> Words<'a> {
     /// The words of a line.
     #[inline(always)]
     pub fn new(line: &'a [u8]) -> Words<'a>
-        ensures { words_of result.rest.now ≡ words_of line.now }
+        ensures { words_in_line result.rest.now ≡ words_in_line line.now }
     {
         Words {
             rest: trimmed(line),
@@ -84,7 +84,7 @@ impl<'a> Words<'a> {
     /// The first word begins with `#`.
     #[inline(always)]
     pub fn is_comment(&self) -> bool
-        ensures { result ≡ comment_test (words_of self.now.rest.now) }
+        ensures { result ≡ comment_test (words_in_line self.now.rest.now) }
     {
         !self.rest.is_empty() && self.rest[0] == b'#'
     }
@@ -96,7 +96,7 @@ impl<'a> Words<'a> {
         requires within { len ≤ length self.old.rest.now }
         requires word { All (λ byte. blank_test byte ≡ false) (take len self.old.rest.now) }
         requires end { len < length self.old.rest.now → blank_test (slice_index self.old.rest.now len) ≡ true }
-        ensures { words_of self.old.rest.now ≡ result.now ∷ words_of self.new.rest.now }
+        ensures { words_in_line self.old.rest.now ≡ result.now ∷ words_in_line self.new.rest.now }
     {
         let (word, rest) = self.rest.split_at(len);
         *self = Words::new(rest);
@@ -106,7 +106,8 @@ impl<'a> Words<'a> {
     /// Takes off the next word.
     #[inline(always)]
     pub fn next_word(&mut self) -> Option<&'a [u8]>
-        ensures { MatchOption result (words_of self.old.rest.now ≡ []) (λ word. words_of self.old.rest.now ≡ word.now ∷ words_of self.new.rest.now) }
+        ensures { MatchOption result (words_in_line self.old.rest.now ≡ [])
+            (λ word. words_in_line self.old.rest.now ≡ word.now ∷ words_in_line self.new.rest.now) }
     {
         if self.rest.is_empty() {
             return None;
@@ -117,7 +118,8 @@ impl<'a> Words<'a> {
     /// Takes off the next word, which may be long.
     #[inline(always)]
     pub fn next_long_word(&mut self) -> Option<&'a [u8]>
-        ensures { MatchOption result (words_of self.old.rest.now ≡ []) (λ word. words_of self.old.rest.now ≡ word.now ∷ words_of self.new.rest.now) }
+        ensures { MatchOption result (words_in_line self.old.rest.now ≡ [])
+            (λ word. words_in_line self.old.rest.now ≡ word.now ∷ words_in_line self.new.rest.now) }
     {
         if self.rest.is_empty() {
             return None;

@@ -4,8 +4,8 @@ use Rattle.std.specs.Prelude.{flat_map, decimal, Option}
 use Rattle.std.specs.List.{enumerate_from}
 use Rattle.std.proofs.lemmas.List.{append-nil, take_more, take_all, take-append-drop, length-take, drop-drop}
 use Rattle.sb_packet.specs.Outcomes.{Outcome}
-use Rattle.sb_packet.specs.TextLines.{body_text}
-use Rattle.sb_packet.specs.Reports.{outcome_line, state_text, image_rows}
+use Rattle.sb_text.specs.TextLines.{body_text}
+use Rattle.sb_text.specs.Reports.{outcome_line, state_text, image_rows}
 use Rattle.sb_packet.specs.declared.transaction.TxnState.{TxnState}
 use Rattle.sb_top.specs.Outputs.{GainsPart, Prints}
 use Rattle.sb_top.specs.Texts.{state_front}

@@ -10,12 +10,12 @@ use Rattle.sb_word.specs.declared.command.Op.{Op}
 use Rattle.sb_word.specs.declared.command.Op.TheVariants.{ReqWrPosted}
 use Rattle.sb_packet.specs.Messages.{Message, message_of}
 use Rattle.sb_packet.specs.Accesses.{Access, access_at, accesses_of, message_accesses}
-use Rattle.sb_packet.specs.Memories.{MemoryState, access_step, answer_by, answers_in, memory_after}
+use Rattle.sb_packet.specs.Memories.{MemoryState, access_step, answer_by, answers_in, answers_to, memory_after}
 use Rattle.sb_packet.specs.Answers.{answer_body, answer_code}
 use Rattle.sb_packet.specs.Cuts.{transaction_packets}
 use Rattle.sb_packet.specs.Outcomes.{Outcome, outcome_of}
 use Rattle.sb_packet.specs.Scripts.{request_of, transaction_accesses, transaction_message}
-use Rattle.sb_packet.specs.Solo.{solo_host}
+use Rattle.sb_top.specs.Solo.{solo_host}
 use Rattle.sb_packet.specs.declared.packet.Packet.{Packet}
 use Rattle.sb_packet.specs.declared.transaction.Kind.{Kind}
 use Rattle.sb_packet.specs.declared.transaction.Kind.TheVariants as kinds
@@ -23,7 +23,7 @@ use Rattle.sb_packet.specs.declared.transaction.Txn.{Txn}
 use Rattle.sb_packet.proofs.CutWords.{words_of_cut}
 use Rattle.sb_packet.proofs.FoundAnswers.{answers_in-append, memory_after-append}
 use Rattle.sb_packet.proofs.JoinedAnswers.{answer_code-append, answer_body-append}
-use Rattle.sb_top.specs.Steps.{found, packet_answers, state_by}
+use Rattle.sb_top.specs.Steps.{packet_answers, state_by}
 
 -- one element more
 pub take_next : {X : Type 0} (xs : List X) (k : ℕ) (x : X) → slice_get xs k ≡ Some x → take (k + 1) xs ≡ take k xs ++ x ∷ []
@@ -36,7 +36,7 @@ words_next parts k p h =
     ∙ flat_map-append message_accesses (take k parts) (message_of p ∷ [])
     ∙ ap (λ (r : List Access). flat_map message_accesses (take k parts) ++ r) (append-nil (accesses_of p))
 
-found-append : (m : MemoryState) (xs ys : List Access) → found m (xs ++ ys) ≡ found m xs ++ found (memory_after m xs) ys
+found-append : (m : MemoryState) (xs ys : List Access) → answers_to m (xs ++ ys) ≡ answers_to m xs ++ answers_to (memory_after m xs) ys
 found-append m xs ys = ap (filter_map (λ (a : Option Access). a)) (answers_in-append m xs ys) ∙ filter_map-append (λ (a : Option Access). a) (answers_in m xs) (answers_in (memory_after m xs) ys)
 
 -- the memory after one packet more
@@ -49,25 +49,25 @@ memory_next m n after parts k p h so_far is =
 
 -- the answers up to one packet more
 found_next : (m n : MemoryState) (parts : List Message) (k : ℕ) (p : Packet) → slice_get parts k ≡ Some (message_of p) → n ≡ memory_after m (flat_map message_accesses (take k parts))
-    → found m (flat_map message_accesses (take (k + 1) parts)) ≡ found m (flat_map message_accesses (take k parts)) ++ packet_answers n p
+    → answers_to m (flat_map message_accesses (take (k + 1) parts)) ≡ answers_to m (flat_map message_accesses (take k parts)) ++ packet_answers n p
 found_next m n parts k p h so_far =
-    ap (found m) (words_next parts k p h) ∙ found-append m (flat_map message_accesses (take k parts)) (accesses_of p)
-    ∙ ap (λ (s : MemoryState). found m (flat_map message_accesses (take k parts)) ++ found s (accesses_of p)) (sym so_far)
+    ap (answers_to m) (words_next parts k p h) ∙ found-append m (flat_map message_accesses (take k parts)) (accesses_of p)
+    ∙ ap (λ (s : MemoryState). answers_to m (flat_map message_accesses (take k parts)) ++ answers_to s (accesses_of p)) (sym so_far)
 
 pub body_next : (m n : MemoryState) (parts : List Message) (k : ℕ) (p : Packet) (body : List ℕ) → slice_get parts k ≡ Some (message_of p) → n ≡ memory_after m (flat_map message_accesses (take k parts))
-    → body ≡ answer_body (found m (flat_map message_accesses (take k parts)))
-    → body ++ answer_body (packet_answers n p) ≡ answer_body (found m (flat_map message_accesses (take (k + 1) parts)))
+    → body ≡ answer_body (answers_to m (flat_map message_accesses (take k parts)))
+    → body ++ answer_body (packet_answers n p) ≡ answer_body (answers_to m (flat_map message_accesses (take (k + 1) parts)))
 body_next m n parts k p body h so_far is =
     ap (λ (b : List ℕ). b ++ answer_body (packet_answers n p)) is
-    ∙ sym (answer_body-append (found m (flat_map message_accesses (take k parts))) (packet_answers n p))
+    ∙ sym (answer_body-append (answers_to m (flat_map message_accesses (take k parts))) (packet_answers n p))
     ∙ ap answer_body (sym (found_next m n parts k p h so_far))
 
 pub code_next : (m n : MemoryState) (parts : List Message) (k : ℕ) (p : Packet) (code : ℕ) → slice_get parts k ≡ Some (message_of p) → n ≡ memory_after m (flat_map message_accesses (take k parts))
-    → code ≡ answer_code (found m (flat_map message_accesses (take k parts)))
-    → max (answer_code (packet_answers n p)) code ≡ answer_code (found m (flat_map message_accesses (take (k + 1) parts)))
+    → code ≡ answer_code (answers_to m (flat_map message_accesses (take k parts)))
+    → max (answer_code (packet_answers n p)) code ≡ answer_code (answers_to m (flat_map message_accesses (take (k + 1) parts)))
 code_next m n parts k p code h so_far is =
-    let joined : answer_code (found m (flat_map message_accesses (take (k + 1) parts))) ≡ max (answer_code (found m (flat_map message_accesses (take k parts)))) (answer_code (packet_answers n p)) =
-    ap answer_code (found_next m n parts k p h so_far) ∙ answer_code-append (found m (flat_map message_accesses (take k parts))) (packet_answers n p) in
+    let joined : answer_code (answers_to m (flat_map message_accesses (take (k + 1) parts))) ≡ max (answer_code (answers_to m (flat_map message_accesses (take k parts)))) (answer_code (packet_answers n p)) =
+    ap answer_code (found_next m n parts k p h so_far) ∙ answer_code-append (answers_to m (flat_map message_accesses (take k parts))) (packet_answers n p) in
     omega (arith, joined, is)
 
 -- all packets of a transaction have its words
@@ -76,7 +76,7 @@ words_whole i k t all =
     ap (flat_map message_accesses) (take_all k (transaction_packets (solo_host []) i t) all) ∙ words_of_cut 32 (transaction_message (solo_host []) i t)
 
 -- nothing answers a posted write
-posted_from : (m : MemoryState) (f : ℕ → Access) → ((j : ℕ) → (f j).op ≡ ReqWrPosted) → (a k : ℕ) → found m (map f (range_with_len a k)) ≡ []
+posted_from : (m : MemoryState) (f : ℕ → Access) → ((j : ℕ) → (f j).op ≡ ReqWrPosted) → (a k : ℕ) → answers_to m (map f (range_with_len a k)) ≡ []
 posted_from m f posted a zero = refl
 posted_from m f posted a (suc k) =
     let none : answer_by (f a).op m (f a) ≡ None = ap (λ (op : Op). answer_by op m (f a)) (posted a) in
@@ -84,8 +84,8 @@ posted_from m f posted a (suc k) =
 
 -- what the answers to a transaction come to
 pub outcome_is : (m : MemoryState) (i : ℕ) (t : Txn) (kind : Kind) → t.kind ≡ kind → (body : List ℕ) (code : ℕ)
-    → body ≡ answer_body (found m (transaction_accesses (solo_host []) i t)) → code ≡ answer_code (found m (transaction_accesses (solo_host []) i t))
-    → let outcome : Outcome = record { state = state_by kind code; body = body } in outcome ≡ outcome_of kind (found m (transaction_accesses (solo_host []) i t))
+    → body ≡ answer_body (answers_to m (transaction_accesses (solo_host []) i t)) → code ≡ answer_code (answers_to m (transaction_accesses (solo_host []) i t))
+    → let outcome : Outcome = record { state = state_by kind code; body = body } in outcome ≡ outcome_of kind (answers_to m (transaction_accesses (solo_host []) i t))
 outcome_is m i t kinds.Read is body code has comes = rw (has, comes) refl
 outcome_is m i t kinds.Write is body code has comes = rw (has, comes) refl
 outcome_is m i t kinds.Posted is body code has comes =

@@ -1,3 +1,8 @@
+pub mod SoloWords
+pub mod SoloLawful
+pub mod SoloResults
+pub mod SoloCounts
+pub mod SoloExamples
 pub mod HexLemmas
 pub mod IndexedLemmas
 pub mod IssueLemmas

@@ -5,14 +5,14 @@ use Rattle.std.specs.Fmt.{digits}
 use Rattle.std.specs.List.{enumerate_from}
 use Rattle.std.proofs.lemmas.List.{append-nil}
 use Rattle.sb_packet.specs.Outcomes.{Outcome, RunResults}
-use Rattle.sb_packet.specs.TextLines.{text_line}
-use Rattle.sb_packet.specs.Reports.{outcome_line, image_lines, report_text, run_report}
+use Rattle.sb_text.specs.TextLines.{text_line}
+use Rattle.sb_text.specs.Reports.{outcome_line, image_lines, report_text, run_report}
 use Rattle.sb_packet.specs.Scripts.{IsTransaction}
-use Rattle.sb_packet.specs.Solo.{solo_network, IsSoloJournal}
-use Rattle.sb_packet.specs.SoloRuns.{solo_opening, solo_outcomes_from, solo_memory_from}
+use Rattle.sb_top.specs.Solo.{solo_network, IsSoloJournal}
+use Rattle.sb_top.specs.SoloRuns.{solo_opening, solo_outcomes_from, solo_memory_from}
 use Rattle.sb_packet.specs.declared.entry.Entry.{Entry}
 use Rattle.sb_packet.specs.declared.transaction.Txn.{Txn}
-use Rattle.sb_packet.proofs.SoloResults.{solo_results_are}
+use Rattle.sb_top.proofs.SoloResults.{solo_results_are}
 use Rattle.sb_top.specs.Texts.{title_line, host_line, device_line, last_line, lines_text}
 
 -- four texts one after another

@@ -11,7 +11,7 @@ use Rattle.sb_packet.specs.Memories.{reply}
 use Rattle.sb_packet.specs.Answers.{unreached_by, answer_code, answer_body}
 use Rattle.sb_packet.specs.Scripts.{request_of, transaction_message, transaction_accesses}
 use Rattle.sb_packet.specs.Outcomes.{code_numbered, outcome_of}
-use Rattle.sb_packet.specs.Solo.{solo_host}
+use Rattle.sb_top.specs.Solo.{solo_host}
 use Rattle.sb_packet.specs.declared.transaction.Code.TheVariants.{NetErr}
 use Rattle.sb_packet.specs.declared.transaction.Kind.{Kind}
 use Rattle.sb_packet.specs.declared.transaction.Kind.TheVariants as kinds

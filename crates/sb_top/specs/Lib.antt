@@ -1,3 +1,5 @@
+pub mod Solo
+pub mod SoloRuns
 pub mod Inputs
 pub mod Outputs
 pub mod Collected

@@ -1,6 +1,7 @@
 -- What was written to a sink.
 use Rattle.std.specs.Prelude.{ℕ, ◌≡◌, ◌≤◌, ◌++◌, List, take, drop, length, Option, option_map, Result, OnOk, OnErr}
-use Rattle.sb_io.specs.Counts.{Rose}
+use Rattle.sb_io.specs.Counts.{FaultsIncreased}
+use Rattle.sb_io.specs.declared.sink.Sink as sinks
 
 -- The whole text came behind what the sink held, where it tells.
 abbrev pub Gains : Option (List ℕ) → Option (List ℕ) → List ℕ → Type 0
@@ -22,9 +23,9 @@ pub record Splits (before after : Option (List ℕ)) (waits text : List ℕ) : T
 abbrev pub Prints : Option (List ℕ) → List ℕ → Option (List ℕ) → List ℕ → List ℕ → Type 0
 Prints before waited after waits text = Splits before after waits (waited ++ text)
 
--- What printing a text through a buffer came to, from what the sink held, how often it had failed and what waited, before and after: the whole text was printed; or the sink failed, and a first part of what waited and the text was written.
-pub record IsPrinted {T E : Type 0} (result : Result T E) (before after : Option (List ℕ)) (failed fails : ℕ) (waited waits text : List ℕ) : Type 0 where
-  pub done : OnOk result (Prints before waited after waits text)
-  pub part : OnErr result (GainsPart before after (waited ++ text))
-  pub cause : OnErr result (Rose failed fails)
-  pub clean : OnOk result (fails ≡ failed)
+-- What printing a text through a buffer to a sink came to, with the sink and what waited, before and after: the whole text was printed; or the sink failed, and a first part of what waited and the text was written.
+pub record IsPrinted {K T E : Type 0} (sink : sinks.Ghosts K) (result : Result T E) (before after : K) (waited waits text : List ℕ) : Type 0 where
+  pub done : OnOk result (Prints (sink.held before) waited (sink.held after) waits text)
+  pub part : OnErr result (GainsPart (sink.held before) (sink.held after) (waited ++ text))
+  pub cause : OnErr result (FaultsIncreased (sink.faults before) (sink.faults after))
+  pub clean : OnOk result (sink.faults after ≡ sink.faults before)

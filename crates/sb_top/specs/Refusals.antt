@@ -1,6 +1,6 @@
 -- The line that says why a script was refused: the fault's name in lower case and its fields, with blanks between them.
 use Rattle.std.specs.Prelude.{ℕ, List, [], ◌∷◌, codes, decimal}
-use Rattle.sb_packet.specs.TextLines.{text_line}
+use Rattle.sb_text.specs.TextLines.{text_line}
 use Rattle.sb_text.specs.declared.line_fault.LineFault.{LineFault}
 use Rattle.sb_text.specs.declared.line_fault.LineFault.TheVariants as line_faults
 use Rattle.sb_text.specs.declared.script_fault.ScriptFault.{ScriptFault}

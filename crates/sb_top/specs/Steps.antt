@@ -1,11 +1,11 @@
 -- What a packet does to a memory and a journal.
-use Rattle.std.specs.Prelude.{ℕ, ◌≡◌, ◌+◌, ◌*◌, ◌^◌, List, [], ◌∷◌, filter_map, length, replicate, if◌then◌else◌}
+use Rattle.std.specs.Prelude.{ℕ, ◌≡◌, ◌+◌, ◌*◌, ◌^◌, List, [], ◌∷◌, length, replicate, if◌then◌else◌}
 use Rattle.sb_packet.specs.Accesses.{Access, accesses_of}
-use Rattle.sb_packet.specs.Memories.{MemoryState, answers_in}
+use Rattle.sb_packet.specs.Memories.{MemoryState, answers_to}
 use Rattle.sb_packet.specs.Networks.{has_address}
 use Rattle.sb_packet.specs.Outcomes.{Outcome, code_numbered}
 use Rattle.sb_packet.specs.Cuts.{transaction_packets}
-use Rattle.sb_packet.specs.Solo.{solo_device, solo_host}
+use Rattle.sb_top.specs.Solo.{solo_device, solo_host}
 use Rattle.sb_packet.specs.declared.entry.Entry.{Entry}
 use Rattle.sb_packet.specs.declared.packet.Packet.{Packet}
 use Rattle.sb_packet.specs.declared.transaction.Code.TheVariants.{NetErr}
@@ -15,13 +15,9 @@ use Rattle.sb_packet.specs.declared.transaction.Txn.{Txn}
 use Rattle.sb_packet.specs.declared.transaction.TxnState.{TxnState}
 use Rattle.sb_packet.specs.declared.transaction.TxnState.TheVariants.{Posted, Answered}
 
--- the answers that there are to some accesses, in order
-abbrev pub found : MemoryState → List Access → List Access
-found m list = filter_map (λ a. a) (answers_in m list)
-
 -- the answers to the words of a packet, in order
 abbrev pub packet_answers : MemoryState → Packet → List Access
-packet_answers m p = found m (accesses_of p)
+packet_answers m p = answers_to m (accesses_of p)
 
 -- an entry of the one memory, in the one round
 pub record IsFirstRound (e : Entry) : Type 0 where

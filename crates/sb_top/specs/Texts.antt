@@ -1,9 +1,8 @@
 -- The text of `solo`, from what became of its transactions and the bytes of its memory.
-use Rattle.std.specs.Prelude.{ℕ, List, [], ◌∷◌, ◌++◌, flat_map, length, codes, decimal}
-use Rattle.std.specs.List.{enumerate_from}
+use Rattle.std.specs.Prelude.{ℕ, List, [], ◌∷◌, ◌++◌, length, codes, decimal}
 use Rattle.sb_packet.specs.Outcomes.{Outcome}
-use Rattle.sb_packet.specs.TextLines.{text_line}
-use Rattle.sb_packet.specs.Reports.{state_text, outcome_line, image_lines}
+use Rattle.sb_text.specs.TextLines.{text_line}
+use Rattle.sb_text.specs.Reports.{state_text, outcome_lines, image_lines}
 use Rattle.sb_packet.specs.declared.transaction.TxnState.{TxnState}
 
 -- a transaction's line up to its body
@@ -24,8 +23,10 @@ device_line = text_line (codes "device" ∷ codes "mem" ∷ codes "16" ∷ [])
 unfoldable pub last_line : List ℕ
 last_line = text_line (codes "end" ∷ [])
 
+-- the host's line, and those of its transactions
+abbrev pub host_text : List Outcome → List ℕ
+host_text outcomes = host_line (length outcomes) ++ outcome_lines outcomes
+
 -- all but the first line, from what became of the transactions and the bytes of the memory
 abbrev pub lines_text : List Outcome → List ℕ → List ℕ
-lines_text outcomes bytes =
-    (host_line (length outcomes) ++ flat_map (λ p. outcome_line p.0 p.1) (enumerate_from 0 outcomes))
-    ++ ((device_line ++ image_lines bytes) ++ last_line)
+lines_text outcomes bytes = host_text outcomes ++ ((device_line ++ image_lines bytes) ++ last_line)

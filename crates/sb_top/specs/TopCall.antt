@@ -1,11 +1,11 @@
 -- What the top call did, by the status with which it ended.
 use Rattle.std.specs.Prelude.{ℕ, ◌≡◌, ◌⊎◌, ◌≤◌, ◌<◌, ◌+◌, ◌^◌, Bool, true, false, List, [], ◌∷◌, length, drop, codes, bytes_eq, Option, None, IfSome, option_map, Ok, Err}
 use Rattle.sb_packet.specs.Journals.{IsLawful}
-use Rattle.sb_packet.specs.Reports.{run_report}
-use Rattle.sb_packet.specs.Solo.{solo_network, IsSoloJournal}
+use Rattle.sb_text.specs.Reports.{run_report}
+use Rattle.sb_top.specs.Solo.{solo_network, IsSoloJournal}
 use Rattle.sb_packet.specs.declared.entry.Entry.{Entry}
 use Rattle.sb_packet.specs.declared.transaction.Txn.{Txn}
-use Rattle.sb_text.specs.Scripts.{script_of}
+use Rattle.sb_text.specs.Scripts.{script_of_text}
 use Rattle.sb_text.specs.declared.script_fault.ScriptFault.{ScriptFault}
 use Rattle.sb_top.specs.Inputs.{IsWholeInput}
 use Rattle.sb_top.specs.Outputs.{Gains, GainsPart}
@@ -19,7 +19,7 @@ asks_solo _ = false
 -- The input spells a script; the journal is one legal history of it, packet by packet; and the text is that journal's report.
 pub record Ran (input : List ℕ) (journal : List Entry) (text : List ℕ) : Type 0 where
   pub script : List Txn
-  pub spelled : script_of input ≡ Ok script
+  pub spelled : script_of_text input ≡ Ok script
   pub packets : IsSoloJournal script journal
   pub lawful : IsLawful (solo_network script) journal
   pub printed : text ≡ run_report (solo_network script) journal false None
@@ -27,7 +27,7 @@ pub record Ran (input : List ℕ) (journal : List Entry) (text : List ℕ) : Typ
 -- The input is no script, and the text names its first fault.
 pub record Refused (input : List ℕ) (journal : List Entry) (text : List ℕ) : Type 0 where
   pub fault : ScriptFault
-  pub found : script_of input ≡ Err fault
+  pub found : script_of_text input ≡ Err fault
   pub no_run : journal ≡ []
   pub printed : text ≡ refusal_text fault
 

@@ -1,10 +1,10 @@
 //! The top call of `sb`.
 
 ghost use Rattle.std.specs.Prelude.{◌≡◌, ◌≢◌, ◌≤◌, ◌⊎◌, ◌^◌, [], All, None, false, is_ok, if◌then◌else◌, length, map, string_bytes};
-ghost use Rattle.sb_io.specs.Counts.{Rose};
-ghost use Rattle.sb_packet.specs.Reports.{run_report};
+ghost use Rattle.sb_io.specs.Counts.{FaultsIncreased};
+ghost use Rattle.sb_text.specs.Reports.{run_report};
 ghost use Rattle.sb_packet.specs.Scripts.{IsTransaction};
-ghost use Rattle.sb_packet.specs.Solo.{solo_network, IsSoloJournal};
+ghost use Rattle.sb_top.specs.Solo.{solo_network, IsSoloJournal};
 ghost use Rattle.sb_top.specs.Outputs.{Gains, GainsPart};
 ghost use Rattle.sb_top.specs.Refusals.{refusal_text};
 ghost use Rattle.sb_top.specs.TopCall.{asks_solo, IsAnyText, IsRefusal, IsSoloRun, IsTooLong, IsUsage, Ran, Refused, Wrote, WrotePart};
@@ -51,7 +51,7 @@ fn solo<K: Sink>(alloc: Global, input: &[u8], sink: &mut K, journal: &mut Journa
         (K.held sink.old) (K.held sink.new) }
     ensures silent { result ≡ OUT_OF_MEMORY → K.held sink.new ≡ K.held sink.old }
     ensures no_run { result ≡ OUT_OF_MEMORY → journal.new.entries ≡ [] }
-    ensures cause { result ≡ WRITE_FAILED → Rose (K.faults sink.old) (K.faults sink.new) }
+    ensures cause { result ≡ WRITE_FAILED → FaultsIncreased (K.faults sink.old) (K.faults sink.new) }
     ensures clean { result ≢ WRITE_FAILED → K.faults sink.new ≡ K.faults sink.old }
     ensures others { (result ≡ DONE) ⊎ (result ≡ REFUSED) ⊎ (result ≡ WRITE_FAILED) ⊎ (result ≡ OUT_OF_MEMORY) }
 {
@@ -66,7 +66,7 @@ fn solo<K: Sink>(alloc: Global, input: &[u8], sink: &mut K, journal: &mut Journa
 fn refuse<K: Sink>(fault: ScriptFault, sink: &mut K) -> u8
     ensures refused { result ≡ REFUSED → Gains (K.held sink.old) (K.held sink.new) (refusal_text fault) }
     ensures part { result ≡ WRITE_FAILED → GainsPart (K.held sink.old) (K.held sink.new) (refusal_text fault) }
-    ensures cause { result ≡ WRITE_FAILED → Rose (K.faults sink.old) (K.faults sink.new) }
+    ensures cause { result ≡ WRITE_FAILED → FaultsIncreased (K.faults sink.old) (K.faults sink.new) }
     ensures clean { result ≢ WRITE_FAILED → K.faults sink.new ≡ K.faults sink.old }
     ensures others { (result ≡ REFUSED) ⊎ (result ≡ WRITE_FAILED) }
 {
@@ -85,7 +85,7 @@ fn run<K: Sink>(alloc: Global, script: &[Txn], sink: &mut K, journal: &mut Journ
         GainsPart (K.held sink.old) (K.held sink.new) (run_report (solo_network script.now) journal.new.entries false None) }
     ensures silent { result ≡ OUT_OF_MEMORY → K.held sink.new ≡ K.held sink.old }
     ensures no_run { result ≡ OUT_OF_MEMORY → journal.new.entries ≡ [] }
-    ensures cause { result ≡ WRITE_FAILED → Rose (K.faults sink.old) (K.faults sink.new) }
+    ensures cause { result ≡ WRITE_FAILED → FaultsIncreased (K.faults sink.old) (K.faults sink.new) }
     ensures clean { result ≢ WRITE_FAILED → K.faults sink.new ≡ K.faults sink.old }
     ensures others { (result ≡ DONE) ⊎ (result ≡ WRITE_FAILED) ⊎ (result ≡ OUT_OF_MEMORY) }
 {
@@ -125,8 +125,8 @@ pub fn top<S: Source, K: Sink>(
 
     // When each status comes.
     ensures words { asks_solo (map string_bytes words.now) ≡ false → (result ≡ USAGE) ⊎ (result ≡ WRITE_FAILED) }
-    ensures read_cause { result ≡ READ_FAILED → Rose (S.faults source.old) (S.faults source.new) }
-    ensures write_cause { result ≡ WRITE_FAILED → Rose (K.faults sink.old) (K.faults sink.new) }
+    ensures read_cause { result ≡ READ_FAILED → FaultsIncreased (S.faults source.old) (S.faults source.new) }
+    ensures write_cause { result ≡ WRITE_FAILED → FaultsIncreased (K.faults sink.old) (K.faults sink.new) }
     ensures read_clean { result ≢ READ_FAILED → S.faults source.new ≡ S.faults source.old }
     ensures write_clean { result ≢ WRITE_FAILED → K.faults sink.new ≡ K.faults sink.old }
     ensures others { (result ≡ DONE) ⊎ (result ≡ USAGE) ⊎ (result ≡ REFUSED) ⊎ (result ≡ READ_FAILED)

@@ -1,7 +1,7 @@
 //! Reading the whole input.
 
 ghost use Rattle.std.specs.Prelude.{◌≡◌, ◌≤◌, ◌<◌, ◌^◌, ◌+◌, ◌⊎◌, IfOk, IsErrOf, IfSome, length, drop, option_map, vec_len};
-ghost use Rattle.sb_io.specs.Counts.{Rose};
+ghost use Rattle.sb_io.specs.Counts.{FaultsIncreased};
 ghost use Rattle.sb_top.specs.Inputs.{IsWholeInput};
 ghost use Rattle.sb_top.specs.declared.input.ReadFault.TheVariants as faults;
 
@@ -28,7 +28,7 @@ pub enum ReadFault {
 pub fn read_all<S: Source>(alloc: Global, source: &mut S) -> Result<Vec<u8>, ReadFault>
     ensures limit { IfOk result (λ v. vec_len v ≤ 2 ^ 26) }
     ensures whole { IfOk result (λ v. IsWholeInput (S.left source.old) (S.left source.new) v.items) }
-    ensures cause { IsErrOf result faults.Failed → Rose (S.faults source.old) (S.faults source.new) }
+    ensures cause { IsErrOf result faults.Failed → FaultsIncreased (S.faults source.old) (S.faults source.new) }
     ensures long { IsErrOf result faults.TooLong → IfSome (S.left source.old) (λ left. 2 ^ 26 < length left) }
     ensures taken { IsErrOf result faults.TooLong → S.left source.new ≡ option_map (drop (2 ^ 26 + 1)) (S.left source.old) }
     ensures clean { (IsErrOf result faults.Failed) ⊎ (S.faults source.new ≡ S.faults source.old) }

@@ -2,7 +2,7 @@
 
 ghost use Rattle.std.specs.Prelude.{◌≡◌, ◌≤◌, ◌+◌, ◌*◌, ◌++◌, [], length, OnOk, OnErr};
 ghost use Rattle.hex.specs.Hex.{encode_lower};
-ghost use Rattle.sb_io.specs.Counts.{Rose};
+ghost use Rattle.sb_io.specs.Counts.{FaultsIncreased};
 ghost use Rattle.sb_top.specs.Outputs.{GainsPart, Prints};
 
 use crate::output::{WriteFailed, write_all};
@@ -90,7 +90,7 @@ pub fn flush<K: Sink>(sink: &mut K, buffer: &mut LineBuffer) -> Result<(), Write
     ensures done { OnOk result (Prints (K.held sink.old) buffer.old (K.held sink.new) buffer.new []) }
     ensures empty { OnOk result (buffer.new ≡ []) }
     ensures part { OnErr result (GainsPart (K.held sink.old) (K.held sink.new) buffer.old) }
-    ensures cause { OnErr result (Rose (K.faults sink.old) (K.faults sink.new)) }
+    ensures cause { OnErr result (FaultsIncreased (K.faults sink.old) (K.faults sink.new)) }
     ensures clean { OnOk result (K.faults sink.new ≡ K.faults sink.old) }
 {
     write_all(sink, buffer.as_slice())?;
@@ -108,7 +108,7 @@ pub fn make_room<K: Sink>(
     ensures done { OnOk result (Prints (K.held sink.old) buffer.old (K.held sink.new) buffer.new []) }
     ensures room { OnOk result (length buffer.new + space ≤ 8192) }
     ensures part { OnErr result (GainsPart (K.held sink.old) (K.held sink.new) buffer.old) }
-    ensures cause { OnErr result (Rose (K.faults sink.old) (K.faults sink.new)) }
+    ensures cause { OnErr result (FaultsIncreased (K.faults sink.old) (K.faults sink.new)) }
     ensures clean { OnOk result (K.faults sink.new ≡ K.faults sink.old) }
 {
     if buffer.len() + space > ROOM {

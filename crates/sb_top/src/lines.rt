@@ -3,8 +3,8 @@
 ghost use Rattle.std.specs.Prelude.{◌≡◌, ◌≤◌, ◌<◌, ◌+◌, ◌*◌, ◌^◌, ◌++◌, [], ◌∷◌, codes, decimal, length};
 ghost use Rattle.hex.specs.Hex.{encode_lower, lower_digits};
 ghost use Rattle.std.specs.Prelude.{slice_index};
-ghost use Rattle.sb_packet.specs.TextLines.{hex_number, text_line};
-ghost use Rattle.sb_packet.specs.Reports.{code_text, state_text};
+ghost use Rattle.sb_text.specs.TextLines.{hex_number, text_line};
+ghost use Rattle.sb_text.specs.Reports.{code_text, state_text};
 ghost use Rattle.sb_top.specs.Texts.{device_line, host_line, last_line, state_front, title_line};
 
 use crate::line_buffer::LineBuffer;

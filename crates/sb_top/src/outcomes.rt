@@ -34,9 +34,17 @@ impl Model for Outcomes {
 
     ghost Value = { Collected };
 
-    ghost view = { λ o. record { outcomes = map (outcome_in o.bytes.items) o.rows.items; next = drop o.start o.bytes.items; spare_rows = o.spare_rows; spare_bytes = o.spare_bytes } };
+    ghost view = { λ o. record {
+      outcomes = map (outcome_in o.bytes.items) o.rows.items;
+      next = drop o.start o.bytes.items;
+      spare_rows = o.spare_rows;
+      spare_bytes = o.spare_bytes;
+    } };
 
-    ghost invariant = { λ o. (vec_len o.rows + o.spare_rows ≤ vec_capacity o.rows) × (vec_len o.bytes + o.spare_bytes ≤ vec_capacity o.bytes) × (o.start ≤ vec_len o.bytes) × AllByRecursion (EndsBy o.start) o.rows.items };
+    ghost invariant = { λ o. (vec_len o.rows + o.spare_rows ≤ vec_capacity o.rows)
+        × (vec_len o.bytes + o.spare_bytes ≤ vec_capacity o.bytes)
+        × (o.start ≤ vec_len o.bytes)
+        × AllByRecursion (EndsBy o.start) o.rows.items };
 }
 
 impl Outcomes {
@@ -75,7 +83,11 @@ impl Outcomes {
     /// The next transaction came to this, with the bytes that were answered to it.
     pub fn finish(&mut self, state: TxnState)
         requires { 0 < self.old.spare_rows }
-        ensures { self.new ≡ record self.old { outcomes = self.old.outcomes ++ record { state = state; body = self.old.next } ∷ []; next = []; spare_rows = self.old.spare_rows - 1 } }
+        ensures { self.new ≡ record self.old {
+          outcomes = self.old.outcomes ++ record { state = state; body = self.old.next } ∷ [];
+          next = [];
+          spare_rows = self.old.spare_rows - 1;
+        } }
     {
         let end = self.bytes.len();
         self.rows.push_reserved(Row {

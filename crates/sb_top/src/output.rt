@@ -1,7 +1,7 @@
 //! Writing a text to a sink.
 
 ghost use Rattle.std.specs.Prelude.{◌≡◌, ◌≤◌, OnOk, OnErr};
-ghost use Rattle.sb_io.specs.Counts.{Rose};
+ghost use Rattle.sb_io.specs.Counts.{FaultsIncreased};
 ghost use Rattle.sb_top.specs.Outputs.{Gains, GainsPart};
 
 use sb_io::{Put, Sink};
@@ -14,7 +14,7 @@ pub struct WriteFailed;
 pub fn write_all<K: Sink>(sink: &mut K, text: &[u8]) -> Result<(), WriteFailed>
     ensures done { OnOk result (Gains (K.held sink.old) (K.held sink.new) text.now) }
     ensures part { OnErr result (GainsPart (K.held sink.old) (K.held sink.new) text.now) }
-    ensures cause { OnErr result (Rose (K.faults sink.old) (K.faults sink.new)) }
+    ensures cause { OnErr result (FaultsIncreased (K.faults sink.old) (K.faults sink.new)) }
     ensures clean { OnOk result (K.faults sink.new ≡ K.faults sink.old) }
 {
     let mut at = 0;

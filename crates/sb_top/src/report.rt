@@ -4,11 +4,11 @@
 ghost use Rattle.std.specs.Prelude.{◌≡◌, ◌≤◌, ◌<◌, ◌+◌, ◌*◌, ◌^◌, ◌++◌, ◌==◌, [], ◌∷◌, flat_map, length, OnOk, OnErr};
 ghost use Rattle.std.specs.List.{enumerate_from, list_all};
 ghost use Rattle.hex.specs.Hex.{encode_lower};
-ghost use Rattle.sb_io.specs.Counts.{Rose};
-ghost use Rattle.sb_packet.specs.TextLines.{body_text};
-ghost use Rattle.sb_packet.specs.Reports.{image_lines, outcome_line, row_line};
+ghost use Rattle.sb_io.specs.Counts.{FaultsIncreased};
+ghost use Rattle.sb_text.specs.TextLines.{body_text};
+ghost use Rattle.sb_text.specs.Reports.{image_lines, outcome_lines, row_line};
 ghost use Rattle.sb_top.specs.Outputs.{Gains, GainsPart, IsPrinted};
-ghost use Rattle.sb_top.specs.Texts.{device_line, host_line, last_line, lines_text, state_front, title_line};
+ghost use Rattle.sb_top.specs.Texts.{device_line, host_line, host_text, last_line, lines_text, state_front, title_line};
 
 use crate::line_buffer::{LineBuffer, flush, make_room};
 use crate::lines::{end_line, memory_line, push_host, push_row, push_state, title};
@@ -29,7 +29,7 @@ const ROW_ROOM: usize = 128;
 /// Prints a short text.
 fn print<K: Sink>(sink: &mut K, buffer: &mut LineBuffer, text: &[u8]) -> Result<(), WriteFailed>
     requires { length text.now ≤ 8192 }
-    ensures printed { IsPrinted result (K.held sink.old) (K.held sink.new) (K.faults sink.old) (K.faults sink.new) buffer.old buffer.new text.now }
+    ensures printed { IsPrinted K.Sink result sink.old sink.new buffer.old buffer.new text.now }
 {
     make_room(sink, buffer, text.len())?;
     buffer.push(text);
@@ -43,7 +43,7 @@ fn print_digits<K: Sink>(
     bytes: &[u8],
 ) -> Result<(), WriteFailed>
     requires { length bytes.now ≤ 32 }
-    ensures printed { IsPrinted result (K.held sink.old) (K.held sink.new) (K.faults sink.old) (K.faults sink.new) buffer.old buffer.new (encode_lower bytes.now) }
+    ensures printed { IsPrinted K.Sink result sink.old sink.new buffer.old buffer.new (encode_lower bytes.now) }
 {
     make_room(sink, buffer, 2 * ROW_BYTES)?;
     buffer.push_hex(bytes);
@@ -56,7 +56,7 @@ fn print_hex<K: Sink>(
     buffer: &mut LineBuffer,
     bytes: &[u8],
 ) -> Result<(), WriteFailed>
-    ensures printed { IsPrinted result (K.held sink.old) (K.held sink.new) (K.faults sink.old) (K.faults sink.new) buffer.old buffer.new (encode_lower bytes.now) }
+    ensures printed { IsPrinted K.Sink result sink.old sink.new buffer.old buffer.new (encode_lower bytes.now) }
 {
     let mut at = 0;
     while at < bytes.len() {
@@ -73,7 +73,7 @@ fn print_body<K: Sink>(
     buffer: &mut LineBuffer,
     bytes: &[u8],
 ) -> Result<(), WriteFailed>
-    ensures printed { IsPrinted result (K.held sink.old) (K.held sink.new) (K.faults sink.old) (K.faults sink.new) buffer.old buffer.new (body_text bytes.now) }
+    ensures printed { IsPrinted K.Sink result sink.old sink.new buffer.old buffer.new (body_text bytes.now) }
 {
     match bytes {
         [] => print(sink, buffer, b"-"),
@@ -88,7 +88,7 @@ fn print_state<K: Sink>(
     index: usize,
     state: TxnState,
 ) -> Result<(), WriteFailed>
-    ensures printed { IsPrinted result (K.held sink.old) (K.held sink.new) (K.faults sink.old) (K.faults sink.new) buffer.old buffer.new (state_front index state) }
+    ensures printed { IsPrinted K.Sink result sink.old sink.new buffer.old buffer.new (state_front index state) }
 {
     make_room(sink, buffer, FRONT_ROOM)?;
     push_state(buffer, index, state);
@@ -101,7 +101,7 @@ fn print_rest<K: Sink>(
     buffer: &mut LineBuffer,
     body: &[u8],
 ) -> Result<(), WriteFailed>
-    ensures printed { IsPrinted result (K.held sink.old) (K.held sink.new) (K.faults sink.old) (K.faults sink.new) buffer.old buffer.new (body_text body.now ++ 10 ∷ []) }
+    ensures printed { IsPrinted K.Sink result sink.old sink.new buffer.old buffer.new (body_text body.now ++ 10 ∷ []) }
 {
     print_body(sink, buffer, body)?;
     print(sink, buffer, b"\n")
@@ -115,7 +115,8 @@ fn print_outcome<K: Sink>(
     state: TxnState,
     body: &[u8],
 ) -> Result<(), WriteFailed>
-    ensures printed { IsPrinted result (K.held sink.old) (K.held sink.new) (K.faults sink.old) (K.faults sink.new) buffer.old buffer.new (state_front index state ++ (body_text body.now ++ 10 ∷ [])) }
+    ensures printed { IsPrinted K.Sink result sink.old sink.new buffer.old buffer.new
+        (state_front index state ++ (body_text body.now ++ 10 ∷ [])) }
 {
     print_state(sink, buffer, index, state)?;
     print_rest(sink, buffer, body)
@@ -127,7 +128,7 @@ fn print_outcomes<K: Sink>(
     buffer: &mut LineBuffer,
     outcomes: &Outcomes,
 ) -> Result<(), WriteFailed>
-    ensures printed { IsPrinted result (K.held sink.old) (K.held sink.new) (K.faults sink.old) (K.faults sink.new) buffer.old buffer.new (flat_map (λ p. outcome_line p.0 p.1) (enumerate_from 0 outcomes.now.outcomes)) }
+    ensures printed { IsPrinted K.Sink result sink.old sink.new buffer.old buffer.new (outcome_lines outcomes.now.outcomes) }
 {
     for index in 0..outcomes.len() {
         print_outcome(
@@ -156,7 +157,7 @@ fn print_row<K: Sink>(
 ) -> Result<(), WriteFailed>
     requires place { k * 32 < 2 ^ 32 }
     requires row { length row.now ≤ 32 }
-    ensures printed { IsPrinted result (K.held sink.old) (K.held sink.new) (K.faults sink.old) (K.faults sink.new) buffer.old buffer.new (row_line k row.now) }
+    ensures printed { IsPrinted K.Sink result sink.old sink.new buffer.old buffer.new (row_line k row.now) }
 {
     if is_zero(row) {
         return Ok(());
@@ -173,7 +174,7 @@ fn print_image<K: Sink>(
     bytes: &[u8],
 ) -> Result<(), WriteFailed>
     requires { length bytes.now ≤ 1048576 }
-    ensures printed { IsPrinted result (K.held sink.old) (K.held sink.new) (K.faults sink.old) (K.faults sink.new) buffer.old buffer.new (image_lines bytes.now) }
+    ensures printed { IsPrinted K.Sink result sink.old sink.new buffer.old buffer.new (image_lines bytes.now) }
 {
     for k in 0..bytes.len() / ROW_BYTES {
         print_row(
@@ -192,7 +193,7 @@ fn print_host_line<K: Sink>(
     buffer: &mut LineBuffer,
     count: usize,
 ) -> Result<(), WriteFailed>
-    ensures printed { IsPrinted result (K.held sink.old) (K.held sink.new) (K.faults sink.old) (K.faults sink.new) buffer.old buffer.new (host_line count) }
+    ensures printed { IsPrinted K.Sink result sink.old sink.new buffer.old buffer.new (host_line count) }
 {
     make_room(sink, buffer, FRONT_ROOM)?;
     push_host(buffer, count);
@@ -205,7 +206,7 @@ fn print_host<K: Sink>(
     buffer: &mut LineBuffer,
     outcomes: &Outcomes,
 ) -> Result<(), WriteFailed>
-    ensures printed { IsPrinted result (K.held sink.old) (K.held sink.new) (K.faults sink.old) (K.faults sink.new) buffer.old buffer.new (host_line (length outcomes.now.outcomes) ++ flat_map (λ p. outcome_line p.0 p.1) (enumerate_from 0 outcomes.now.outcomes)) }
+    ensures printed { IsPrinted K.Sink result sink.old sink.new buffer.old buffer.new (host_text outcomes.now.outcomes) }
 {
     print_host_line(sink, buffer, outcomes.len())?;
     print_outcomes(sink, buffer, outcomes)
@@ -218,7 +219,7 @@ fn print_memory<K: Sink>(
     bytes: &[u8],
 ) -> Result<(), WriteFailed>
     requires { length bytes.now ≤ 1048576 }
-    ensures printed { IsPrinted result (K.held sink.old) (K.held sink.new) (K.faults sink.old) (K.faults sink.new) buffer.old buffer.new (device_line ++ image_lines bytes.now) }
+    ensures printed { IsPrinted K.Sink result sink.old sink.new buffer.old buffer.new (device_line ++ image_lines bytes.now) }
 {
     print(sink, buffer, memory_line())?;
     print_image(sink, buffer, bytes)
@@ -226,7 +227,7 @@ fn print_memory<K: Sink>(
 
 /// Prints the last line.
 fn print_end<K: Sink>(sink: &mut K, buffer: &mut LineBuffer) -> Result<(), WriteFailed>
-    ensures printed { IsPrinted result (K.held sink.old) (K.held sink.new) (K.faults sink.old) (K.faults sink.new) buffer.old buffer.new last_line }
+    ensures printed { IsPrinted K.Sink result sink.old sink.new buffer.old buffer.new last_line }
     ensures empty { OnOk result (buffer.new ≡ []) }
 {
     print(sink, buffer, end_line())?;
@@ -240,7 +241,8 @@ fn print_tail<K: Sink>(
     bytes: &[u8],
 ) -> Result<(), WriteFailed>
     requires { length bytes.now ≤ 1048576 }
-    ensures printed { IsPrinted result (K.held sink.old) (K.held sink.new) (K.faults sink.old) (K.faults sink.new) buffer.old buffer.new ((device_line ++ image_lines bytes.now) ++ last_line) }
+    ensures printed { IsPrinted K.Sink result sink.old sink.new buffer.old buffer.new
+        ((device_line ++ image_lines bytes.now) ++ last_line) }
     ensures empty { OnOk result (buffer.new ≡ []) }
 {
     print_memory(sink, buffer, bytes)?;
@@ -255,7 +257,7 @@ fn print_lines<K: Sink>(
     bytes: &[u8],
 ) -> Result<(), WriteFailed>
     requires { length bytes.now ≤ 1048576 }
-    ensures printed { IsPrinted result (K.held sink.old) (K.held sink.new) (K.faults sink.old) (K.faults sink.new) buffer.old buffer.new (lines_text outcomes.now.outcomes bytes.now) }
+    ensures printed { IsPrinted K.Sink result sink.old sink.new buffer.old buffer.new (lines_text outcomes.now.outcomes bytes.now) }
     ensures empty { OnOk result (buffer.new ≡ []) }
 {
     print_host(sink, buffer, outcomes)?;
@@ -272,7 +274,7 @@ pub fn print_report<K: Sink>(
     requires { length bytes.now ≤ 1048576 }
     ensures done { OnOk result (Gains (K.held sink.old) (K.held sink.new) (title_line ++ lines_text outcomes.now.outcomes bytes.now)) }
     ensures part { OnErr result (GainsPart (K.held sink.old) (K.held sink.new) (title_line ++ lines_text outcomes.now.outcomes bytes.now)) }
-    ensures cause { OnErr result (Rose (K.faults sink.old) (K.faults sink.new)) }
+    ensures cause { OnErr result (FaultsIncreased (K.faults sink.old) (K.faults sink.new)) }
     ensures clean { OnOk result (K.faults sink.new ≡ K.faults sink.old) }
 {
     let mut buffer = LineBuffer::new();

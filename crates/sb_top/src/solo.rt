@@ -1,22 +1,21 @@
 //! The run of a script against one memory.
 
 ghost use Rattle.std.specs.Prelude.{◌≡◌, ◌≤◌, ◌<◌, ◌+◌, ◌-◌, ◌*◌, ◌^◌, ◌++◌, [], ◌∷◌, All, IfOk, IsTrue, OnErr, OnOk, length, map, true};
-ghost use Rattle.sb_packet.specs.Messages.{message_of};
 ghost use Rattle.sb_packet.specs.Accesses.{accesses_of};
 ghost use Rattle.sb_packet.specs.Answers.{answer_body, answer_code};
 ghost use Rattle.sb_packet.specs.Cuts.{transaction_packets};
-ghost use Rattle.sb_packet.specs.Journals.{is_request};
-ghost use Rattle.sb_packet.specs.Memories.{memory_after};
+ghost use Rattle.sb_packet.specs.Journals.{is_request, with_entry};
+ghost use Rattle.sb_packet.specs.Memories.{answers_to, memory_after};
 ghost use Rattle.sb_packet.specs.Networks.{has_address};
 ghost use Rattle.sb_packet.specs.Outcomes.{outcome_of};
 ghost use Rattle.sb_packet.specs.Scripts.{transaction_accesses, IsTransaction};
-ghost use Rattle.sb_packet.specs.Solo.{IsSoloJournal, aimed_packets, solo_device, solo_host};
-ghost use Rattle.sb_packet.specs.SoloRuns.{solo_answers, solo_memory_from, solo_opening, solo_outcomes_from, solo_step};
+ghost use Rattle.sb_top.specs.Solo.{IsSoloJournal, aimed_packets, entry_messages, solo_device, solo_host};
+ghost use Rattle.sb_top.specs.SoloRuns.{solo_answers, solo_memory_from, solo_opening, solo_outcomes_from, solo_step};
 ghost use Rattle.sb_mem.specs.AnswerPackets.{IsInRange};
-ghost use Rattle.sb_top.specs.Steps.{answer_room_in, answer_room_of, entries_in, entries_of, found, lost_outcome, packet_answers, state_by, IsFirstRound};
+ghost use Rattle.sb_top.specs.Steps.{answer_room_in, answer_room_of, entries_in, entries_of, lost_outcome, packet_answers, state_by, IsFirstRound};
 
 use crate::outcomes::Outcomes;
-use sb_mem::Memory;
+use sb_mem::{Memory, serve};
 use sb_packet::{
     BODY_BYTES, Code, Entry, Journal, Kind, PAGE_BYTES, Packet, Txn, TxnState, carried, packet_of,
     packets, words_span,
@@ -35,7 +34,7 @@ fn is_aimed(txn: &Txn) -> bool
     txn.addr < MEMORY_BYTES
 }
 
-/// Steps the memory by a packet, and keeps the bytes of its answer. It gives the answer's code, and 0 where there is none.
+/// Serves a packet, and keeps the bytes of its answer. It gives the answer's code, and 0 where there is none.
 fn step(memory: &mut Memory, journal: &mut Journal, outcomes: &mut Outcomes, packet: &Packet) -> u8
     requires request { IsTrue (is_request packet.now.cmd.op) }
     requires within { IsInRange memory.old packet.now }
@@ -47,21 +46,17 @@ fn step(memory: &mut Memory, journal: &mut Journal, outcomes: &mut Outcomes, pac
       spare_bytes = outcomes.old.spare_bytes - length (answer_body (packet_answers memory.old packet.now));
     } }
     ensures short { length (answer_body (packet_answers memory.old packet.now)) ≤ 32 }
-    ensures journal { journal.new ≡ record {
-      entries = journal.old.entries ++ record { round = 0; device = 0; packet = packet.now } ∷ [];
-      spare = journal.old.spare - 1;
-    } }
+    ensures journal { journal.new ≡ with_entry journal.old (record { round = 0; device = 0; packet = packet.now }) }
     ensures memory { memory.new ≡ memory_after memory.old (accesses_of packet.now) }
     ensures base { memory.new.base ≡ memory.old.base }
     ensures size { length memory.new.bytes ≡ length memory.old.bytes }
 {
-    let answer = memory.step(packet);
-    journal.add(&Entry {
+    let entry = Entry {
         round: 0,
         device: 0,
         packet: *packet,
-    });
-    match answer {
+    };
+    match serve(memory, journal, &entry) {
         None => 0,
         Some(answer) => {
             outcomes.add(carried(&answer));
@@ -127,10 +122,12 @@ fn issue(memory: &mut Memory, journal: &mut Journal, outcomes: &mut Outcomes, in
     ensures memory { memory.new ≡ memory_after memory.old (transaction_accesses (solo_host []) index txn.now) }
     ensures base { memory.new.base ≡ 0 }
     ensures size { length memory.new.bytes ≡ 65536 }
-    ensures packets { map (λ e. message_of e.packet) journal.new.entries ≡ map (λ e. message_of e.packet) journal.old.entries ++ transaction_packets (solo_host []) index txn.now }
+    ensures packets { entry_messages journal.new.entries
+        ≡ entry_messages journal.old.entries ++ transaction_packets (solo_host []) index txn.now }
     ensures first { All IsFirstRound journal.new.entries }
     ensures spare { journal.old.spare ≡ journal.new.spare + length (transaction_packets (solo_host []) 0 txn.now) }
-    ensures outcomes { outcomes.new.outcomes ≡ outcomes.old.outcomes ++ outcome_of txn.now.kind (found memory.old (transaction_accesses (solo_host []) index txn.now)) ∷ [] }
+    ensures outcomes { outcomes.new.outcomes ≡ outcomes.old.outcomes
+        ++ outcome_of txn.now.kind (answers_to memory.old (transaction_accesses (solo_host []) index txn.now)) ∷ [] }
     ensures next { outcomes.new.next ≡ [] }
     ensures rows { outcomes.new.spare_rows ≡ outcomes.old.spare_rows - 1 }
     ensures room { outcomes.old.spare_bytes ≤ outcomes.new.spare_bytes + 32 * length (transaction_packets (solo_host []) 0 txn.now) }
@@ -164,10 +161,11 @@ fn perform(
     ensures memory { memory.new ≡ solo_step [] index memory.old txn.now }
     ensures base { memory.new.base ≡ 0 }
     ensures size { length memory.new.bytes ≡ 65536 }
-    ensures packets { map (λ e. message_of e.packet) journal.new.entries ≡ map (λ e. message_of e.packet) journal.old.entries ++ aimed_packets [] index txn.now }
+    ensures packets { entry_messages journal.new.entries ≡ entry_messages journal.old.entries ++ aimed_packets [] index txn.now }
     ensures first { All IsFirstRound journal.new.entries }
     ensures spare { journal.old.spare ≡ journal.new.spare + entries_of txn.now }
-    ensures outcomes { outcomes.new.outcomes ≡ outcomes.old.outcomes ++ outcome_of txn.now.kind (solo_answers [] index memory.old txn.now) ∷ [] }
+    ensures outcomes { outcomes.new.outcomes
+        ≡ outcomes.old.outcomes ++ outcome_of txn.now.kind (solo_answers [] index memory.old txn.now) ∷ [] }
     ensures next { outcomes.new.next ≡ [] }
     ensures rows { outcomes.new.spare_rows ≡ outcomes.old.spare_rows - 1 }
     ensures room { outcomes.old.spare_bytes ≤ outcomes.new.spare_bytes + answer_room_of txn.now }
@@ -236,7 +234,7 @@ pub struct Run {
     pub memory: Memory,
 }
 
-#[tactic(auto, unfolding(sb_packet::specs::SoloRuns::solo_opening))]
+#[tactic(auto, unfolding(crate::specs::SoloRuns::solo_opening))]
 fn new_memory(alloc: Global) -> Result<Memory, AllocError>
     ensures opening { IfOk result (λ m. m ≡ solo_opening) }
     ensures base { IfOk result (λ m. m.base ≡ 0) }

@@ -4,7 +4,7 @@ use Rattle.std.specs.Prelude.{filter}
 use Rattle.std.specs.List.{list_any, range_with_len}
 use Rattle.std.proofs.lemmas.List.{get_or-map, length-map}
 use Rattle.sb_packet.specs.Networks.{NetHost, Network, has_address}
-use Rattle.sb_packet.specs.Ways.{aims_at}
+use Rattle.sb_flow.specs.Ways.{aims_at}
 use Rattle.sb_packet.specs.declared.transaction.Txn.{Txn}
 use Rattle.sb_flow.specs.Firsts.{first_told}
 use Rattle.sb_flow.specs.Ranges.{overlapping_device}
@@ -12,7 +12,7 @@ use Rattle.sb_flow.specs.Routes.{RouteAt, lost_on_way}
 use Rattle.sb_flow.specs.Rows.{device_of, host_of}
 use Rattle.sb_flow.specs.declared.device_plan.DevicePlan.{DevicePlan}
 use Rattle.sb_flow.specs.declared.host_plan.HostPlan.{HostPlan}
-use Rattle.sb_topology.specs.PlansHeld.{whole_network}
+use Rattle.sb_topology.specs.Held.{whole_network}
 use Rattle.sb_topology.specs.declared.plan.Rows.{Rows}
 use Rattle.sb_topology.proofs.LostWays.{aimed_here, aims_more}
 

@@ -4,7 +4,7 @@ use Rattle.std.specs.Prelude.{filter, if◌then◌else◌}
 use Rattle.std.specs.List.{list_any, range_with_len}
 use Rattle.std.specs.Option.{option_or}
 use Rattle.sb_packet.specs.Networks.{NetDevice, NetHost, Network, has_address}
-use Rattle.sb_packet.specs.Ways.{aims_at, is_aimed_at, links_from, next_link}
+use Rattle.sb_flow.specs.Ways.{aims_at, is_aimed_at, links_from, next_link}
 use Rattle.sb_packet.specs.declared.transaction.Txn.{Txn}
 use Rattle.sb_flow.specs.Firsts.{first_told}
 use Rattle.sb_flow.specs.Ranges.{overlapping_device}

@@ -9,7 +9,7 @@ use Rattle.sb_packet.specs.declared.transaction.Kind.{Kind}
 use Rattle.sb_packet.specs.declared.transaction.Kind.TheVariants.{Read, Write, Posted, Atomic}
 use Rattle.sb_packet.specs.declared.transaction.Txn.{Txn}
 use Rattle.sb_text.specs.Faults.{◌>>=◌, some_or, unless}
-use Rattle.sb_text.specs.Lines.{words_of}
+use Rattle.sb_text.specs.Lines.{words_in_line}
 use Rattle.sb_text.specs.Numerals.{numeral_of}
 use Rattle.sb_text.specs.Scripts.{before}
 use Rattle.sb_text.specs.Sentences.{arguments_of, is_comment, kind_of, line_of, sentence_of}
@@ -93,7 +93,7 @@ words_then words false t e = sentence_then words t e
 
 line_then : (host number : ℕ) (line : List ℕ) (said : Result (Option Txn) LineFault) (t : Txn) → line_of line ≡ said → said_by host number said ≡ Ok (Some t) → IsTransaction t
 line_then host number line (Err fault) t is e = let no_way : ⊥ = cc in absurd no_way
-line_then host number line (Ok txn) t is e = words_then (words_of (strip_carriage_return line)) (is_comment (words_of (strip_carriage_return line))) t cc
+line_then host number line (Ok txn) t is e = words_then (words_in_line (strip_carriage_return line)) (is_comment (words_in_line (strip_carriage_return line))) t cc
 
 one_then : (host number : ℕ) (line : List ℕ) (said : Option Txn) → said_by host number (line_of line) ≡ Ok said → All IsTransaction (before said [])
 one_then host number line None e = All-nil IsTransaction

@@ -3,9 +3,4 @@ pub mod Places
 pub mod Tests
 pub mod Lines
 pub mod Bundles
-pub mod NamesHeld
-pub mod HostsHeld
-pub mod LinksHeld
-pub mod PlansHeld
-pub mod Overlaps
-pub mod Strays
+pub mod Held

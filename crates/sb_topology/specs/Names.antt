@@ -64,7 +64,8 @@ router_named names number earlier router = do
 -- the names of the routers from a number on, behind earlier names
 abbrev pub routers_by : GivenNames → ℕ → List (List ℕ) → List WrittenRouter → Result (List (List ℕ)) LoadFault
 routers_by names number earlier [] = Ok earlier
-routers_by names number earlier (router ∷ routers) = router_named names number earlier router >>= (λ done. routers_by names (number + 1) (earlier ++ router.name ∷ []) routers)
+routers_by names number earlier (router ∷ routers) =
+    router_named names number earlier router >>= (λ done. routers_by names (number + 1) (earlier ++ router.name ∷ []) routers)
 
 -- the host, router or device of that name
 unfoldable pub place_named : GivenNames → List ℕ → Option NetPlace

@@ -23,7 +23,8 @@ route_to names routes device = option_and_then (λ route. place_among names.link
 abbrev pub placed_router : GivenNames → WrittenRouter → NetRouter
 placed_router names router = record { name = router.name; side = router.side; routes = map (route_to names router.routes) names.devices }
 
--- The network, where all names are as they should be; else the first that isn't. Hosts, routers and devices have one space of names, links have one of their own.
+-- The network, where all names are as they should be; else the first that isn't. Hosts, routers and devices have one space
+-- of names, links have one of their own.
 unfoldable pub named_network : WrittenBundle → Result Network LoadFault
 named_network bundle = do
   hosts ← names_by (codes "hosts") 0 [] (names_of bundle).hosts

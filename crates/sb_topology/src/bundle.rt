@@ -6,9 +6,8 @@ ghost use Rattle.sb_flow.specs.NetworkOf.{network_of};
 ghost use Rattle.sb_fields.specs.declared.fault.LoadFault.TheVariants as faults;
 ghost use Rattle.sb_fields.specs.Counted.{counted_bundle};
 ghost use Rattle.sb_fields.specs.Counts.{bundle_counts};
-ghost use Rattle.sb_topology.specs.HostsHeld.{draft_host};
+ghost use Rattle.sb_topology.specs.Held.{draft_host, plan_network, whole_network};
 ghost use Rattle.sb_topology.specs.Lines.{hosts_by};
-ghost use Rattle.sb_topology.specs.PlansHeld.{plan_network, whole_network};
 ghost use Rattle.sb_topology.specs.Bundles.{network_written};
 
 use crate::device_tests::devices_tested;

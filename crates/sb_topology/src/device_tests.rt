@@ -3,16 +3,14 @@
 ghost use Rattle.std.specs.Prelude.{◌≡◌, ◌≢◌, ◌≤◌, ◌<◌, ◌+◌, ◌^◌, ◌==◌, length, map, nat_lt, not, option_map, vec_len, IfOk, IfErr, IfSome, OnOk, Ok, Err, None};
 ghost use Rattle.std.specs.List.{position_from};
 ghost use Rattle.sb_packet.specs.Networks.{device_size};
-ghost use Rattle.sb_packet.specs.Plans.{are_apart};
-ghost use Rattle.sb_packet.specs.Rings.{range_of};
+ghost use Rattle.sb_link.specs.RingPlans.{are_apart};
+ghost use Rattle.sb_flow.specs.Rings.{range_of};
 ghost use Rattle.sb_flow.specs.Firsts.{first_clash};
 ghost use Rattle.sb_flow.specs.Ranges.{is_placed_device, overlapping_device};
 ghost use Rattle.sb_flow.specs.Rows.{device_of};
 ghost use Rattle.sb_fields.specs.declared.fault.LoadFault.TheVariants as faults;
-ghost use Rattle.sb_topology.specs.HostsHeld.{draft_host};
-ghost use Rattle.sb_topology.specs.Overlaps.{clash_of};
+ghost use Rattle.sb_topology.specs.Held.{clash_of, draft_host, draft_network};
 ghost use Rattle.sb_topology.specs.Places.{silent_host};
-ghost use Rattle.sb_topology.specs.PlansHeld.{draft_network};
 ghost use Rattle.sb_topology.specs.Tests.{devices_tested as devices_tested_by, image_length};
 
 use crate::host_draft::HostDraft;

@@ -3,8 +3,7 @@
 ghost use Rattle.std.specs.Prelude.{◌≡◌, ◌≢◌, ◌≤◌, map, vec_len, IfOk, IfErr, Ok, Err};
 ghost use Rattle.sb_fields.specs.declared.fault.LoadFault.TheVariants as faults;
 ghost use Rattle.sb_fields.specs.Counted.{counted_bundle, counted_host};
-ghost use Rattle.sb_topology.specs.HostsHeld.{draft_host};
-ghost use Rattle.sb_topology.specs.PlansHeld.{draft_network};
+ghost use Rattle.sb_topology.specs.Held.{draft_host, draft_network};
 ghost use Rattle.sb_topology.specs.Places.{named_network};
 
 use crate::devices::device_plans;

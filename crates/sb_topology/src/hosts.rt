@@ -4,7 +4,7 @@ ghost use Rattle.std.specs.Prelude.{◌≡◌, ◌≢◌, codes, map, vec_len, I
 ghost use Rattle.sb_fields.specs.declared.fault.LoadFault.TheVariants as faults;
 ghost use Rattle.sb_fields.specs.Counted.{counted_host};
 ghost use Rattle.sb_topology.specs.Names.{names_by};
-ghost use Rattle.sb_topology.specs.HostsHeld.{draft_host};
+ghost use Rattle.sb_topology.specs.Held.{draft_host};
 
 use crate::host_draft::HostDraft;
 use crate::new_names::new_name;

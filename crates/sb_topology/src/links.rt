@@ -6,8 +6,7 @@ ghost use Rattle.sb_fields.specs.declared.fault.LoadFault.TheVariants as faults;
 ghost use Rattle.sb_fields.specs.Paths.{item_of};
 ghost use Rattle.sb_fields.specs.Counted.{counted_link};
 ghost use Rattle.sb_topology.specs.Names.{end_named as end_named_by, link_named as link_named_by, links_by, place_named as place_named_by, wire_named as wire_named_by};
-ghost use Rattle.sb_topology.specs.NamesHeld.{given_names};
-ghost use Rattle.sb_topology.specs.LinksHeld.{draft_link};
+ghost use Rattle.sb_topology.specs.Held.{draft_link, given_names};
 
 use crate::link_draft::LinkDraft;
 use crate::name_lists::NameLists;

@@ -3,7 +3,7 @@
 ghost use Rattle.std.specs.Prelude.{◌≡◌, ◌≢◌, ◌≤◌, ℕ, List, length, map, vec_len, IfOk, IfErr};
 ghost use Rattle.sb_fields.specs.Written.{WrittenDevice, WrittenHost, WrittenLink, WrittenRouter};
 ghost use Rattle.sb_fields.specs.Counted.{counted_device, counted_host, counted_link, counted_router};
-ghost use Rattle.sb_topology.specs.NamesHeld.{given_names as given_of};
+ghost use Rattle.sb_topology.specs.Held.{given_names as given_of};
 ghost use Rattle.sb_topology.specs.Names.{names_of};
 ghost use Rattle.sb_fields.specs.Counted.{counted_bundle};
 

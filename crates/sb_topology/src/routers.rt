@@ -8,7 +8,7 @@ ghost use Rattle.sb_fields.specs.Paths.{member_of};
 ghost use Rattle.sb_fields.specs.Counted.{counted_router};
 ghost use Rattle.sb_fields.specs.Held.{written_route};
 ghost use Rattle.sb_topology.specs.Names.{route_named as route_named_by, router_named as router_named_by, routers_by, routes_named as routes_named_by, routes_path as routes_path_by};
-ghost use Rattle.sb_topology.specs.NamesHeld.{given_names};
+ghost use Rattle.sb_topology.specs.Held.{given_names};
 ghost use Rattle.sb_topology.specs.Places.{placed_router, route_to as route_to_by};
 
 use crate::name_lists::NameLists;

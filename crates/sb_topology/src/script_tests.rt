@@ -2,7 +2,7 @@
 
 ghost use Rattle.std.specs.Prelude.{◌≡◌, ◌≤◌, All, None, length, vec_len};
 ghost use Rattle.sb_flow.specs.Ranges.{overlapping_device};
-ghost use Rattle.sb_topology.specs.PlansHeld.{whole_network};
+ghost use Rattle.sb_topology.specs.Held.{whole_network};
 ghost use Rattle.sb_topology.specs.Tests.{scripts_tested as scripts_tested_by};
 
 use crate::plan::Rows;

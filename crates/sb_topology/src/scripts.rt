@@ -7,7 +7,7 @@ ghost use Rattle.sb_text.specs.Sentences.{line_of};
 ghost use Rattle.sb_text.specs.declared.line_fault.LineFault.TheVariants as line_faults;
 ghost use Rattle.sb_flow.specs.Rows.{host_of};
 ghost use Rattle.sb_fields.specs.declared.fault.LoadFault.TheVariants as faults;
-ghost use Rattle.sb_topology.specs.HostsHeld.{draft_host};
+ghost use Rattle.sb_topology.specs.Held.{draft_host};
 ghost use Rattle.sb_topology.specs.Lines.{hosts_by, said_by, script_by, told_host as told_host_by};
 
 use crate::host_draft::HostDraft;

@@ -4,13 +4,12 @@ ghost use Rattle.std.specs.Prelude.{◌≡◌, ◌<◌, IfSome, None, length, ma
 ghost use Rattle.std.specs.List.{enumerate_from, list_any, position_from};
 ghost use Rattle.sb_packet.specs.Networks.{has_address};
 ghost use Rattle.sb_packet.specs.Sides.{leaves_from};
-ghost use Rattle.sb_packet.specs.Ways.{aims_at, first_link as first_link_by, next_link as next_link_by, router_after as router_after_by};
+ghost use Rattle.sb_flow.specs.Ways.{aims_at, first_link as first_link_by, next_link as next_link_by, router_after as router_after_by};
 ghost use Rattle.sb_flow.specs.Firsts.{first_told};
 ghost use Rattle.sb_flow.specs.Ranges.{overlapping_device};
 ghost use Rattle.sb_flow.specs.Routes.{lost_behind as lost_behind_by, lost_flow as lost_flow_by, lost_of_host as lost_of_host_by, lost_on_way as lost_on_way_by};
 ghost use Rattle.sb_flow.specs.Rows.{device_of, host_of, link_of};
-ghost use Rattle.sb_topology.specs.PlansHeld.{whole_network};
-ghost use Rattle.sb_topology.specs.Strays.{route_of_stray};
+ghost use Rattle.sb_topology.specs.Held.{route_of_stray, whole_network};
 
 use crate::plan::Rows;
 use crate::routes::route;

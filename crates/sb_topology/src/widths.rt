@@ -6,8 +6,7 @@ ghost use Rattle.std.specs.List.{position_from};
 ghost use Rattle.sb_flow.specs.Ends.{is_width_now, odd_width};
 ghost use Rattle.sb_flow.specs.Rows.{link_of};
 ghost use Rattle.sb_fields.specs.declared.fault.LoadFault.TheVariants as faults;
-ghost use Rattle.sb_topology.specs.LinksHeld.{draft_link};
-ghost use Rattle.sb_topology.specs.PlansHeld.{draft_network, plan_network};
+ghost use Rattle.sb_topology.specs.Held.{draft_link, draft_network, plan_network};
 ghost use Rattle.sb_topology.specs.Tests.{unless_found};
 
 use crate::link_draft::LinkDraft;

@@ -10,12 +10,12 @@ abbrev pub carried_opcodes : List ℕ
 carried_opcodes = 1 ∷ 2 ∷ 3 ∷ 4 ∷ 5 ∷ 9 ∷ []
 
 -- an opcode that is one of them
-abbrev pub is_carried : ℕ → Bool
-is_carried opcode = list_any (λ n. n == opcode) carried_opcodes
+abbrev pub is_carried_opcode : ℕ → Bool
+is_carried_opcode opcode = list_any (λ n. n == opcode) carried_opcodes
 
 -- the fault of an opcode, if it has one
 abbrev pub opcode_fault : ℕ → Option WordFault
-opcode_fault opcode = if opcode == 0 then Some Invalid else if is_carried opcode then None else Some (Opcode opcode)
+opcode_fault opcode = if opcode == 0 then Some Invalid else if is_carried_opcode opcode then None else Some (Opcode opcode)
 
 -- the fault of a size, if it has one
 abbrev pub size_fault : ℕ → Option WordFault

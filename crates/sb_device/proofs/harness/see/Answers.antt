@@ -6,7 +6,7 @@ use Rattle.sb_link.specs.PlanOf.{flows_of, plan_of}
 use Rattle.sb_link.specs.declared.flows.Flows.{Flows}
 use Rattle.sb_link.specs.declared.plan.LinkPlan.{LinkPlan}
 use Rattle.sb_packet.specs.Memories.{MemoryState}
-use Rattle.sb_packet.specs.Plans.{AddressRange, RingPlan, NetFlow, device_ranges, goes_through}
+use Rattle.sb_link.specs.RingPlans.{AddressRange, RingPlan, NetFlow, device_ranges, goes_through}
 use Rattle.std.specs.Prelude.{slice_get}
 use Rattle.sb_device.specs.Plans.{IsPlannedFor}
 use Rattle.sb_device.proofs.harness.see.Goals as goal

@@ -1,7 +1,7 @@
 -- Each item that comes in leaves the device in order, and what it served it goes on to serve.
 use Rattle.std.proofs.Common.{◌∷◌, ◌++◌, [], ap, ◌∙◌, refl, subst}
-use Rattle.sb_packet.specs.Ledger.{Ledger}
-use Rattle.sb_packet.specs.Traffic.{MayFollow}
+use Rattle.sb_packet.specs.Journals.{Ledger}
+use Rattle.sb_link.specs.Traffic.{MayFollow}
 use Rattle.sb_packet.specs.declared.item.Item.{Item}
 use Rattle.sb_packet.specs.declared.item.Item.TheVariants as items
 use Rattle.sb_node.specs.Sides.{ring_side}

@@ -1,6 +1,6 @@
 -- The legs so far, and those of the links to come, are those of the whole way.
 use Rattle.std.proofs.Common.{◌≡◌, ◌-◌, map}
-use Rattle.sb_packet.specs.Ways.{way_links}
+use Rattle.sb_flow.specs.Ways.{way_links}
 use Rattle.sb_flow.specs.NetworkOf.{network_of}
 use Rattle.sb_flow.specs.Tables.{leg_of}
 use Rattle.sb_flow.proofs.Walks.{legs_with}

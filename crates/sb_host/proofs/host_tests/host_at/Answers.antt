@@ -4,9 +4,9 @@ use Rattle.std.specs.Prelude.{IsSome, slice_get}
 use Rattle.std.proofs.lemmas.List.{length-map}
 use Rattle.std.proofs.lemmas.List.Elements.{All-nil, All-cons}
 use Rattle.sb_packet.specs.Networks.{Network}
-use Rattle.sb_packet.specs.Plans.{RingPlan}
-use Rattle.sb_packet.specs.Rings.{ring_link, ring_plan}
-use Rattle.sb_packet.specs.Ways.{first_link}
+use Rattle.sb_link.specs.RingPlans.{RingPlan}
+use Rattle.sb_flow.specs.Rings.{ring_link, ring_plan}
+use Rattle.sb_flow.specs.Ways.{first_link}
 use Rattle.sb_link.specs.Ends.{IsNewRing}
 use Rattle.sb_link.specs.PlanOf.{plan_of}
 use Rattle.sb_flow.specs.NetworkOf.{network_of}

@@ -1,7 +1,7 @@
 -- The ring from a host has room for all that it asks.
 use Rattle.std.proofs.Common.{◌≡◌, ◌∙◌, ◌≤◌, length, subst, sym, ℕ}
 use Rattle.std.specs.Prelude.{Some}
-use Rattle.sb_packet.specs.Rings.{ring_budget}
+use Rattle.sb_flow.specs.Rings.{ring_budget}
 use Rattle.sb_host.specs.Asked.{asked_accesses, asked_by}
 use Rattle.sb_laws.specs.NetworkLayouts.{request_ring}
 use Rattle.sb_laws.proofs.HostRooms.{room_for_all}

@@ -1,7 +1,7 @@
 -- Rings of lower numbers are other rings.
 use Rattle.std.proofs.Common.{◌≡◌, ◌≢◌, ◌<◌, ◌+◌, ℕ, List, ◌∷◌, [], ◌++◌, All, ap, sym, subst, arith}
 use Rattle.std.proofs.lemmas.List.Elements.{All-push, All-weaker}
-use Rattle.sb_packet.specs.Plans.{RingPlan}
+use Rattle.sb_link.specs.RingPlans.{RingPlan}
 use Rattle.sb_link.specs.PlanOf.{plan_of}
 use Rattle.sb_router.proofs.Results.{ok_then}
 use Rattle.sb_router.proofs.tests.ring.Goals as goal

@@ -1,7 +1,7 @@
 -- No ring was made before.
 use Rattle.std.proofs.Common.{◌<◌, All, sym, subst}
 use Rattle.std.proofs.lemmas.List.Elements.{All-nil}
-use Rattle.sb_packet.specs.Plans.{RingPlan}
+use Rattle.sb_link.specs.RingPlans.{RingPlan}
 use Rattle.sb_router.proofs.tests.see.Goals as goal
 
 pub in_leg-requires-clause-before : goal.in_leg-requires-clause-before

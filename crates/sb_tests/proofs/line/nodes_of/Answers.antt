@@ -2,8 +2,8 @@
 use Rattle.std.proofs.Common.{◌≡◌, ℕ, [], ◌∷◌, refl, sym, subst, ap, ◌∙◌, length, arith}
 use Rattle.sb_link.specs.PlanOf.{plan_of}
 use Rattle.sb_packet.specs.Networks.{Network}
-use Rattle.sb_packet.specs.Plans.{RingPlan}
-use Rattle.sb_packet.specs.Rings.{ring_plan}
+use Rattle.sb_link.specs.RingPlans.{RingPlan}
+use Rattle.sb_flow.specs.Rings.{ring_plan}
 use Rattle.sb_port.specs.Ports.{PortSide, fresh_port}
 use Rattle.sb_node.specs.Sides.{RingSide}
 use Rattle.sb_router.specs.Fresh.{fresh_inlet}

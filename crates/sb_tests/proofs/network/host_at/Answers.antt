@@ -2,7 +2,7 @@
 use Rattle.std.proofs.Common.{ap, sym, ◌∙◌, ◌*◌, ℕ}
 use Rattle.std.specs.Prelude.{slice_get}
 use Rattle.sb_packet.specs.Networks.{Network}
-use Rattle.sb_packet.specs.Rings.{ring_plan}
+use Rattle.sb_flow.specs.Rings.{ring_plan}
 use Rattle.sb_host.specs.Asked.{asked_by}
 use Rattle.sb_tests.specs.Samples.{sample, sample_host}
 use Rattle.sb_tests.proofs.network.host_at.Goals as goal

@@ -1,7 +1,7 @@
 -- The text that is written, whole or in part, is the report of the script's own journal, and that journal is lawful.
 use Rattle.sb_top.proofs.command.solo.Goals as goal
 use Rattle.std.proofs.Common.{inl, inr, refl}
-use Rattle.sb_packet.proofs.SoloLawful.{solo_lawful}
+use Rattle.sb_top.proofs.SoloLawful.{solo_lawful}
 
 pub returns-in-Ok-clause-done : goal.returns-in-Ok-clause-done
 returns-in-Ok-clause-done g c = λ zero.

@@ -1,6 +1,6 @@
 -- One row more adds its line, and all rows are the image's lines; where the sink fails, a first part of these was written.
 use Rattle.std.proofs.Common.{rules, ◌≡◌, ◌≤◌, ◌<◌, ◌+◌, ◌-◌, ◌*◌, ◌/◌, ◌∙◌, ℕ, List, [], ap, sym, length, take, drop, get_or, arith}
-use Rattle.sb_packet.specs.Reports.{row_line, image_rows}
+use Rattle.sb_text.specs.Reports.{row_line, image_rows}
 use Rattle.sb_top.proofs.IndexedLemmas.{line_more, line_part, lines_all, length-image_rows, image_row_at}
 use Rattle.sb_top.proofs.OutputLemmas.{on_err}
 use Rattle.sb_top.proofs.report.print_image.Goals as goal

@@ -1,6 +1,6 @@
 -- The lines of the rows so far are printed or wait, and the sink has not failed.
 use Rattle.std.proofs.Common.{◌≡◌, take, length, ◌/◌}
-use Rattle.sb_packet.specs.Reports.{row_line, image_rows}
+use Rattle.sb_text.specs.Reports.{row_line, image_rows}
 use Rattle.sb_top.specs.Outputs.{Prints}
 use Rattle.sb_top.proofs.IndexedLemmas.{indexed}
 use Rattle.sb_top.proofs.report.print_image.Given as goal

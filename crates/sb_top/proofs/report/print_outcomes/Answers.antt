@@ -1,7 +1,7 @@
 -- One transaction more adds its line, up to the line of the last; where the sink fails, a first part of all lines was written.
 use Rattle.std.proofs.Common.{rules, ◌≤◌, ◌<◌, ◌∙◌, [], length, arith}
 use Rattle.sb_packet.specs.Outcomes.{Outcome}
-use Rattle.sb_packet.specs.Reports.{outcome_line}
+use Rattle.sb_text.specs.Reports.{outcome_line}
 use Rattle.sb_packet.specs.declared.transaction.TxnState.TheVariants.{Waiting}
 use Rattle.sb_top.proofs.IndexedLemmas.{line_more, line_part, lines_all, outcome_parts}
 use Rattle.sb_top.proofs.OutputLemmas.{on_err}

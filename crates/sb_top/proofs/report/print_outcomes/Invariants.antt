@@ -1,6 +1,6 @@
 -- The lines of the transactions so far are printed or wait, and the sink has not failed.
 use Rattle.std.proofs.Common.{◌≡◌, take}
-use Rattle.sb_packet.specs.Reports.{outcome_line}
+use Rattle.sb_text.specs.Reports.{outcome_line}
 use Rattle.sb_top.specs.Outputs.{Prints}
 use Rattle.sb_top.proofs.IndexedLemmas.{indexed}
 use Rattle.sb_top.proofs.report.print_outcomes.Given as goal

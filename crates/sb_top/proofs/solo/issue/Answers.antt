@@ -6,12 +6,12 @@ use Rattle.std.proofs.lemmas.List.Elements.{All-push}
 use Rattle.sb_packet.specs.Messages.{Message, message_of}
 use Rattle.sb_packet.specs.Answers.{answer_body, answer_code}
 use Rattle.sb_packet.specs.Cuts.{transaction_packets}
-use Rattle.sb_packet.specs.Memories.{memory_after}
+use Rattle.sb_packet.specs.Memories.{answers_to, memory_after}
 use Rattle.sb_packet.specs.Outcomes.{Outcome}
-use Rattle.sb_packet.specs.Solo.{solo_host}
+use Rattle.sb_top.specs.Solo.{solo_host}
 use Rattle.sb_packet.specs.declared.entry.Entry.{Entry}
 use Rattle.sb_packet.specs.declared.transaction.TxnState.{TxnState}
-use Rattle.sb_top.specs.Steps.{found, state_by, IsFirstRound}
+use Rattle.sb_top.specs.Steps.{state_by, IsFirstRound}
 use Rattle.sb_top.proofs.IssueLemmas.{take_next, memory_next, body_next, code_next, words_whole, outcome_is}
 use Rattle.sb_top.proofs.solo.issue.Goals as goal
 
@@ -62,8 +62,8 @@ returns-clause-outcomes c =
     let t = c.args.txn.now in
     let counted : length (transaction_packets (solo_host []) i t) ≤ c.loop-k.k = let n = c.packets-count.ensures.packets 0 0 0 i in omega (arith, n) in
     let whole = words_whole i c.loop-k.k t counted in
-    let body = c.loop-k.invariant.next ∙ ap (λ l. answer_body (found m l)) whole in
-    let code = c.loop-k.invariant.code ∙ ap (λ l. answer_code (found m l)) whole in
+    let body = c.loop-k.invariant.next ∙ ap (λ l. answer_body (answers_to m l)) whole in
+    let code = c.loop-k.invariant.code ∙ ap (λ l. answer_code (answers_to m l)) whole in
     let outcome = outcome_is m i t t.kind refl c.loop-k.outcomes.next c.loop-k.code body code in
     ap (λ o. o.outcomes) c.finish.ensures
     ∙ ap (λ (s : TxnState). c.loop-k.outcomes.outcomes ++ record { state = s; body = c.loop-k.outcomes.next } ∷ []) c.state_of.ensures

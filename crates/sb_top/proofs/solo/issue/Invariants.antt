@@ -5,9 +5,9 @@ use Rattle.sb_packet.specs.Messages.{message_of}
 use Rattle.sb_packet.specs.Accesses.{message_accesses}
 use Rattle.sb_packet.specs.Answers.{answer_body, answer_code}
 use Rattle.sb_packet.specs.Cuts.{transaction_packets}
-use Rattle.sb_packet.specs.Memories.{memory_after}
-use Rattle.sb_packet.specs.Solo.{solo_host}
-use Rattle.sb_top.specs.Steps.{found, IsFirstRound}
+use Rattle.sb_packet.specs.Memories.{answers_to, memory_after}
+use Rattle.sb_top.specs.Solo.{solo_host}
+use Rattle.sb_top.specs.Steps.{IsFirstRound}
 use Rattle.sb_top.proofs.solo.issue.Given as goal
 
 abbrev pub invariant-loop-k : goal.invariant-loop-k
@@ -19,8 +19,8 @@ invariant-loop-k l = record {
   first : All IsFirstRound l.journal.entries;
   spare : l.fn.journal.spare ≡ l.journal.spare + l.k;
   outcomes : l.outcomes.outcomes ≡ l.fn.outcomes.outcomes;
-  next : l.outcomes.next ≡ answer_body (found l.fn.memory (flat_map message_accesses (take l.k (transaction_packets (solo_host []) l.index l.txn))));
+  next : l.outcomes.next ≡ answer_body (answers_to l.fn.memory (flat_map message_accesses (take l.k (transaction_packets (solo_host []) l.index l.txn))));
   rows : l.outcomes.spare_rows ≡ l.fn.outcomes.spare_rows;
   room : l.fn.outcomes.spare_bytes ≤ l.outcomes.spare_bytes + 32 * l.k;
-  code : l.code ≡ answer_code (found l.fn.memory (flat_map message_accesses (take l.k (transaction_packets (solo_host []) l.index l.txn))));
+  code : l.code ≡ answer_code (answers_to l.fn.memory (flat_map message_accesses (take l.k (transaction_packets (solo_host []) l.index l.txn))));
 }

@@ -2,7 +2,7 @@
 use Rattle.std.proofs.Common.{◌≡◌, ◌++◌, ◌∷◌, [], ◌∙◌, ap, sym, refl, false}
 use Rattle.sb_packet.specs.Networks.{has_address}
 use Rattle.sb_packet.specs.Outcomes.{Outcome}
-use Rattle.sb_packet.specs.Solo.{solo_device}
+use Rattle.sb_top.specs.Solo.{solo_device}
 use Rattle.sb_top.proofs.UnreachedLemmas.{outcome_of_lost}
 use Rattle.sb_top.proofs.solo.perform.Goals as goal
 

@@ -1,7 +1,7 @@
 -- A transaction that is aimed at the memory needs an entry for each of its packets, and 32 bytes of answers for each.
 use Rattle.std.proofs.Common.{◌≡◌, ◌*◌, ◌∙◌, ℕ, ap, sym, true}
 use Rattle.sb_packet.specs.Networks.{has_address}
-use Rattle.sb_packet.specs.Solo.{solo_device}
+use Rattle.sb_top.specs.Solo.{solo_device}
 use Rattle.sb_top.proofs.solo.room_of.Goals as goal
 
 pub returns-then-is_aimed-clause-entries : goal.returns-then-is_aimed-clause-entries

@@ -2,8 +2,8 @@
 use Rattle.std.proofs.Common.{◌≡◌, ◌≤◌, ◌+◌, ◌++◌, [], drop, length}
 use Rattle.std.specs.Prelude.{map, All}
 use Rattle.sb_packet.specs.Messages.{message_of}
-use Rattle.sb_packet.specs.Solo.{solo_packets_from}
-use Rattle.sb_packet.specs.SoloRuns.{solo_memory_from, solo_opening, solo_outcomes_from}
+use Rattle.sb_top.specs.Solo.{solo_packets_from}
+use Rattle.sb_top.specs.SoloRuns.{solo_memory_from, solo_opening, solo_outcomes_from}
 use Rattle.sb_top.specs.Steps.{answer_room_in, entries_in, IsFirstRound}
 use Rattle.sb_top.proofs.solo.run_script.Given as goal
 

@@ -1,8 +1,8 @@
 -- The next device overlaps one before it, or what overlaps is ahead.
 use Rattle.std.proofs.Common.{sym, ◌∙◌, not}
 use Rattle.sb_packet.specs.Networks.{NetDevice}
-use Rattle.sb_packet.specs.Plans.{are_apart}
-use Rattle.sb_packet.specs.Rings.{range_of}
+use Rattle.sb_link.specs.RingPlans.{are_apart}
+use Rattle.sb_flow.specs.Rings.{range_of}
 use Rattle.sb_flow.specs.Rows.{device_of}
 use Rattle.sb_topology.proofs.ClashSteps.{clash_ahead, clash_here}
 use Rattle.sb_topology.proofs.device_tests.first_overlap.Goals as goal

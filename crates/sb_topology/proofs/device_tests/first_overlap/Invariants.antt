@@ -1,7 +1,7 @@
 -- No device so far overlaps an earlier one.
 use Rattle.std.proofs.Common.{◌≡◌, [], drop, map, not, take}
-use Rattle.sb_packet.specs.Plans.{are_apart}
-use Rattle.sb_packet.specs.Rings.{range_of}
+use Rattle.sb_link.specs.RingPlans.{are_apart}
+use Rattle.sb_flow.specs.Rings.{range_of}
 use Rattle.sb_flow.specs.Firsts.{clash_behind}
 use Rattle.sb_flow.specs.Rows.{device_of}
 use Rattle.sb_topology.proofs.device_tests.first_overlap.Given as goal

@@ -1,7 +1,7 @@
 -- No host so far has the id.
 use Rattle.std.proofs.Common.{◌≡◌, ◌==◌, drop, map}
 use Rattle.std.specs.List.{position_from}
-use Rattle.sb_topology.specs.HostsHeld.{draft_host}
+use Rattle.sb_topology.specs.Held.{draft_host}
 use Rattle.sb_topology.specs.Places.{silent_host}
 use Rattle.sb_topology.proofs.device_tests.host_with.Given as goal
 

@@ -1,8 +1,8 @@
 -- The device overlaps none so far.
 use Rattle.std.proofs.Common.{◌≡◌, drop, map, not}
 use Rattle.std.specs.List.{position_from}
-use Rattle.sb_packet.specs.Plans.{are_apart}
-use Rattle.sb_packet.specs.Rings.{range_of}
+use Rattle.sb_link.specs.RingPlans.{are_apart}
+use Rattle.sb_flow.specs.Rings.{range_of}
 use Rattle.sb_flow.specs.Rows.{device_of}
 use Rattle.sb_topology.proofs.device_tests.overlapped.Given as goal
 

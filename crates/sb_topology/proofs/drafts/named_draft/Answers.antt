@@ -3,7 +3,7 @@ use Rattle.std.proofs.Common.{◌≡◌, ◌∙◌, arith, refl, length}
 use Rattle.std.specs.Vec.{vec_len}
 use Rattle.sb_fields.specs.Counted.{counted_bundle}
 use Rattle.sb_topology.specs.Names.{names_of}
-use Rattle.sb_topology.specs.NamesHeld.{given_names}
+use Rattle.sb_topology.specs.Held.{given_names}
 use Rattle.sb_topology.proofs.NamedParts.{named_parts}
 use Rattle.sb_topology.proofs.drafts.named_draft.Goals as goal
 

@@ -3,7 +3,7 @@ use Rattle.std.proofs.Common.{◌≡◌, ◌+◌, ◌++◌, codes, length, map}
 use Rattle.std.specs.Vec.{vec_len}
 use Rattle.sb_fields.specs.Counted.{counted_host}
 use Rattle.sb_topology.specs.Names.{names_by}
-use Rattle.sb_topology.specs.HostsHeld.{draft_host}
+use Rattle.sb_topology.specs.Held.{draft_host}
 use Rattle.sb_topology.proofs.hosts.host_drafts.Given as goal
 
 abbrev pub invariant-loop-number : goal.invariant-loop-number

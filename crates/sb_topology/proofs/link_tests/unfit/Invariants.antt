@@ -2,7 +2,7 @@
 use Rattle.std.proofs.Common.{◌≡◌, [], drop, map, take}
 use Rattle.sb_flow.specs.Ends.{unfit_behind}
 use Rattle.sb_flow.specs.Rows.{link_of}
-use Rattle.sb_topology.specs.PlansHeld.{plan_network}
+use Rattle.sb_topology.specs.Held.{plan_network}
 use Rattle.sb_topology.proofs.link_tests.unfit.Given as goal
 
 abbrev pub invariant-loop-place : goal.invariant-loop-place

@@ -3,8 +3,7 @@ use Rattle.std.proofs.Common.{◌≡◌, [], drop, map}
 use Rattle.std.specs.Vec.{vec_len}
 use Rattle.sb_fields.specs.Counted.{counted_link}
 use Rattle.sb_topology.specs.Names.{links_by}
-use Rattle.sb_topology.specs.NamesHeld.{given_names}
-use Rattle.sb_topology.specs.LinksHeld.{draft_link}
+use Rattle.sb_topology.specs.Held.{draft_link, given_names}
 use Rattle.sb_topology.proofs.links.link_drafts.Given as goal
 
 abbrev pub invariant-loop-number : goal.invariant-loop-number

@@ -1,7 +1,7 @@
 -- The places so far have the routes to their devices.
 use Rattle.std.proofs.Common.{◌≡◌, length, map, take}
 use Rattle.sb_fields.specs.Held.{written_route}
-use Rattle.sb_topology.specs.NamesHeld.{given_names}
+use Rattle.sb_topology.specs.Held.{given_names}
 use Rattle.sb_topology.specs.Places.{route_to as route_to_by}
 use Rattle.sb_topology.proofs.routers.route_places.Given as goal
 

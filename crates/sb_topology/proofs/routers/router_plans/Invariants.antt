@@ -4,7 +4,7 @@ use Rattle.std.specs.Vec.{vec_len}
 use Rattle.sb_flow.specs.Rows.{net_router_of}
 use Rattle.sb_fields.specs.Counted.{counted_router}
 use Rattle.sb_topology.specs.Names.{routers_by}
-use Rattle.sb_topology.specs.NamesHeld.{given_names}
+use Rattle.sb_topology.specs.Held.{given_names}
 use Rattle.sb_topology.specs.Places.{placed_router}
 use Rattle.sb_topology.proofs.routers.router_plans.Given as goal
 

@@ -2,7 +2,7 @@
 use Rattle.std.proofs.Common.{◌≡◌, drop, map}
 use Rattle.sb_fields.specs.Held.{written_route}
 use Rattle.sb_topology.specs.Names.{routes_named as routes_named_by, routes_path}
-use Rattle.sb_topology.specs.NamesHeld.{given_names}
+use Rattle.sb_topology.specs.Held.{given_names}
 use Rattle.sb_topology.proofs.routers.routes_named.Given as goal
 
 abbrev pub invariant-loop-route : goal.invariant-loop-route

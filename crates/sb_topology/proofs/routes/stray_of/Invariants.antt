@@ -5,7 +5,7 @@ use Rattle.std.specs.List.{range_with_len}
 use Rattle.std.specs.Vec.{vec_len}
 use Rattle.sb_flow.specs.Firsts.{first_told}
 use Rattle.sb_flow.specs.Routes.{RouteAt, is_stray, stray_route_of}
-use Rattle.sb_topology.specs.PlansHeld.{whole_network}
+use Rattle.sb_topology.specs.Held.{whole_network}
 use Rattle.sb_topology.proofs.routes.stray_of.Given as goal
 
 abbrev pub invariant-loop-device : goal.invariant-loop-device

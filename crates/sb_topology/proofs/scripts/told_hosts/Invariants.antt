@@ -2,7 +2,7 @@
 use Rattle.std.proofs.Common.{◌≡◌, ◌≤◌, [], drop, length, map}
 use Rattle.std.specs.Prelude.{All, vec_len}
 use Rattle.sb_flow.specs.Rows.{host_of}
-use Rattle.sb_topology.specs.HostsHeld.{draft_host}
+use Rattle.sb_topology.specs.Held.{draft_host}
 use Rattle.sb_topology.specs.Lines.{hosts_by}
 use Rattle.sb_topology.proofs.scripts.told_hosts.Given as goal
 

@@ -3,8 +3,7 @@ use Rattle.std.proofs.Common.{◌<◌, length, arith, sym, ◌∙◌, ap}
 use Rattle.std.specs.Prelude.{option_map}
 use Rattle.std.specs.Vec.{vec_len}
 use Rattle.sb_flow.specs.Rows.{host_of}
-use Rattle.sb_topology.specs.PlansHeld.{whole_network}
-use Rattle.sb_topology.specs.Strays.{route_of_stray}
+use Rattle.sb_topology.specs.Held.{route_of_stray, whole_network}
 use Rattle.sb_topology.proofs.AimedSteps.{aims_is, lost_here, none_lost_here, not_aimed_here}
 use Rattle.sb_topology.proofs.ways.lost_of_host.Goals.{then-aims+in_default, else-aims}
 use Rattle.sb_topology.proofs.ways.lost_of_host.Goals as goal

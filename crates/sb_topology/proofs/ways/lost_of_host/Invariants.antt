@@ -3,11 +3,11 @@ use Rattle.std.proofs.Common.{◌≡◌, ◌-◌}
 use Rattle.std.specs.Prelude.{filter}
 use Rattle.std.specs.List.{range_with_len}
 use Rattle.std.specs.Vec.{vec_len}
-use Rattle.sb_packet.specs.Ways.{aims_at}
+use Rattle.sb_flow.specs.Ways.{aims_at}
 use Rattle.sb_flow.specs.Firsts.{first_told}
 use Rattle.sb_flow.specs.Routes.{lost_of_host, lost_on_way}
 use Rattle.sb_flow.specs.Rows.{host_of}
-use Rattle.sb_topology.specs.PlansHeld.{whole_network}
+use Rattle.sb_topology.specs.Held.{whole_network}
 use Rattle.sb_topology.proofs.ways.lost_of_host.Given as goal
 
 abbrev pub invariant-loop-device : goal.invariant-loop-device

@@ -3,7 +3,7 @@ use Rattle.std.proofs.Common.{◌≡◌, drop, map, not, take}
 use Rattle.std.specs.List.{position_from}
 use Rattle.sb_flow.specs.Ends.{is_width_now}
 use Rattle.sb_flow.specs.Rows.{link_of}
-use Rattle.sb_topology.specs.LinksHeld.{draft_link}
+use Rattle.sb_topology.specs.Held.{draft_link}
 use Rattle.sb_topology.proofs.widths.link_rows.Given as goal
 
 abbrev pub invariant-loop-number : goal.invariant-loop-number

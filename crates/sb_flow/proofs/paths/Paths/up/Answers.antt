@@ -2,7 +2,7 @@
 use Rattle.std.proofs.Common.{◌∙◌, ap, List}
 use Rattle.std.specs.Prelude.{option_map}
 use Rattle.std.specs.List.{find}
-use Rattle.sb_packet.specs.Ways.{is_some_number}
+use Rattle.sb_flow.specs.Ways.{is_some_number}
 use Rattle.sb_flow.specs.NetworkOf.{network_of}
 use Rattle.sb_flow.specs.Tables.{HostTable, PathTable}
 use Rattle.sb_flow.specs.Gathered.{legs_at}

@@ -2,7 +2,7 @@
 use Rattle.std.proofs.Common.{◌≡◌, ◌++◌, ◌∷◌, ◌∙◌, sym, ap, subst, Bool, false, arith}
 use Rattle.std.specs.Prelude.{◌&&◌}
 use Rattle.sb_packet.specs.Accesses.{message_accesses}
-use Rattle.sb_packet.specs.Prefixes.{IsPrefix}
+use Rattle.sb_link.specs.Prefixes.{IsPrefix}
 use Rattle.sb_port.specs.Ports.{offered_words}
 use Rattle.sb_node.specs.Found.{IsTurnOf}
 use Rattle.sb_node.specs.Kept.{kept_port_then}

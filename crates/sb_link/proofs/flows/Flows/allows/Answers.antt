@@ -3,7 +3,7 @@ use Rattle.std.proofs.Common.{arith, ap, ◌∙◌, false}
 use Rattle.std.specs.Prelude.{Option}
 use Rattle.std.specs.Option.{option_map_or}
 use Rattle.sb_packet.specs.Messages.{message_of}
-use Rattle.sb_packet.specs.Plans.{NetFlow, goes_through}
+use Rattle.sb_link.specs.RingPlans.{NetFlow, goes_through}
 use Rattle.sb_link.specs.Plans.{flow_of}
 use Rattle.sb_link.specs.PlanOf.{flows_of}
 use Rattle.sb_link.proofs.MessageFlows.{device_count, flow_bit, flow_within}

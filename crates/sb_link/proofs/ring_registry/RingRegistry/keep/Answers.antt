@@ -1,7 +1,7 @@
 -- keep: the end comes into the row of its ring, and all else stays.
 use Rattle.std.proofs.Common.{ap, ◌∙◌, List}
 use Rattle.std.specs.Prelude.{Some, slice_get}
-use Rattle.sb_packet.specs.Plans.{RingPlan}
+use Rattle.sb_link.specs.RingPlans.{RingPlan}
 use Rattle.sb_link.specs.declared.registered_ring.RegisteredRing.{RegisteredRing}
 use Rattle.sb_link.proofs.Rows.{get_plan, kept_made, kept_end, kept_others}
 use Rattle.sb_link.proofs.ring_registry.RingRegistry.keep.Goals as goal

@@ -1,6 +1,6 @@
 -- try_pop: the item that waited goes from the front of those that wait to the end of those that were received.
 use Rattle.std.proofs.Common.{rules, sym, ap, subst, ◌≡◌, ◌≤◌, ◌+◌, List, [], ◌∷◌, ◌++◌, length, arith, length-append, append_assoc}
-use Rattle.sb_packet.specs.Traffic.{AreInTurn}
+use Rattle.sb_link.specs.Traffic.{AreInTurn}
 use Rattle.sb_packet.specs.declared.item.Item.{Item}
 use Rattle.sb_link.specs.PlanOf.{plan_of}
 use Rattle.sb_link.proofs.serial_rx.SerialRxRxEnd.try_pop.Goals as goal

@@ -2,7 +2,7 @@
 use Rattle.std.proofs.Common.{◌≡◌, ◌≤◌, ◌^◌, ◌∙◌, ap, sym, arith, ℕ, List, take, replicate}
 use Rattle.std.specs.Prelude.{if◌then◌else◌}
 use Rattle.std.proofs.lemmas.List.{drop-replicate, take-replicate, length-take}
-use Rattle.sb_packet.specs.Codes.{code_number}
+use Rattle.sb_packet.specs.Memories.{code_number}
 use Rattle.sb_packet.specs.Memories.{MemoryState, loaded, stored, write_code, combined_bytes}
 use Rattle.sb_packet.specs.Messages.{message_of}
 use Rattle.sb_packet.specs.Accesses.{access_at}

@@ -1,7 +1,7 @@
 -- A read leaves the memory as it is, a write is answered by a refusal where the memory can't be written, and a posted write not at all.
 use Rattle.std.proofs.Common.{◌∙◌, ap, sym, Bool}
 use Rattle.std.specs.Prelude.{if◌then◌else◌}
-use Rattle.sb_packet.specs.Codes.{code_number}
+use Rattle.sb_packet.specs.Memories.{code_number}
 use Rattle.sb_packet.specs.declared.transaction.Code.TheVariants.{DevErr, Ok}
 use Rattle.sb_mem.proofs.Requests.{read_memory, write_answers, posted_answers}
 use Rattle.sb_mem.proofs.memory.Memory.step.Goals as goal

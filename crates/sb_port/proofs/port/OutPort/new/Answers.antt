@@ -1,6 +1,6 @@
 -- new: over an end at which nothing was sent the port is fit.
 use Rattle.std.proofs.Common.{◌≡◌, ◌≤◌, ap, subst, ◌∙◌, arith}
-use Rattle.sb_packet.specs.Plans.{RingPlan}
+use Rattle.sb_link.specs.RingPlans.{RingPlan}
 use Rattle.sb_link.specs.PlanOf.{plan_of}
 use Rattle.sb_port.specs.Waiting.{nothing_waits}
 use Rattle.sb_port.proofs.Fitness.{fit_fresh}

@@ -1,7 +1,7 @@
 -- offer: the port stays fit.
 use Rattle.std.proofs.Common.{◌≡◌, ◌+◌, ℕ, false, sym, subst, length}
 use Rattle.sb_packet.specs.Messages.{message_of}
-use Rattle.sb_packet.specs.Traffic.{MayPass}
+use Rattle.sb_link.specs.Traffic.{MayPass}
 use Rattle.sb_port.specs.Ports.{PortSide, PortState, IsFit, offered_words}
 use Rattle.sb_port.specs.Waiting.{Waiting, offered}
 use Rattle.sb_port.proofs.Fitness.{fit_offered}

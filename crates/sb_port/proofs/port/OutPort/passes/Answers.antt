@@ -1,8 +1,8 @@
 -- passes: what was asked one after another is what the definition asks.
 use Rattle.std.proofs.Common.{◌≡◌, ap, subst, ◌∙◌, arith}
 use Rattle.sb_packet.specs.Messages.{message_of}
-use Rattle.sb_packet.specs.Plans.{RingPlan}
-use Rattle.sb_packet.specs.Traffic.{IsPlanned}
+use Rattle.sb_link.specs.RingPlans.{RingPlan}
+use Rattle.sb_link.specs.Traffic.{IsPlanned}
 use Rattle.sb_link.specs.PlanOf.{plan_of}
 use Rattle.sb_port.specs.Ports.{PortSide}
 use Rattle.sb_port.proofs.port.OutPort.passes.Goals as goal

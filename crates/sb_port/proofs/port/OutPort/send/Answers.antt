@@ -1,7 +1,7 @@
 -- send: the first packet that is owed may be sent, and the port stays fit.
 use Rattle.std.proofs.Common.{◌≡◌, ◌∷◌, sym, subst, drop, refl}
 use Rattle.sb_packet.specs.Messages.{message_of}
-use Rattle.sb_packet.specs.Plans.{RingPlan}
+use Rattle.sb_link.specs.RingPlans.{RingPlan}
 use Rattle.sb_port.specs.Ports.{PortSide, PortState, IsFit}
 use Rattle.sb_port.proofs.Fitness.{may_send, fit_sends}
 use Rattle.sb_port.proofs.SameState.{same_state}

@@ -1,7 +1,7 @@
 -- send_close: a Close may be sent, and the port stays fit.
 use Rattle.std.proofs.Common.{◌≡◌, [], sym, subst, refl, true}
 use Rattle.std.specs.Prelude.{None}
-use Rattle.sb_packet.specs.Plans.{RingPlan}
+use Rattle.sb_link.specs.RingPlans.{RingPlan}
 use Rattle.sb_port.specs.Ports.{PortSide, PortState, IsFit}
 use Rattle.sb_port.proofs.Fitness.{may_close, fit_closes}
 use Rattle.sb_port.proofs.SameState.{same_state}

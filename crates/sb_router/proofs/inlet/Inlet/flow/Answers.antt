@@ -1,7 +1,7 @@
 -- flow: the flows are those of the ring's plan.
 use Rattle.std.proofs.Common.{ap, ◌∙◌}
 use Rattle.sb_packet.specs.Messages.{message_of}
-use Rattle.sb_packet.specs.Plans.{RingPlan, message_flow}
+use Rattle.sb_link.specs.RingPlans.{RingPlan, message_flow}
 use Rattle.sb_router.specs.Lanes.{InletState}
 use Rattle.sb_router.proofs.inlet.Inlet.flow.Goals as goal
 

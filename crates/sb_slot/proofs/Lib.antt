@@ -1,0 +1,4 @@
+pub mod SlotLemmas
+pub mod ZeroBytes
+pub mod SlotFields
+pub mod SlotLaws
