@@ -4,3 +4,5 @@ pub mod NetRounds
 pub mod Recorded
 pub mod Spent
 pub mod Over
+pub mod Legs
+pub mod Made
