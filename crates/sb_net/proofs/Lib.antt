@@ -3,3 +3,8 @@ pub mod Piles
 pub mod LinkPlaces
 pub mod Dealing
 pub mod NodeNumbers
+pub mod NodeLinks
+pub mod HostsMade
+pub mod DeviceMemories
+pub mod LinkWidths
+pub mod DevicesMade

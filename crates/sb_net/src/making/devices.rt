@@ -20,7 +20,14 @@ fn memory_of(alloc: Global, bundle: &Bundle, number: u8) -> Result<Memory, Alloc
     ensures memory { IfOk result (λ m. m ≡ opening_memory (network_of bundle.now) number) }
 {
     let plan = &bundle.devices[usize::from(number)];
-    Memory::new(alloc, plan.base, plan.pages, plan.readonly, plan.image.as_slice())
+    let memory = Memory::new(
+        alloc,
+        plan.base,
+        plan.pages,
+        plan.readonly,
+        plan.image.as_slice(),
+    )?;
+    Ok(memory)
 }
 
 /// The device at that place of a bundle, at the one leg that leads to it.
@@ -33,7 +40,7 @@ pub fn device_at<F: Fabric>(
     requires number { number < length (network_of bundle.now).devices }
     requires legs { AreLegsAt F.Tx.TxEnd F.Rx.RxEnd (network_of bundle.now) (device_number (network_of bundle.now) number) [] ins.items }
     ensures made { IfOk result (λ node. IsMadeAt F.Tx.TxEnd F.Rx.RxEnd (network_of bundle.now)
-        (device_number (network_of bundle.now) number) [] ins.entry.items node) }
+        (device_number (network_of bundle.now) number) [] ins.items node) }
 {
     let mut ins = ins;
     let Some(leg) = ins.pop() else {

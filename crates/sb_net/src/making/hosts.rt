@@ -20,7 +20,7 @@ pub fn host_at<F: Fabric>(
 ) -> Result<Member<F>, AllocError>
     requires number { number < length (network_of bundle.now).hosts }
     requires legs { AreLegsAt F.Tx.TxEnd F.Rx.RxEnd (network_of bundle.now) number outs.items [] }
-    ensures made { IfOk result (λ node. IsMadeAt F.Tx.TxEnd F.Rx.RxEnd (network_of bundle.now) number outs.entry.items [] node) }
+    ensures made { IfOk result (λ node. IsMadeAt F.Tx.TxEnd F.Rx.RxEnd (network_of bundle.now) number outs.items [] node) }
 {
     let mut outs = outs;
     let Some(leg) = outs.pop() else {

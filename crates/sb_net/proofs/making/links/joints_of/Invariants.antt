@@ -6,4 +6,4 @@ use Rattle.sb_net.specs.Legs.{ring_joint}
 use Rattle.sb_net.proofs.making.links.joints_of.Given as goal
 
 abbrev pub invariant-loop-link : goal.invariant-loop-link
-invariant-loop-link g l = l.joints.items ≡ map (ring_joint (network_of l.bundle.now)) (range_with_len 0 (2 * l.link))
+invariant-loop-link g l = l.joints.items ≡ map (ring_joint (network_of l.bundle)) (range_with_len 0 (2 * l.link))
