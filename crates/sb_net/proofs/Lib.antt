@@ -8,3 +8,4 @@ pub mod HostsMade
 pub mod DeviceMemories
 pub mod LinkWidths
 pub mod DevicesMade
+pub mod RoutersMade
