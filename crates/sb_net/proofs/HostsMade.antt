@@ -68,3 +68,8 @@ module _ {F T U : Type 0} (tx : tx.Ghosts T) (rx : rx.Ghosts U) (network : Netwo
       where
         same_link : (k : ℕ) → first_link network n ≡ Some k → leg.link ≡ k
         same_link k first = let some : Some leg.link ≡ Some k = sym host_own ∙ first in cc
+
+-- what has no links is nothing
+pub no_things : {A : Type 0} (link : A → ℕ) (xs : List A) → map link xs ≡ [] → xs ≡ []
+no_things link [] none = refl
+no_things link (x ∷ xs) none = absurd (let never = ap (λ (zs : List ℕ). length zs) none in omega (arith, never))

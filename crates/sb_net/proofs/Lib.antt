@@ -9,3 +9,4 @@ pub mod DeviceMemories
 pub mod LinkWidths
 pub mod DevicesMade
 pub mod RoutersMade
+pub mod DealtLegs

@@ -1,14 +1,15 @@
 -- What the links of an accepted network join are nodes of it, and have numbers.
-use Rattle.std.proofs.Common.{◌≡◌, ℕ, ◌+◌, ◌<◌, Bool, true, List, [], length, refl, sym, ap, ◌∙◌, subst, arith, ltb-true}
+use Rattle.std.proofs.Common.{◌≡◌, ℕ, ◌+◌, ◌≤◌, ◌<◌, Bool, true, List, [], length, refl, sym, ap, ◌∙◌, subst, arith, ltb-true}
 use Rattle.std.specs.Prelude.{Option, Some, slice_get, get_or, map}
 use Rattle.std.specs.Option.{option_map_or}
+use Rattle.std.specs.Vec.{vec_len}
 use Rattle.std.proofs.lemmas.List.{get_or-map, length-map}
 use Rattle.std.proofs.lemmas.Option.{slice_get-get_or}
 use Rattle.sb_packet.specs.Networks.{NetLink, NetPlace, Network, at_device, at_host, at_router}
 use Rattle.sb_flow.specs.Accepted.{IsAccepted}
 use Rattle.sb_flow.specs.Names.{is_there}
 use Rattle.sb_flow.specs.NetworkOf.{network_of}
-use Rattle.sb_flow.specs.Rows.{link_of, place_of}
+use Rattle.sb_flow.specs.Rows.{link_of, place_of, router_of}
 use Rattle.sb_flow.specs.declared.bundle.Bundle.{Bundle}
 use Rattle.sb_flow.specs.declared.link_row.LinkRow.{LinkRow}
 use Rattle.sb_flow.proofs.AcceptedLinks.{ends_there}
@@ -49,3 +50,10 @@ ends_are_nodes network good = record {
 pub row_got : (b : Bundle) (k : ℕ) (row : LinkRow) → k < length b.links.items → row ≡ get_or b.links.items k row → slice_get (network_of b).links k ≡ Some (link_of row)
 row_got b k row lt at = slice_get-get_or (map link_of b.links.items) k (link_of row) (omega (arith, lt, length-map b.links.items link_of))
     ∙ ap (λ l. Some l) (get_or-map link_of b.links.items k row (link_of row) lt ∙ ap link_of (sym at))
+
+-- the limits of a bundle's routers, and how many there are
+pub few_routers : (b : Bundle) → length (network_of b).routers ≤ 32
+few_routers b = grind (arith, b.limits)
+
+pub router_count : (b : Bundle) → length (network_of b).routers ≡ vec_len b.routers
+router_count b = length-map b.routers.items (router_of (length b.devices.items)) ∙ sym b.routers.ok.0

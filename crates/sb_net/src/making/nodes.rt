@@ -64,10 +64,14 @@ pub fn nodes_at<F: Fabric>(
     let mut ins = dealt.ins.into_iter();
     let count = outs.len();
     for number in 0..count {
-        let (Some(out), Some(into)) = (outs.next(), ins.next()) else {
+        let Some(out) = outs.next() else {
             unreachable!()
         };
-        nodes.push(node_at(alloc, bundle, paths, number, out, into)?)?;
+        let Some(into) = ins.next() else {
+            unreachable!()
+        };
+        let node = node_at(alloc, bundle, paths, number, out, into)?;
+        nodes.push(node)?;
     }
     Ok(nodes)
 }
