@@ -10,3 +10,4 @@ pub mod LinkWidths
 pub mod DevicesMade
 pub mod RoutersMade
 pub mod DealtLegs
+pub mod NodesMade
