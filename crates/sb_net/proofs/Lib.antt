@@ -11,3 +11,4 @@ pub mod DevicesMade
 pub mod RoutersMade
 pub mod DealtLegs
 pub mod NodesMade
+pub mod JointsMade
