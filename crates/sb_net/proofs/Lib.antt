@@ -12,3 +12,4 @@ pub mod RoutersMade
 pub mod DealtLegs
 pub mod NodesMade
 pub mod JointsMade
+pub mod PartsStand
