@@ -1,6 +1,6 @@
 -- The legs in a node's piles are those of its links.
-use Rattle.std.proofs.Common.{◌≡◌, ℕ, zero, suc, ◌+◌, ◌<◌, List, [], ◌∷◌, length, refl, sym, ap, ◌∙◌, subst, arith}
-use Rattle.std.specs.Prelude.{All, get_or, map}
+use Rattle.std.proofs.Common.{◌≡◌, ℕ, zero, suc, ◌<◌, List, [], ◌∷◌, length, refl, sym, ap, ◌∙◌, subst, arith}
+use Rattle.std.specs.Prelude.{get_or}
 use Rattle.std.proofs.lemmas.List.{length-map}
 use Rattle.sb_link.specs.declared.ends.RxEnd as rx
 use Rattle.sb_link.specs.declared.ends.TxEnd as tx
@@ -9,7 +9,7 @@ use Rattle.sb_packet.specs.Rings.{ring_plan}
 use Rattle.sb_port.specs.declared.leg.InLeg.{InLeg}
 use Rattle.sb_port.specs.declared.leg.OutLeg.{OutLeg}
 use Rattle.sb_laws.specs.NetworkLayouts.{answer_ring, request_ring}
-use Rattle.sb_net.specs.Legs.{AreDealt, AreLegsOf, links_at, node_after, node_before, pile_at, place_among}
+use Rattle.sb_net.specs.Legs.{AreDealt, AreLegsOf, links_at, node_after, node_before, pile_at, place_at_node}
 use Rattle.sb_net.specs.Made.{AreLegsAt, IsInLeg, IsOutLeg}
 use Rattle.sb_net.specs.Standing.{node_count}
 use Rattle.sb_net.proofs.Dealing.{AreEndsNodes, leg_below}
@@ -23,28 +23,28 @@ item_at (x ∷ xs) (suc o) lt = item_at xs o (omega (arith, lt))
 
 module _ {F T U : Type 0} (tx : tx.Ghosts T) (rx : rx.Ghosts U) (network : Network) (ends : AreEndsNodes network) (outs : List (List (OutLeg F T U))) (ins : List (List (InLeg F T U))) (dealt : AreDealt tx rx network (length network.links) outs ins) where
   -- a link's legs stand in the piles of its nodes
-  pub out_below : (k : ℕ) → k < length network.links → place_among (node_before network) k < length (pile_at outs (node_before network k))
+  pub out_below : (k : ℕ) → k < length network.links → place_at_node (node_before network) k < length (pile_at outs (node_before network k))
   out_below k lt = leg_below (λ (leg : OutLeg F T U). leg.link) (node_before network) (length network.links) k (node_before network k) (pile_at outs (node_before network k)) (dealt.outs_here (node_before network k) (ends.before k lt)) lt refl
 
-  pub in_below : (k : ℕ) → k < length network.links → place_among (node_after network) k < length (pile_at ins (node_after network k))
+  pub in_below : (k : ℕ) → k < length network.links → place_at_node (node_after network) k < length (pile_at ins (node_after network k))
   in_below k lt = leg_below (λ (leg : InLeg F T U). leg.link) (node_after network) (length network.links) k (node_after network k) (pile_at ins (node_after network k)) (dealt.ins_here (node_after network k) (ends.after k lt)) lt refl
 
   pub any_out : (k : ℕ) → k < length network.links → OutLeg F T U
-  any_out k lt = item_at (pile_at outs (node_before network k)) (place_among (node_before network) k) (out_below k lt)
+  any_out k lt = item_at (pile_at outs (node_before network k)) (place_at_node (node_before network) k) (out_below k lt)
 
   pub any_in : (k : ℕ) → k < length network.links → InLeg F T U
-  any_in k lt = item_at (pile_at ins (node_after network k)) (place_among (node_after network) k) (in_below k lt)
+  any_in k lt = item_at (pile_at ins (node_after network k)) (place_at_node (node_after network) k) (in_below k lt)
 
   -- what stands at a place of a pile is the leg of a link with that place
   pub record IsOutAt (m o k : ℕ) : Type 0 where
     pub below : k < length network.links
     pub node : node_before network k ≡ m
-    pub place : place_among (node_before network) k ≡ o
+    pub place : place_at_node (node_before network) k ≡ o
 
   pub record IsInAt (m o k : ℕ) : Type 0 where
     pub below : k < length network.links
     pub node : node_after network k ≡ m
-    pub place : place_among (node_after network) k ≡ o
+    pub place : place_at_node (node_after network) k ≡ o
 
   pub out_at : (m o : ℕ) → m < node_count network → o < length (pile_at outs m) → (k : ℕ) × IsOutAt m o k
   out_at m o low lt =
@@ -86,13 +86,13 @@ module _ {F T U : Type 0} (tx : tx.Ghosts T) (rx : rx.Ghosts U) (network : Netwo
         let k = p.0 in
         let here = p.1 in
         subst (λ o. IsOutLeg tx rx network (get_or (pile_at outs m) o d)) here.place
-        (subst (λ m. IsOutLeg tx rx network (get_or (pile_at outs m) (place_among (node_before network) k) d)) here.node
-        (out_leg k (get_or (pile_at outs (node_before network k)) (place_among (node_before network) k) d) (get_or (pile_at ins (node_after network k)) (place_among (node_after network) k) (any_in k here.below)) here.below (dealt.legs k d (any_in k here.below) here.below)));
+        (subst (λ m. IsOutLeg tx rx network (get_or (pile_at outs m) (place_at_node (node_before network) k) d)) here.node
+        (out_leg k (get_or (pile_at outs (node_before network k)) (place_at_node (node_before network) k) d) (get_or (pile_at ins (node_after network k)) (place_at_node (node_after network) k) (any_in k here.below)) here.below (dealt.legs k d (any_in k here.below) here.below)));
     ins_fresh = λ o d lt.
         let p = in_at m o low lt in
         let k = p.0 in
         let here = p.1 in
         subst (λ o. IsInLeg tx rx network (get_or (pile_at ins m) o d)) here.place
-        (subst (λ m. IsInLeg tx rx network (get_or (pile_at ins m) (place_among (node_after network) k) d)) here.node
-        (in_leg k (get_or (pile_at outs (node_before network k)) (place_among (node_before network) k) (any_out k here.below)) (get_or (pile_at ins (node_after network k)) (place_among (node_after network) k) d) here.below (dealt.legs k (any_out k here.below) d here.below)));
+        (subst (λ m. IsInLeg tx rx network (get_or (pile_at ins m) (place_at_node (node_after network) k) d)) here.node
+        (in_leg k (get_or (pile_at outs (node_before network k)) (place_at_node (node_before network) k) (any_out k here.below)) (get_or (pile_at ins (node_after network k)) (place_at_node (node_after network) k) d) here.below (dealt.legs k (any_out k here.below) d here.below)));
   }

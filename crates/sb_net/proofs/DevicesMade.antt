@@ -1,14 +1,13 @@
 -- A device at its leg is the device of its place.
-use Rattle.std.proofs.Common.{◌≡◌, ℕ, ◌+◌, ◌<◌, Bool, true, false, List, [], ◌∷◌, ◌++◌, length, refl, sym, ap, ◌∙◌, subst, arith}
-use Rattle.std.specs.Prelude.{All, Some, get_or, map, slice_get}
+use Rattle.std.proofs.Common.{◌≡◌, ℕ, ◌<◌, true, List, [], ◌∷◌, ◌++◌, length, sym, ap, ◌∙◌, subst, arith}
+use Rattle.std.specs.Prelude.{All, get_or}
 use Rattle.std.proofs.lemmas.Option.{slice_get-get_or}
 use Rattle.sb_link.specs.declared.ends.RxEnd as rx
 use Rattle.sb_link.specs.declared.ends.TxEnd as tx
 use Rattle.sb_packet.specs.Networks.{NetDevice, Network, opening_memory}
-use Rattle.sb_packet.specs.Plans.{NetFlow, RingFlows, RingPlan, goes_through}
-use Rattle.sb_packet.specs.Rings.{flow_table, link_ways, network_ranges, ring_flows, ring_plan}
+use Rattle.sb_packet.specs.Plans.{RingFlows, RingPlan}
+use Rattle.sb_packet.specs.Rings.{flow_table, link_ways, network_ranges, ring_plan}
 use Rattle.sb_packet.specs.Ways.{NetWay}
-use Rattle.sb_packet.specs.declared.entry.Entry.{Entry}
 use Rattle.sb_port.specs.Ports.{PortSide, fresh_port}
 use Rattle.sb_port.specs.Waiting.{IsWidth}
 use Rattle.sb_port.specs.declared.leg.InLeg.{InLeg}

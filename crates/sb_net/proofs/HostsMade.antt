@@ -1,5 +1,5 @@
 -- A host at its leg is the host of its place.
-use Rattle.std.proofs.Common.{◌≡◌, ℕ, ◌+◌, ◌<◌, List, [], ◌∷◌, ◌++◌, length, refl, sym, ap, ◌∙◌, subst, arith}
+use Rattle.std.proofs.Common.{◌≡◌, ℕ, ◌<◌, List, [], ◌∷◌, ◌++◌, length, refl, sym, ap, ◌∙◌, subst, arith}
 use Rattle.std.specs.Prelude.{All, Some, map, slice_get}
 use Rattle.std.proofs.lemmas.List.{length-append, length-map}
 use Rattle.sb_link.specs.declared.ends.RxEnd as rx
@@ -17,7 +17,7 @@ use Rattle.sb_laws.specs.NetworkLayouts.{answer_ring, request_ring}
 use Rattle.sb_member.specs.declared.member.Member.TheVariants.{Host}
 use Rattle.sb_net.specs.Legs.{links_out}
 use Rattle.sb_net.specs.Made.{AreLegsAt, IsMadeAt, IsOutLeg}
-use Rattle.sb_net.proofs.NodeLinks.{IsHostLink, host_link}
+use Rattle.sb_net.proofs.NodeLinks.{host_link}
 
 -- the last of some things that have one link
 pub only_thing : {A : Type 0} (link : A → ℕ) (xs ys : List A) (a : A) (k : ℕ) → map link xs ≡ k ∷ [] → xs ≡ ys ++ a ∷ [] → (xs ≡ a ∷ []) × (link a ≡ k)

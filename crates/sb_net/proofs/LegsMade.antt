@@ -1,7 +1,5 @@
 -- The rings of a network are made one after another.
-use Rattle.std.proofs.Common.{◌≡◌, ℕ, zero, suc, ◌+◌, ◌<◌, Bool, false, List, [], ◌∷◌, ◌++◌, length, refl, sym, ap, ◌∙◌, subst, arith}
-use Rattle.std.specs.Prelude.{map}
-use Rattle.std.specs.List.{range_with_len}
+use Rattle.std.proofs.Common.{◌≡◌, ℕ, zero, suc, ◌+◌, ◌<◌, Bool, false, List, [], ◌∷◌, ◌++◌, refl, sym, ap, ◌∙◌, subst, arith}
 use Rattle.std.proofs.lemmas.List.FromFn.{get_or-map-range_with_len, length-map-range_with_len, map-range_with_len_more}
 use Rattle.sb_link.specs.Ends.{IsNewRing}
 use Rattle.sb_packet.specs.Networks.{Network}
@@ -13,9 +11,9 @@ use Rattle.sb_net.specs.Legs.{first_plans}
 pub new_ring : (network : Network) (n r : ℕ) (made : List RingPlan) → made ≡ first_plans network n → r ≡ n → IsNewRing r made
 new_ring network n r made is same = subst (λ list. IsNewRing r list) (sym is)
     (λ k d lt e.
-        let below : k < n = omega (arith, lt, length-map-range_with_len (ring_plan network) 0 n) in
-        let at = ap (λ (p : RingPlan). p.ring) (get_or-map-range_with_len (ring_plan network) 0 n k k d below (omega arith)) in
-        omega (arith, below, e, same, at))
+    let below : k < n = omega (arith, lt, length-map-range_with_len (ring_plan network) 0 n) in
+    let at = ap (λ (p : RingPlan). p.ring) (get_or-map-range_with_len (ring_plan network) 0 n k k d below (omega arith)) in
+    omega (arith, below, e, same, at))
 
 -- one ring more was made
 pub one_more : (network : Network) (n m : ℕ) (before after : List RingPlan) (plan : RingPlan) → before ≡ first_plans network n → plan ≡ ring_plan network n → after ≡ before ++ plan ∷ [] → m ≡ n + 1 → after ≡ first_plans network m

@@ -1,6 +1,6 @@
 -- Which links each node of an accepted network has: a host one that leaves it, a device one that leads to it, and a router all that it is said to have.
-use Rattle.std.proofs.Common.{◌≡◌, ◌≢◌, ◌≤◌, ℕ, zero, suc, ◌+◌, ◌<◌, ◌==◌, Bool, true, false, ◌||◌, cond, List, [], ◌∷◌, ◌++◌, length, refl, sym, ap, ◌∙◌, subst, arith, inl, inr, ltb-true}
-use Rattle.std.specs.Prelude.{◌⊎◌, Option, Some, None, filter, get_or, option_and_then, slice_get}
+use Rattle.std.proofs.Common.{◌≡◌, ◌≢◌, ◌≤◌, ℕ, zero, suc, ◌+◌, ◌<◌, ◌==◌, Bool, true, false, ◌||◌, cond, List, [], ◌∷◌, ◌++◌, length, refl, sym, ap, ◌∙◌, arith, inl, inr, ltb-true}
+use Rattle.std.specs.Prelude.{◌⊎◌, Option, Some, filter, get_or, option_and_then, slice_get}
 use Rattle.std.specs.List.{range_with_len}
 use Rattle.std.specs.Option.{option_map_or}
 use Rattle.std.proofs.lemmas.Bool.{cases_lt, eq-eqb, eqb-true}
@@ -16,12 +16,11 @@ use Rattle.sb_flow.proofs.AcceptedLinks.{ends_there, link_joins}
 use Rattle.sb_laws.specs.NetworkLayouts.{link_into, links_into, links_out_of}
 use Rattle.sb_laws.specs.NetworkWays.{is_link_to}
 use Rattle.sb_laws.proofs.AcceptedNetworks.{accepted_is_routed}
-use Rattle.sb_laws.proofs.FitLinks.{AreFit, device_end, fit_links, host_start}
+use Rattle.sb_laws.proofs.FitLinks.{device_end, fit_links, host_start}
 use Rattle.sb_laws.proofs.LinksToDevices.{found_place, link_into_leads}
 use Rattle.sb_laws.proofs.WaysOfRouted.{ways_of_routed}
-use Rattle.sb_net.specs.Legs.{links_at, node_after, node_before, place_among, place_number}
+use Rattle.sb_net.specs.Legs.{links_at, node_after, node_before, place_at_node, place_number}
 use Rattle.sb_net.specs.Standing.{device_number, router_number}
-use Rattle.sb_net.proofs.LegsMade.{below_or_last}
 use Rattle.sb_net.proofs.LinkPlaces.{at_place, by_value, placed, range_next}
 use Rattle.sb_net.proofs.NodeNumbers.{any_link, link_at, link_got, node_after_is, node_before_is}
 
@@ -51,11 +50,11 @@ module _ (node : ℕ → ℕ) (n m : ℕ) where
       let below = own.below in
       let some : 0 < length (links_at node n m) = omega (arith, below) in
       let first = at_place node n m 0 0 some in
-      let zero_is : place_among node k ≡ 0 = ap (place_among node) (sym (only (get_or (links_at node n m) 0 0) first.below first.at)) ∙ first.place in
+      let zero_is : place_at_node node k ≡ 0 = ap (place_at_node node) (sym (only (get_or (links_at node n m) 0 0) first.below first.at)) ∙ first.place in
       one_item (links_at node n m) k some (λ o lt.
-          let p = at_place node n m o 0 lt in
-          let same = only (get_or (links_at node n m) o 0) p.below p.at in
-          (same, sym p.place ∙ ap (place_among node) same ∙ zero_is))
+      let p = at_place node n m o 0 lt in
+      let same = only (get_or (links_at node n m) o 0) p.below p.at in
+      (same, sym p.place ∙ ap (place_at_node node) same ∙ zero_is))
 
   -- a node with none
   pub none_at : ((j : ℕ) → j < n → node j ≡ m → ⊥) → links_at node n m ≡ []
@@ -151,13 +150,15 @@ module _ (network : Network) (good : IsAccepted network) where
       let at : k ≡ place.0 = omega (arith, place.1) in
       let passes : option_map_or (leaves_from h) (slice_get network.links k) false ≡ true = rw at place.2.passes in
       let starts = host_start h (link_at network k) (got_passes (leaves_from h) k there passes) in
-      let listed : is_there network (at_host h) ≡ true = grind (arith, nat_tests) in
-      (k, record {
-        first = found.1.first;
-        own = only_one (node_before network) (length network.links) h k there (node_before_is network k (link_at network k) (link_got network k there) ∙ ap (place_number network) starts)
-            (λ j low e. one_from_host h j k low there (before_is (at_host h) j listed low e) starts);
-        none = none_at (node_after network) (length network.links) h (λ j low e. never_to_host j h low (after_is (at_host h) j listed low e));
-      })
+      let listed : is_there network (at_host h) ≡ true = grind (arith, nat_tests) in (
+        k,
+        record {
+          first = found.1.first;
+          own = only_one (node_before network) (length network.links) h k there (node_before_is network k (link_at network k) (link_got network k there) ∙ ap (place_number network) starts)
+              (λ j low e. one_from_host h j k low there (before_is (at_host h) j listed low e) starts);
+          none = none_at (node_after network) (length network.links) h (λ j low e. never_to_host j h low (after_is (at_host h) j listed low e));
+        },
+      )
 
   -- the one link of a device
   pub record IsDeviceLink (d : ℕ) : Type 0 where

@@ -1,5 +1,5 @@
 -- What the links of an accepted network join are nodes of it, and have numbers.
-use Rattle.std.proofs.Common.{◌≡◌, ℕ, ◌+◌, ◌≤◌, ◌<◌, Bool, true, List, [], length, refl, sym, ap, ◌∙◌, subst, arith, ltb-true}
+use Rattle.std.proofs.Common.{◌≡◌, ℕ, ◌≤◌, ◌<◌, true, [], length, sym, ap, ◌∙◌, subst, arith, ltb-true}
 use Rattle.std.specs.Prelude.{Option, Some, slice_get, get_or, map}
 use Rattle.std.specs.Option.{option_map_or}
 use Rattle.std.specs.Vec.{vec_len}
@@ -9,7 +9,7 @@ use Rattle.sb_packet.specs.Networks.{NetLink, NetPlace, Network, at_device, at_h
 use Rattle.sb_flow.specs.Accepted.{IsAccepted}
 use Rattle.sb_flow.specs.Names.{is_there}
 use Rattle.sb_flow.specs.NetworkOf.{network_of}
-use Rattle.sb_flow.specs.Rows.{link_of, place_of, router_of}
+use Rattle.sb_flow.specs.Rows.{link_of, router_of}
 use Rattle.sb_flow.specs.declared.bundle.Bundle.{Bundle}
 use Rattle.sb_flow.specs.declared.link_row.LinkRow.{LinkRow}
 use Rattle.sb_flow.proofs.AcceptedLinks.{ends_there}

@@ -1,6 +1,6 @@
 -- Nodes that were made at the legs of all links stand for their network.
-use Rattle.std.proofs.Common.{◌≡◌, ◌≢◌, ◌≤◌, ℕ, zero, suc, ◌+◌, ◌-◌, ◌*◌, ◌<◌, Bool, true, false, List, [], ◌∷◌, ◌++◌, length, refl, sym, ap, ◌∙◌, subst, arith}
-use Rattle.std.specs.Prelude.{◌⊎◌, All, get_or, map, nat_le}
+use Rattle.std.proofs.Common.{◌≡◌, ◌≢◌, ◌≤◌, ℕ, ◌+◌, ◌-◌, ◌*◌, ◌<◌, true, false, List, [], ◌++◌, length, refl, sym, ap, ◌∙◌, subst, arith}
+use Rattle.std.specs.Prelude.{◌⊎◌, get_or, map, nat_le}
 use Rattle.std.proofs.Math.ListN.{get_or-append}
 use Rattle.std.proofs.lemmas.Bool.{cases_lt}
 use Rattle.std.proofs.lemmas.Bool.Decides.{nat_tests}
@@ -12,7 +12,6 @@ use Rattle.sb_link.specs.declared.ends.RxEnd as rx
 use Rattle.sb_link.specs.declared.ends.TxEnd as tx
 use Rattle.sb_packet.specs.Networks.{NetPlace, Network, at_device, at_host, at_router}
 use Rattle.sb_packet.specs.Plans.{RingPlan}
-use Rattle.sb_packet.specs.Prefixes.{IsPrefix}
 use Rattle.sb_packet.specs.Rings.{ring_plan}
 use Rattle.sb_packet.specs.declared.item.Item.{Item}
 use Rattle.sb_port.specs.Ports.{PortSide, fresh_port}
@@ -23,17 +22,17 @@ use Rattle.sb_router.specs.Lanes.{no_port, no_ring}
 use Rattle.sb_flow.specs.Accepted.{IsAccepted}
 use Rattle.sb_flow.specs.Ends.{goes_back, joins}
 use Rattle.sb_flow.proofs.AcceptedLinks.{ends_there, link_forward, link_joins}
-use Rattle.sb_laws.specs.NetworkLayouts.{answer_ring, request_ring, ring_count}
+use Rattle.sb_laws.specs.NetworkLayouts.{ring_count}
 use Rattle.sb_member.specs.Ends.{port_at, ports_of, ring_at, rings_of}
 use Rattle.sb_member.specs.Joints.{HaveAllMet, IsJoined, IsRingPlaced, KnowEachOther, joint_at, no_node, node_at, receiver_of, sender_of}
 use Rattle.sb_member.specs.Members.{IsWholeMember}
 use Rattle.sb_member.specs.declared.joint.Joint.{Joint}
 use Rattle.sb_member.specs.declared.member.Member.{Member}
-use Rattle.sb_net.specs.Legs.{AreDealt, AreLegsOf, answer_joint, links_at, network_joints, node_after, node_before, pile_at, place_among, request_joint, ring_joint}
-use Rattle.sb_net.specs.Made.{AreMadeAt, IsMadeAt}
+use Rattle.sb_net.specs.Legs.{AreDealt, AreLegsOf, answer_joint, links_at, network_joints, node_after, node_before, pile_at, place_at_node, request_joint, ring_joint}
+use Rattle.sb_net.specs.Made.{AreMadeAt}
 use Rattle.sb_net.specs.Recorded.{device_entries}
-use Rattle.sb_net.specs.Standing.{IsCovered, IsReceivedBy, IsSentBy, StandsFor, device_number, node_count, router_number}
-use Rattle.sb_net.proofs.DealtLegs.{IsInAt, IsOutAt, any_in, any_out, in_at, in_below, out_at, out_below}
+use Rattle.sb_net.specs.Standing.{IsReceivedBy, IsSentBy, StandsFor, device_number, node_count, router_number}
+use Rattle.sb_net.proofs.DealtLegs.{any_in, any_out, in_at, in_below, out_at, out_below}
 use Rattle.sb_net.proofs.JointsMade.{by_ring, joint_is, ring_joint_even, ring_joint_odd}
 use Rattle.sb_net.proofs.NodeLinks.{same_place}
 use Rattle.sb_net.proofs.NodeNumbers.{ends_are_nodes, link_at, link_got, node_after_is, node_before_is}
@@ -94,37 +93,37 @@ module _ {F T U : Type 0} (tx : tx.Ghosts T) (rx : rx.Ghosts U) (network : Netwo
 
   module _ (k : ℕ) (lt : k < length network.links) where
     abbrev out : OutLeg F T U
-    out = get_or (pile_at outs (node_before network k)) (place_among (node_before network) k) (any_out tx rx network (ends_are_nodes network good) outs ins dealt k lt)
+    out = get_or (pile_at outs (node_before network k)) (place_at_node (node_before network) k) (any_out tx rx network (ends_are_nodes network good) outs ins dealt k lt)
 
     abbrev into : InLeg F T U
-    into = get_or (pile_at ins (node_after network k)) (place_among (node_after network) k) (any_in tx rx network (ends_are_nodes network good) outs ins dealt k lt)
+    into = get_or (pile_at ins (node_after network k)) (place_at_node (node_after network) k) (any_in tx rx network (ends_are_nodes network good) outs ins dealt k lt)
 
     legs : AreLegsOf tx rx network k out into
     legs = dealt.legs k (any_out tx rx network (ends_are_nodes network good) outs ins dealt k lt) (any_in tx rx network (ends_are_nodes network good) outs ins dealt k lt) lt
 
-    out_low : place_among (node_before network) k < length (pile_at outs (node_before network k))
+    out_low : place_at_node (node_before network) k < length (pile_at outs (node_before network k))
     out_low = out_below tx rx network (ends_are_nodes network good) outs ins dealt k lt
 
-    in_low : place_among (node_after network) k < length (pile_at ins (node_after network k))
+    in_low : place_at_node (node_after network) k < length (pile_at ins (node_after network k))
     in_low = in_below tx rx network (ends_are_nodes network good) outs ins dealt k lt
 
     -- what stands at the ends of its two rings
     request_sender : sender_of nodes (request_joint network k) ≡ fresh_port tx out.requests
-    request_sender = ap (λ ports. get_or ports (place_among (node_before network) k) no_port) (made.each (node_before network k) (before_low k lt)).ports
-        ∙ left_of (λ (leg : OutLeg F T U). fresh_port tx leg.requests) (λ (leg : InLeg F T U). fresh_port tx leg.answers) (pile_at outs (node_before network k)) (pile_at ins (node_before network k)) (place_among (node_before network) k) (any_out tx rx network (ends_are_nodes network good) outs ins dealt k lt) no_port out_low
+    request_sender = ap (λ ports. get_or ports (place_at_node (node_before network) k) no_port) (made.each (node_before network k) (before_low k lt)).ports
+        ∙ left_of (λ (leg : OutLeg F T U). fresh_port tx leg.requests) (λ (leg : InLeg F T U). fresh_port tx leg.answers) (pile_at outs (node_before network k)) (pile_at ins (node_before network k)) (place_at_node (node_before network) k) (any_out tx rx network (ends_are_nodes network good) outs ins dealt k lt) no_port out_low
 
     request_receiver : receiver_of nodes (request_joint network k) ≡ ring_side rx into.requests
-    request_receiver = ap (λ rings. get_or rings (place_among (node_after network) k) no_ring) (made.each (node_after network k) (after_low k lt)).rings
-        ∙ left_of (λ (leg : InLeg F T U). ring_side rx leg.requests) (λ (leg : OutLeg F T U). ring_side rx leg.answers) (pile_at ins (node_after network k)) (pile_at outs (node_after network k)) (place_among (node_after network) k) (any_in tx rx network (ends_are_nodes network good) outs ins dealt k lt) no_ring in_low
+    request_receiver = ap (λ rings. get_or rings (place_at_node (node_after network) k) no_ring) (made.each (node_after network k) (after_low k lt)).rings
+        ∙ left_of (λ (leg : InLeg F T U). ring_side rx leg.requests) (λ (leg : OutLeg F T U). ring_side rx leg.answers) (pile_at ins (node_after network k)) (pile_at outs (node_after network k)) (place_at_node (node_after network) k) (any_in tx rx network (ends_are_nodes network good) outs ins dealt k lt) no_ring in_low
 
     answer_sender : sender_of nodes (answer_joint network k) ≡ fresh_port tx into.answers
     answer_sender = ap (λ ports. get_or ports (answer_joint network k).out no_port) (made.each (node_after network k) (after_low k lt)).ports
-        ∙ right_of (λ (leg : OutLeg F T U). fresh_port tx leg.requests) (λ (leg : InLeg F T U). fresh_port tx leg.answers) (pile_at outs (node_after network k)) (pile_at ins (node_after network k)) (length (links_at (node_before network) (length network.links) (node_after network k))) (place_among (node_after network) k)
+        ∙ right_of (λ (leg : OutLeg F T U). fresh_port tx leg.requests) (λ (leg : InLeg F T U). fresh_port tx leg.answers) (pile_at outs (node_after network k)) (pile_at ins (node_after network k)) (length (links_at (node_before network) (length network.links) (node_after network k))) (place_at_node (node_after network) k)
         (any_in tx rx network (ends_are_nodes network good) outs ins dealt k lt) no_port (outs_long (node_after network k) (after_low k lt)) in_low
 
     answer_receiver : receiver_of nodes (answer_joint network k) ≡ ring_side rx out.answers
     answer_receiver = ap (λ rings. get_or rings (answer_joint network k).into no_ring) (made.each (node_before network k) (before_low k lt)).rings
-        ∙ right_of (λ (leg : InLeg F T U). ring_side rx leg.requests) (λ (leg : OutLeg F T U). ring_side rx leg.answers) (pile_at ins (node_before network k)) (pile_at outs (node_before network k)) (length (links_at (node_after network) (length network.links) (node_before network k))) (place_among (node_before network) k)
+        ∙ right_of (λ (leg : InLeg F T U). ring_side rx leg.requests) (λ (leg : OutLeg F T U). ring_side rx leg.answers) (pile_at ins (node_before network k)) (pile_at outs (node_before network k)) (length (links_at (node_after network) (length network.links) (node_before network k))) (place_at_node (node_before network) k)
         (any_out tx rx network (ends_are_nodes network good) outs ins dealt k lt) no_ring (ins_long (node_before network k) (before_low k lt)) out_low
 
   -- what holds at a ring's joint
@@ -243,9 +242,9 @@ module _ {F T U : Type 0} (tx : tx.Ghosts T) (rx : rx.Ghosts U) (network : Netwo
             let k = p.0 in
             let at = answer_at k p.1.below in
             let place = p.1.place in
-            let sum : length (links_at (node_before network) (length network.links) m) + place_among (node_after network) k ≡ o = omega (arith, place, behind, outs_long m low) in
+            let sum : length (links_at (node_before network) (length network.links) m) + place_at_node (node_after network) k ≡ o = omega (arith, place, behind, outs_long m low) in
             sent_here (2 * k + 1) m o (odd_low k p.1.below) (ap (λ (j : Joint). j.from) at ∙ p.1.node)
-            (ap (λ (j : Joint). j.out) at ∙ ap (λ n. length (links_at (node_before network) (length network.links) n) + place_among (node_after network) k) p.1.node ∙ sum)
+            (ap (λ (j : Joint). j.out) at ∙ ap (λ n. length (links_at (node_before network) (length network.links) n) + place_at_node (node_after network) k) p.1.node ∙ sum)
 
     rings_covered : (m i : ℕ) → m < node_count network → i < length (rings_of (node_at nodes m)) → IsReceivedBy joints (ring_at (node_at nodes m) i).plan.ring m i
     rings_covered m i low lt = by (cases_lt i (length (pile_at ins m)))
@@ -263,9 +262,9 @@ module _ {F T U : Type 0} (tx : tx.Ghosts T) (rx : rx.Ghosts U) (network : Netwo
             let k = p.0 in
             let at = answer_at k p.1.below in
             let place = p.1.place in
-            let sum : length (links_at (node_after network) (length network.links) m) + place_among (node_before network) k ≡ i = omega (arith, place, behind, ins_long m low) in
+            let sum : length (links_at (node_after network) (length network.links) m) + place_at_node (node_before network) k ≡ i = omega (arith, place, behind, ins_long m low) in
             received_here (2 * k + 1) m i (odd_low k p.1.below) (ap (λ (j : Joint). j.to) at ∙ p.1.node)
-            (ap (λ (j : Joint). j.into) at ∙ ap (λ n. length (links_at (node_after network) (length network.links) n) + place_among (node_before network) k) p.1.node ∙ sum)
+            (ap (λ (j : Joint). j.into) at ∙ ap (λ n. length (links_at (node_after network) (length network.links) n) + place_at_node (node_before network) k) p.1.node ∙ sum)
 
     -- So they stand for the network.
     pub stand_for : StandsFor network joints nodes

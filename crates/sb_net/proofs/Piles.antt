@@ -1,6 +1,6 @@
 -- Piles of things, one of which gets one more.
-use Rattle.std.proofs.Common.{◌≡◌, ◌≢◌, ℕ, zero, suc, ◌+◌, ◌<◌, List, [], ◌∷◌, ◌++◌, length, refl, sym, ap, ◌∙◌, arith}
-use Rattle.std.specs.Prelude.{map, set, get_or, replicate}
+use Rattle.std.proofs.Common.{◌≡◌, ℕ, zero, suc, ◌<◌, List, [], ◌∷◌, ◌++◌, length, refl, ap, arith}
+use Rattle.std.specs.Prelude.{set, get_or}
 use Rattle.std.specs.declared.vec.Vec.{Vec}
 use Rattle.sb_net.specs.Legs.{pile_at, piles_of}
 

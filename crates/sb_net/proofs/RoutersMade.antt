@@ -1,25 +1,25 @@
 -- A router at its legs is the router of its place.
-use Rattle.std.proofs.Common.{◌≡◌, ℕ, ◌+◌, ◌<◌, Bool, true, false, List, [], ◌∷◌, ◌++◌, length, refl, sym, ap, ◌∙◌, subst, arith}
+use Rattle.std.proofs.Common.{◌≡◌, ℕ, ◌<◌, true, false, List, [], ◌∷◌, ◌++◌, length, refl, sym, ap, ◌∙◌, subst, arith}
 use Rattle.std.specs.Prelude.{All, Some, map}
 use Rattle.std.proofs.lemmas.List.{length-map}
 use Rattle.std.proofs.lemmas.List.Elements.{All-head, All-map, All-tail, All-weaker}
 use Rattle.sb_link.specs.declared.ends.RxEnd as rx
 use Rattle.sb_link.specs.declared.ends.TxEnd as tx
 use Rattle.sb_packet.specs.Networks.{Network}
-use Rattle.sb_packet.specs.Plans.{NetFlow, RingPlan}
+use Rattle.sb_packet.specs.Plans.{RingPlan}
 use Rattle.sb_packet.specs.Rings.{ring_plan}
 use Rattle.sb_packet.specs.declared.item.Item.{Item}
 use Rattle.sb_port.specs.Ports.{PortSide, fresh_port}
 use Rattle.sb_port.specs.Waiting.{IsWidth}
 use Rattle.sb_port.specs.declared.leg.InLeg.{InLeg}
 use Rattle.sb_port.specs.declared.leg.OutLeg.{OutLeg}
-use Rattle.sb_node.specs.Sides.{RingSide, ring_side}
+use Rattle.sb_node.specs.Sides.{ring_side}
 use Rattle.sb_flow.specs.Accepted.{IsAccepted}
 use Rattle.sb_router.specs.Forwarding.{Forwards, Words}
 use Rattle.sb_router.specs.Fresh.{IsFreshPair, fresh_inlet}
 use Rattle.sb_router.specs.Lanes.{InletState}
 use Rattle.sb_router.specs.RouteOf.{route_of}
-use Rattle.sb_router.specs.Routers.{DirectionSide, IsWholeDirection, IsWholeRouter, RouterSide}
+use Rattle.sb_router.specs.Routers.{IsWholeRouter, RouterSide}
 use Rattle.sb_router.specs.Ways.{IsTableOf}
 use Rattle.sb_laws.specs.NetworkLayouts.{answer_ring, links_into, links_out_of, network_answers, network_requests, request_ring}
 use Rattle.sb_laws.specs.Routed.{IsRouted}
@@ -31,7 +31,7 @@ use Rattle.sb_laws.proofs.RouterTables.{answer_tables, request_tables}
 use Rattle.sb_member.specs.declared.member.Member.TheVariants.{Router}
 use Rattle.sb_net.specs.Legs.{links_in, links_out}
 use Rattle.sb_net.specs.Made.{AreLegsAt, IsInLeg, IsMadeAt, IsOutLeg}
-use Rattle.sb_net.specs.Standing.{IsRouterBuilt, IsRouterNode, router_number}
+use Rattle.sb_net.specs.Standing.{IsRouterBuilt, router_number}
 use Rattle.sb_net.proofs.LinkWidths.{ring_is_wide}
 use Rattle.sb_net.proofs.NodeLinks.{router_ins, router_outs}
 

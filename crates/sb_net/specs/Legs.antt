@@ -1,5 +1,5 @@
 -- The legs of a network's links before anything goes over them: at which nodes they stand, and at which places there.
-use Rattle.std.specs.Prelude.{◌≡◌, ℕ, ◌+◌, ◌*◌, ◌/◌, ◌<◌, ◌==◌, Bool, false, List, [], length, map, filter, slice_get, slice_index_or, if◌then◌else◌}
+use Rattle.std.specs.Prelude.{◌≡◌, ℕ, ◌+◌, ◌/◌, ◌<◌, ◌==◌, List, [], length, map, filter, slice_get, slice_index_or, if◌then◌else◌}
 use Rattle.std.specs.declared.vec.Vec.{Vec}
 use Rattle.std.specs.List.{range_with_len}
 use Rattle.std.specs.Option.{option_map_or}
@@ -32,24 +32,24 @@ abbrev pub links_at : (ℕ → ℕ) → ℕ → ℕ → List ℕ
 links_at node n m = filter (λ k. node k == m) (range_with_len 0 n)
 
 -- the place of link k among the links of its node
-abbrev pub place_among : (ℕ → ℕ) → ℕ → ℕ
-place_among node k = length (links_at node k (node k))
+abbrev pub place_at_node : (ℕ → ℕ) → ℕ → ℕ
+place_at_node node k = length (links_at node k (node k))
 
 -- where the ring of requests of link k stands, and where that of answers does: a node has its links for requests before those for answers
 abbrev pub request_joint : Network → ℕ → Joint
 request_joint network k = record {
   from = node_before network k;
-  out = place_among (node_before network) k;
+  out = place_at_node (node_before network) k;
   to = node_after network k;
-  into = place_among (node_after network) k;
+  into = place_at_node (node_after network) k;
 }
 
 abbrev pub answer_joint : Network → ℕ → Joint
 answer_joint network k = record {
   from = node_after network k;
-  out = length (links_at (node_before network) (length network.links) (node_after network k)) + place_among (node_after network) k;
+  out = length (links_at (node_before network) (length network.links) (node_after network k)) + place_at_node (node_after network) k;
   to = node_before network k;
-  into = length (links_at (node_after network) (length network.links) (node_before network k)) + place_among (node_before network) k;
+  into = length (links_at (node_after network) (length network.links) (node_before network k)) + place_at_node (node_before network) k;
 }
 
 -- where a ring stands, by its number
@@ -101,5 +101,5 @@ module _ {F T U : Type 0} where
     pub outs_here : (m : ℕ) → m < node_count network → links_out (pile_at outs m) ≡ links_at (node_before network) n m
     pub ins_here : (m : ℕ) → m < node_count network → links_in (pile_at ins m) ≡ links_at (node_after network) n m
     pub legs : (k : ℕ) (a : OutLeg F T U) (b : InLeg F T U) → k < n
-        → AreLegsOf tx rx network k (slice_index_or (pile_at outs (node_before network k)) (place_among (node_before network) k) a)
-            (slice_index_or (pile_at ins (node_after network k)) (place_among (node_after network) k) b)
+        → AreLegsOf tx rx network k (slice_index_or (pile_at outs (node_before network k)) (place_at_node (node_before network) k) a)
+        (slice_index_or (pile_at ins (node_after network k)) (place_at_node (node_after network) k) b)

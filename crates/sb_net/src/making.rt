@@ -11,13 +11,13 @@ ghost use Rattle.sb_net.specs.Standing.{StandsFor};
 mod dealing;
 mod devices;
 mod hosts;
+mod joints;
 mod legs;
-mod links;
 mod nodes;
 mod routers;
 
 use dealing::deal_links;
-use links::joints_of;
+use joints::joints_of;
 use nodes::nodes_at;
 use sb_flow::{Bundle, Paths};
 use sb_link::Fabric;

@@ -26,7 +26,7 @@ pub struct Dealt<F: Fabric> {
 
 /// The number of the node that is an end of a link.
 fn number_of(bundle: &Bundle, place: Place) -> usize
-    requires host { place_number (network_of bundle.now) (place_of place) < node_count (network_of bundle.now) }
+    requires there { place_number (network_of bundle.now) (place_of place) < node_count (network_of bundle.now) }
     ensures number { result ≡ place_number (network_of bundle.now) (place_of place) }
 {
     match place {
@@ -81,7 +81,8 @@ fn deal_link<F: Fabric>(
     requires link { link < length (network_of bundle.now).links }
     requires made { F.made fabric.old ≡ first_plans (network_of bundle.now) (2 * link) }
     requires unsettled { (ring : ℕ) → ring < 2 * link → F.settled fabric.old ring ≡ false }
-    requires dealt { AreDealt F.Tx.TxEnd F.Rx.RxEnd (network_of bundle.now) link (piles_of dealt.old.outs.items) (piles_of dealt.old.ins.items) }
+    requires dealt { AreDealt F.Tx.TxEnd F.Rx.RxEnd (network_of bundle.now) link
+        (piles_of dealt.old.outs.items) (piles_of dealt.old.ins.items) }
     requires seats { dealt.old.seats.items ≡ map (request_joint (network_of bundle.now)) (range_with_len 0 link) }
     ensures made { IfOk result (λ _. F.made fabric.new ≡ first_plans (network_of bundle.now) (2 * link + 2)) }
     ensures unsettled { IfOk result (λ _. (ring : ℕ) → ring < 2 * link + 2 → F.settled fabric.new ring ≡ false) }

@@ -1,6 +1,6 @@
 //! Devices at their legs.
 
-ghost use Rattle.std.specs.Prelude.{◌≡◌, ◌<◌, [], length, Some, IfOk, slice_get};
+ghost use Rattle.std.specs.Prelude.{◌≡◌, ◌<◌, [], length, IfOk};
 ghost use Rattle.sb_packet.specs.Networks.{opening_memory};
 ghost use Rattle.sb_flow.specs.NetworkOf.{network_of};
 ghost use Rattle.sb_net.specs.Made.{AreLegsAt, IsMadeAt};
@@ -43,9 +43,7 @@ pub fn device_at<F: Fabric>(
         (device_number (network_of bundle.now) number) [] ins.items node) }
 {
     let mut ins = ins;
-    let Some(leg) = ins.pop() else {
-        unreachable!()
-    };
+    let Some(leg) = ins.pop() else { unreachable!() };
     let memory = memory_of(alloc, bundle, number)?;
     let device = Device::new(alloc, number, memory, leg)?;
     Ok(Member::Device(device))

@@ -10,14 +10,14 @@ returns-clause-stands g c =
     let b = c.args.bundle.now in
     let dealt = c.in_ok-dealt.dealt in
     stand_for g.F.Tx.TxEnd g.F.Rx.RxEnd (network_of b) (accepted b) (piles_of dealt.outs.items) (piles_of dealt.ins.items) c.in_ok-dealt.ensures.dealt c.in_ok-nodes.nodes.items c.in_ok-nodes.ensures.made
-        c.in_ok-joints.joints.items c.in_ok-joints.ensures.joints
+    c.in_ok-joints.joints.items c.in_ok-joints.ensures.joints
 
 pub returns-clause-met : goal.returns-clause-met
 returns-clause-met g c =
     let b = c.args.bundle.now in
     let dealt = c.in_ok-dealt.dealt in
     all_met g.F.Tx.TxEnd g.F.Rx.RxEnd (network_of b) (accepted b) (piles_of dealt.outs.items) (piles_of dealt.ins.items) c.in_ok-dealt.ensures.dealt c.in_ok-nodes.nodes.items c.in_ok-nodes.ensures.made
-        c.in_ok-joints.joints.items c.in_ok-joints.ensures.joints
+    c.in_ok-joints.joints.items c.in_ok-joints.ensures.joints
 
 pub returns-clause-unserved : goal.returns-clause-unserved
 returns-clause-unserved g c =

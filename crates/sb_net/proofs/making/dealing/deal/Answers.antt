@@ -1,5 +1,5 @@
 -- The pile of the node has one thing more.
-use Rattle.std.proofs.Common.{◌≡◌, ◌++◌, ◌∷◌, [], List, set, ap, sym, ◌∙◌}
+use Rattle.std.proofs.Common.{◌++◌, ◌∷◌, [], set, ap, sym, ◌∙◌}
 use Rattle.sb_net.specs.Legs.{piles_of}
 use Rattle.sb_net.proofs.Piles.{pile_there, piles_set}
 use Rattle.sb_net.proofs.making.dealing.deal.Goals as goal

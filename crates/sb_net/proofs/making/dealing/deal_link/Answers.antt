@@ -1,13 +1,13 @@
 -- The next link's legs lie at its nodes.
-use Rattle.std.proofs.Common.{◌≡◌, ◌<◌, ℕ, length, sym, ap, ◌∙◌, arith, subst, refl, suc, ◌+◌, ◌++◌, ◌∷◌, []}
-use Rattle.std.specs.Prelude.{map, set, slice_get, get_or, Some}
+use Rattle.std.proofs.Common.{◌≡◌, ◌<◌, length, sym, ap, ◌∙◌, arith, subst, ◌+◌, ◌++◌, ◌∷◌, []}
+use Rattle.std.specs.Prelude.{map, set, get_or}
 use Rattle.std.specs.List.{range_with_len}
 use Rattle.std.proofs.lemmas.List.{length-map}
 use Rattle.std.proofs.lemmas.List.FromFn.{map-range_with_len_more}
 use Rattle.sb_flow.specs.NetworkOf.{network_of}
-use Rattle.sb_flow.specs.Rows.{link_of, place_of}
+use Rattle.sb_flow.specs.Rows.{link_of}
 use Rattle.sb_flow.proofs.Bundles.{accepted, link_count}
-use Rattle.sb_net.specs.Legs.{node_after, node_before, pile_at, piles_of, place_number, request_joint}
+use Rattle.sb_net.specs.Legs.{node_after, node_before, pile_at, piles_of, request_joint}
 use Rattle.sb_net.specs.Standing.{node_count}
 use Rattle.sb_net.proofs.Dealing.{dealt_more, joint_with, pile_long}
 use Rattle.sb_net.proofs.NodeNumbers.{ends_are_nodes, node_after_is, node_before_is, row_got}
@@ -23,7 +23,7 @@ number_of-from-requires g c =
     let row = c.index-row.result.now in
     let there : c.args.link < length b.links.items = let lt = c.requires.link in omega (arith, lt, length-map b.links.items link_of) in
     let got = row_got b c.args.link row there (c.index-row.ensures ∙ ap (λ i. get_or b.links.items i row) c.from.ensures) in
-    record { host = subst (λ n. n < node_count network) (node_before_is network c.args.link (link_of row) got) ((ends_are_nodes network (accepted b)).before c.args.link c.requires.link) }
+    record { there = subst (λ n. n < node_count network) (node_before_is network c.args.link (link_of row) got) ((ends_are_nodes network (accepted b)).before c.args.link c.requires.link) }
 
 pub number_of-to-requires : goal.number_of-to-requires
 number_of-to-requires g c =
@@ -32,7 +32,7 @@ number_of-to-requires g c =
     let row = c.index-row.result.now in
     let there : c.args.link < length b.links.items = let lt = c.requires.link in omega (arith, lt, length-map b.links.items link_of) in
     let got = row_got b c.args.link row there (c.index-row.ensures ∙ ap (λ i. get_or b.links.items i row) c.from.ensures) in
-    record { host = subst (λ n. n < node_count network) (node_after_is network c.args.link (link_of row) got) ((ends_are_nodes network (accepted b)).after c.args.link c.requires.link) }
+    record { there = subst (λ n. n < node_count network) (node_after_is network c.args.link (link_of row) got) ((ends_are_nodes network (accepted b)).after c.args.link c.requires.link) }
 
 pub deal-requires : goal.deal-requires
 deal-requires g c =
@@ -71,9 +71,9 @@ returns-clause-dealt g c =
     let outs = piles_of c.args.dealt.now.outs.items in
     let ins = piles_of c.args.dealt.now.ins.items in
     dealt_more g.F.Tx.TxEnd g.F.Rx.RxEnd network (ends_are_nodes network (accepted b)) c.args.link (c.args.link + 1) outs (piles_of c.deal.new.piles.items) ins (piles_of c.deal-2.new.piles.items)
-        c.in_ok-out_leg.out_leg c.in_ok-out_leg.in_leg c.requires.link (omega arith) c.requires.dealt c.in_ok-out_leg.ensures.legs
-        (c.in_ok-out.ensures.dealt ∙ ap (λ n. set outs n (pile_at outs n ++ c.in_ok-out_leg.out_leg ∷ [])) from)
-        (c.in_ok-into.ensures.dealt ∙ ap (λ n. set ins n (pile_at ins n ++ c.in_ok-out_leg.in_leg ∷ [])) to)
+    c.in_ok-out_leg.out_leg c.in_ok-out_leg.in_leg c.requires.link (omega arith) c.requires.dealt c.in_ok-out_leg.ensures.legs
+    (c.in_ok-out.ensures.dealt ∙ ap (λ n. set outs n (pile_at outs n ++ c.in_ok-out_leg.out_leg ∷ [])) from)
+    (c.in_ok-into.ensures.dealt ∙ ap (λ n. set ins n (pile_at ins n ++ c.in_ok-out_leg.in_leg ∷ [])) to)
 
 pub returns-clause-seats : goal.returns-clause-seats
 returns-clause-seats g c =

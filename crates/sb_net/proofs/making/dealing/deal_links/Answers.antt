@@ -1,6 +1,5 @@
 -- In the end all links have their legs.
-use Rattle.std.proofs.Common.{◌≡◌, length, sym, ◌∙◌, subst, arith}
-use Rattle.std.proofs.lemmas.List.{length-map}
+use Rattle.std.proofs.Common.{◌≡◌, length, subst, arith}
 use Rattle.sb_flow.specs.NetworkOf.{network_of}
 use Rattle.sb_flow.proofs.Bundles.{link_count}
 use Rattle.sb_net.specs.Legs.{AreDealt, piles_of}

@@ -1,5 +1,5 @@
 -- The device stands at its one link.
-use Rattle.std.proofs.Common.{◌≡◌, subst, arith, sym, ap}
+use Rattle.std.proofs.Common.{subst, arith, sym}
 use Rattle.sb_packet.specs.Memories.{MemoryState}
 use Rattle.sb_device.specs.Plans.{IsPlannedFor}
 use Rattle.sb_device.specs.Served.{HasServed}
@@ -29,7 +29,7 @@ pub new-requires-clause-planned : goal.new-requires-clause-planned
 new-requires-clause-planned g c κs within =
     let b = c.args.bundle.now in
     subst (λ (m : MemoryState). IsPlannedFor c.args.number m (g.F.Rx.RxEnd.planned c.in-Some.leg.requests) (g.F.Tx.TxEnd.planned c.in-Some.leg.answers)) (sym c.in_ok-memory.ensures.memory)
-        (device_planned g.F.Tx.TxEnd g.F.Rx.RxEnd (network_of b) (accepted b) c.args.number c.requires.number c.args.ins.items c.requires.legs c.pop.new.self.items c.in-Some.leg c.in-Some.ensures.items)
+    (device_planned g.F.Tx.TxEnd g.F.Rx.RxEnd (network_of b) (accepted b) c.args.number c.requires.number c.args.ins.items c.requires.legs c.pop.new.self.items c.in-Some.leg c.in-Some.ensures.items)
 
 pub new-requires-clause-wide : goal.new-requires-clause-wide
 new-requires-clause-wide g c κs within =
@@ -40,5 +40,7 @@ pub returns : goal.returns
 returns g c =
     let b = c.args.bundle.now in
     let e = c.in_ok-device.ensures in
-    record { made = device_made g.F.Tx.TxEnd g.F.Rx.RxEnd (network_of b) (accepted b) c.args.number c.requires.number c.args.ins.items c.requires.legs c.pop.new.self.items c.in-Some.leg c.in-Some.ensures.items
-        c.in_ok-device.device e.whole (subst (λ m. HasServed m c.in_ok-device.device) c.in_ok-memory.ensures.memory e.serves) e.number e.journal e.requests e.answers }
+    record {
+      made = device_made g.F.Tx.TxEnd g.F.Rx.RxEnd (network_of b) (accepted b) c.args.number c.requires.number c.args.ins.items c.requires.legs c.pop.new.self.items c.in-Some.leg c.in-Some.ensures.items
+          c.in_ok-device.device e.whole (subst (λ m. HasServed m c.in_ok-device.device) c.in_ok-memory.ensures.memory e.serves) e.number e.journal e.requests e.answers;
+    }

@@ -1,11 +1,10 @@
 -- The memory of a row is that of the network's device.
-use Rattle.std.proofs.Common.{◌≡◌, ◌<◌, ◌≤◌, ◌++◌, ◌-◌, ◌*◌, List, ℕ, Bool, length, sym, ap, ◌∙◌, arith, subst}
-use Rattle.std.specs.Prelude.{Some, get_or, replicate, slice_get}
+use Rattle.std.proofs.Common.{◌<◌, ◌++◌, ◌-◌, ◌*◌, List, ℕ, length, sym, ap, ◌∙◌, arith}
+use Rattle.std.specs.Prelude.{get_or, replicate}
 use Rattle.std.proofs.lemmas.List.{length-map}
-use Rattle.sb_packet.specs.Memories.{MemoryState}
 use Rattle.sb_flow.specs.NetworkOf.{network_of}
 use Rattle.sb_flow.specs.Rows.{device_of}
-use Rattle.sb_flow.proofs.Bundles.{accepted, device_count}
+use Rattle.sb_flow.proofs.Bundles.{accepted}
 use Rattle.sb_net.proofs.DeviceMemories.{device_got, limited_device, opening_is}
 use Rattle.sb_net.proofs.making.devices.memory_of.Goals as goal
 

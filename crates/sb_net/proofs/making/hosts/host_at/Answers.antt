@@ -38,5 +38,7 @@ pub returns : goal.returns
 returns g c =
     let b = c.args.bundle.now in
     let e = c.in_ok-host.ensures in
-    record { made = host_made g.F.Tx.TxEnd g.F.Rx.RxEnd (network_of b) (accepted b) c.args.number c.requires.number c.args.outs.items c.requires.legs c.pop.new.self.items c.in-Some.leg c.in-Some.ensures.items
-        c.in_ok-host.host e.whole e.asked e.requests e.answers }
+    record {
+      made = host_made g.F.Tx.TxEnd g.F.Rx.RxEnd (network_of b) (accepted b) c.args.number c.requires.number c.args.outs.items c.requires.legs c.pop.new.self.items c.in-Some.leg c.in-Some.ensures.items
+          c.in_ok-host.host e.whole e.asked e.requests e.answers;
+    }

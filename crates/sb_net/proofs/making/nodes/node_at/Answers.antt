@@ -1,8 +1,8 @@
 -- A number tells the kind of a node, and its place among those of its kind.
-use Rattle.std.proofs.Common.{◌≡◌, ◌≤◌, ◌<◌, ◌+◌, ◌-◌, ℕ, [], length, sym, ◌∙◌, subst, arith}
-use Rattle.std.specs.Prelude.{IfOk, map}
+use Rattle.std.proofs.Common.{◌≡◌, ◌<◌, ◌-◌, [], length, sym, ◌∙◌, subst, arith}
+use Rattle.std.specs.Prelude.{IfOk}
 use Rattle.sb_flow.specs.NetworkOf.{network_of}
-use Rattle.sb_flow.proofs.Bundles.{accepted, device_count, few_devices, host_count}
+use Rattle.sb_flow.proofs.Bundles.{accepted, few_devices, host_count}
 use Rattle.sb_net.specs.Made.{AreLegsAt, IsMadeAt}
 use Rattle.sb_net.specs.Standing.{device_number, router_number}
 use Rattle.sb_net.proofs.HostsMade.{no_things}
@@ -71,5 +71,7 @@ returns-else-number-hosts-2 g c =
     let low : number < length network.devices = let below = c.requires.number in omega (arith, below, same) in
     let legs = subst (λ n. AreLegsAt g.F.Tx.TxEnd g.F.Rx.RxEnd network n c.args.outs.items c.args.ins.items) same c.requires.legs in
     let none = no_things (λ leg. leg.link) c.args.outs.items (legs.outs_here ∙ (device_link network (accepted b) number low).none) in
-    record { made = subst (λ xs. IfOk c.device_at.result (λ node. IsMadeAt g.F.Tx.TxEnd g.F.Rx.RxEnd network c.args.number xs c.args.ins.items node)) (sym none)
-        (subst (λ n. IfOk c.device_at.result (λ node. IsMadeAt g.F.Tx.TxEnd g.F.Rx.RxEnd network n [] c.args.ins.items node)) (sym same) c.device_at.ensures.made) }
+    record {
+      made = subst (λ xs. IfOk c.device_at.result (λ node. IsMadeAt g.F.Tx.TxEnd g.F.Rx.RxEnd network c.args.number xs c.args.ins.items node)) (sym none)
+          (subst (λ n. IfOk c.device_at.result (λ node. IsMadeAt g.F.Tx.TxEnd g.F.Rx.RxEnd network n [] c.args.ins.items node)) (sym same) c.device_at.ensures.made);
+    }

@@ -1,5 +1,5 @@
 -- The next node is made at the legs that are next.
-use Rattle.std.proofs.Common.{◌≡◌, ◌<◌, ◌+◌, ◌∷◌, ℕ, drop, length, refl, sym, ap, ◌∙◌, subst, arith, suc}
+use Rattle.std.proofs.Common.{◌≡◌, ◌<◌, ◌+◌, drop, refl, sym, ap, ◌∙◌, subst, arith, suc}
 use Rattle.std.proofs.lemmas.List.{length-map}
 use Rattle.sb_flow.specs.NetworkOf.{network_of}
 use Rattle.sb_flow.proofs.Bundles.{accepted}
@@ -48,7 +48,7 @@ loop-number-preserved g c =
     let outs_are = pile_there c.args.dealt.outs.items n c.in-Some.out out.below ∙ ap (λ pile. pile.items) (out.at c.in-Some.out) in
     let ins_are = pile_there c.args.dealt.ins.items n c.in-Some-next.into into.below ∙ ap (λ pile. pile.items) (into.at c.in-Some-next.into) in
     let one = subst (λ xs. IsMadeAt g.F.Tx.TxEnd g.F.Rx.RxEnd network n xs (pile_at (piles_of c.args.dealt.ins.items) n) c.in_ok-node.node) (sym outs_are)
-        (subst (λ xs. IsMadeAt g.F.Tx.TxEnd g.F.Rx.RxEnd network n c.in-Some.out.items xs c.in_ok-node.node) (sym ins_are) c.in_ok-node.ensures.made) in
+    (subst (λ xs. IsMadeAt g.F.Tx.TxEnd g.F.Rx.RxEnd network n c.in-Some.out.items xs c.in_ok-node.node) (sym ins_are) c.in_ok-node.ensures.made) in
     record {
       outs = out.left ∙ ap (λ k. drop k c.args.dealt.outs.items) next;
       ins = into.left ∙ ap (λ k. drop k c.args.dealt.ins.items) next;

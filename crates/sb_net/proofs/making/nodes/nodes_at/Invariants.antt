@@ -1,5 +1,5 @@
 -- The nodes so far are made at their legs, and the legs of the others are left.
-use Rattle.std.proofs.Common.{◌≡◌, ◌<◌, drop}
+use Rattle.std.proofs.Common.{◌≡◌, drop}
 use Rattle.std.specs.Vec.Iter.{into_iter_items}
 use Rattle.sb_flow.specs.NetworkOf.{network_of}
 use Rattle.sb_net.specs.Legs.{piles_of}

@@ -14,5 +14,7 @@ pub returns : goal.returns
 returns g c =
     let b = c.args.bundle.now in
     let e = c.in_ok-router.ensures in
-    record { made = router_made g.F.Tx.TxEnd g.F.Rx.RxEnd (network_of b) (accepted b) c.args.number c.requires.number c.args.outs.items c.args.ins.items c.requires.legs c.in_ok-router.router
-        e.whole e.requests_in e.requests_out e.answers_in e.answers_out e.down e.up e.forwards_requests e.forwards_answers }
+    record {
+      made = router_made g.F.Tx.TxEnd g.F.Rx.RxEnd (network_of b) (accepted b) c.args.number c.requires.number c.args.outs.items c.args.ins.items c.requires.legs c.in_ok-router.router
+          e.whole e.requests_in e.requests_out e.answers_in e.answers_out e.down e.up e.forwards_requests e.forwards_answers;
+    }
