@@ -6,3 +6,5 @@ pub mod Spent
 pub mod Over
 pub mod Collecting
 pub mod Running
+pub mod Legs
+pub mod Made
