@@ -8,7 +8,7 @@ use Rattle.std.proofs.lemmas.Bool.Decides.{nat_tests}
 use Rattle.std.proofs.lemmas.List.Elements.{filter-append}
 use Rattle.sb_packet.specs.Networks.{NetLink, NetPlace, Network, at_device, at_host, at_router, leads_to}
 use Rattle.sb_packet.specs.Sides.{leaves_from}
-use Rattle.sb_flow.specs.Ways.{first_link, is_some_number, router_after, router_before}
+use Rattle.sb_flow.specs.Ways.{first_link, is_some_number, router_after, router_at_end, router_before}
 use Rattle.sb_flow.specs.Accepted.{IsAccepted}
 use Rattle.sb_flow.specs.Ends.{joins, same_device, same_host, share_an_end}
 use Rattle.sb_flow.specs.Names.{is_there}
@@ -23,7 +23,6 @@ use Rattle.sb_net.specs.Legs.{links_at, node_after, node_before, place_at_node, 
 use Rattle.sb_net.specs.Standing.{device_number, router_number}
 use Rattle.sb_net.proofs.LinkPlaces.{at_place, by_value, placed, range_next}
 use Rattle.sb_net.proofs.NodeNumbers.{any_link, link_at, link_got, node_after_is, node_before_is}
-use Rattle.sb_net.proofs.NodeKinds.{router_of}
 
 -- places that are there have numbers of their own
 pub same_place : (network : Network) (p q : NetPlace) → is_there network p ≡ true → is_there network q ≡ true → place_number network p ≡ place_number network q → p ≡ q
@@ -75,7 +74,7 @@ filter_agrees p q (suc n) same =
     ∙ sym (filter-append q (range_with_len 0 n) (n ∷ [])) ∙ sym (ap (filter q) (range_next n))
 
 -- a test for a router's number asks for the router
-router_test : (network : Network) (r : ℕ) (p : NetPlace) → r < length network.routers → is_there network p ≡ true → (place_number network p == router_number network r) ≡ is_some_number r (router_of p)
+router_test : (network : Network) (r : ℕ) (p : NetPlace) → r < length network.routers → is_there network p ≡ true → (place_number network p == router_number network r) ≡ is_some_number r (router_at_end p)
 router_test network r (at_host h) lt t = let low = ltb-true h (length network.hosts) t in let apart : (h == length network.hosts + r) ≡ false = grind (arith, nat_tests) in apart
 router_test network r (at_router q) lt t = let same : (length network.hosts + q == length network.hosts + r) ≡ (q == r) = by_value (q == r)
     (λ e. let is = eqb-true q r e in eq-eqb (length network.hosts + q) (length network.hosts + r) (omega (arith, is)) ∙ sym e)
@@ -192,9 +191,9 @@ module _ (network : Network) (good : IsAccepted network) where
   pub router_outs : (r : ℕ) → r < length network.routers → links_at (node_before network) (length network.links) (router_number network r) ≡ links_out_of network (Some r)
   router_outs r lt = filter_agrees (λ k. node_before network k == router_number network r) (λ k. is_some_number r (router_before network k)) (length network.links)
       (λ k low. ap (λ n. n == router_number network r) (node_before_is network k (link_at network k) (link_got network k low)) ∙ router_test network r (link_at network k).from lt (from_there k low)
-      ∙ sym (ap (λ (o : Option NetLink). is_some_number r (option_and_then (λ link. router_of link.from) o)) (link_got network k low)))
+      ∙ sym (ap (λ (o : Option NetLink). is_some_number r (option_and_then (λ link. router_at_end link.from) o)) (link_got network k low)))
 
   pub router_ins : (r : ℕ) → r < length network.routers → links_at (node_after network) (length network.links) (router_number network r) ≡ links_into network (Some r)
   router_ins r lt = filter_agrees (λ k. node_after network k == router_number network r) (λ k. is_some_number r (router_after network k)) (length network.links)
       (λ k low. ap (λ n. n == router_number network r) (node_after_is network k (link_at network k) (link_got network k low)) ∙ router_test network r (link_at network k).to lt (to_there k low)
-      ∙ sym (ap (λ (o : Option NetLink). is_some_number r (option_and_then (λ link. router_of link.to) o)) (link_got network k low)))
+      ∙ sym (ap (λ (o : Option NetLink). is_some_number r (option_and_then (λ link. router_at_end link.to) o)) (link_got network k low)))
