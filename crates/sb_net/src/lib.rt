@@ -2,6 +2,9 @@
 #![tactic(auto)]
 
 mod collecting;
+mod groups;
+mod net;
+mod settling;
 pub mod ending_laws;
 mod making;
 mod running;

@@ -1,0 +1,45 @@
+//! A network is taken apart, and its rings are given back.
+
+use sb_device::{Device, DeviceState};
+use sb_drive::Group;
+use sb_host::{Host, HostParts, Transactions};
+use sb_link::{Fabric, RxEnd};
+use sb_member::Member;
+use sb_packet::TxnState;
+use sb_port::OutPort;
+use sb_router::{Inlet, Router, RouterEnds};
+use std::alloc::{AllocError, Global};
+
+/// The parts of nodes that were taken apart: the port in front of each ring and the end behind it, at the ring's number,
+/// and what hosts and devices tell afterwards, from the last one on.
+#[derive(Drop)]
+pub(crate) struct Apart<F: Fabric> {
+    ports: Vec<Option<OutPort<F::Tx>>>,
+    ends: Vec<Option<F::Rx>>,
+    hosts: Vec<Transactions>,
+    devices: Vec<DeviceState>,
+}
+
+/// What remains of a network that has run and was settled: what hosts and devices tell.
+#[derive(Drop)]
+pub struct SettledNet {
+    hosts: Vec<Transactions>,
+    devices: Vec<DeviceState>,
+}
+
+impl SettledNet {
+    /// How far a transaction has come, by the place of its host in the bundle, and its own in the host's script.
+    pub fn state(&self, host: u8, index: u32) -> TxnState {
+        self.hosts[usize::from(host)].state(index)
+    }
+
+    /// The bytes that were answered to it; none where it isn't answered.
+    pub fn body(&self, host: u8, index: u32) -> &[u8] {
+        self.hosts[usize::from(host)].body(index)
+    }
+
+    /// The bytes of a device's memory, by its place in the bundle.
+    pub fn image(&self, device: u8) -> &[u8] {
+        self.devices[usize::from(device)].memory.image()
+    }
+}
