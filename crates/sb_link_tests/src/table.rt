@@ -6,6 +6,7 @@ use crate::line::Line;
 use crate::traffic::{one_device_plan, read_of_word};
 use sb_link::{Fabric, Pop, Push, SerialFabric};
 use sb_packet::Item;
+use sb_queue::QueueFabric;
 use sb_ring::RingFabric;
 use std::alloc::Global;
 use std::process::Abort;
@@ -110,4 +111,10 @@ fn serial_ring_answers_call_by_call(rt: HostRuntime) -> Result<(), Fail> {
 fn own_ring_answers_call_by_call(rt: HostRuntime) -> Result<(), Fail> {
     check_one_place(&rt, rt.alloc(), RingFabric::new(rt.alloc()), false)?;
     check_three_places(&rt, rt.alloc(), RingFabric::new(rt.alloc()), false)
+}
+
+#[test]
+fn ring_over_a_queue_answers_call_by_call(rt: HostRuntime) -> Result<(), Fail> {
+    check_one_place(&rt, rt.alloc(), QueueFabric::new(rt, rt.alloc()), false)?;
+    check_three_places(&rt, rt.alloc(), QueueFabric::new(rt, rt.alloc()), false)
 }

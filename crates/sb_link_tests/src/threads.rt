@@ -7,6 +7,7 @@ use crate::sender::Sender;
 use crate::traffic::{one_device_plan, read_of_word};
 use sb_link::{Fabric, Pop, Push, RxEnd, TxEnd};
 use sb_packet::Item;
+use sb_queue::QueueFabric;
 use sb_ring::RingFabric;
 use std::alloc::Global;
 use std::process::Abort;
@@ -86,6 +87,14 @@ fn carry<R: Abort + Threads + Sync, F: Fabric + Drop>(
 fn own_ring_carries_between_threads(rt: HostRuntime) -> Result<(), Fail> {
     for capacity in [1, 2, 1024] {
         carry(&rt, rt.alloc(), RingFabric::new(rt.alloc()), capacity)?;
+    }
+    Ok(())
+}
+
+#[test]
+fn ring_over_a_queue_carries_between_threads(rt: HostRuntime) -> Result<(), Fail> {
+    for capacity in [1, 2, 1024] {
+        carry(&rt, rt.alloc(), QueueFabric::new(rt, rt.alloc()), capacity)?;
     }
     Ok(())
 }
