@@ -1,5 +1,5 @@
 -- The rule allows each step of the two seats, and the splits and joins.
-use Rattle.std.proofs.Common.{◌≡◌, ℕ, zero, suc, ◌+◌, ◌*◌, ◌<◌, ⊎_elim, false, true≢false, List, [], ◌∷◌, ◌++◌, length, get_or, set, sym, refl, ap, ◌∙◌, subst, arith}
+use Rattle.std.proofs.Common.{◌≡◌, ℕ, zero, suc, ◌+◌, ◌*◌, ◌<◌, ⊎_elim, false, true≢false, List, [], ◌∷◌, ◌++◌, length, length-append, get_or, set, sym, refl, ap, ◌∙◌, subst, arith}
 use Rattle.std.proofs.lemmas.List.{set-get_or}
 use mathlib.Core.Option.{some, some-injective, some-ne-none}
 use lib.ListN.{get_elem?}
@@ -10,9 +10,9 @@ use Rattle.sb_ring.specs.declared.view.Role.TheVariants.{Producer, Consumer, Rec
 use Rattle.sb_packet.specs.Prefixes.{IsPrefix}
 use Rattle.sb_ring.specs.Layout.{head_word, slots_word, tail_word}
 use Rattle.sb_ring.specs.Rule.{IsRing, IsRuled, IsSeat, new_consumer, new_producer, slot_place}
-use Rattle.sb_ring.specs.Plays.{note_of_received, note_of_sent, read_note, with_told, with_consumer, IsHeadLoad, IsWordStep, IsTailStore, IsTailLoad, IsHeadStore}
-use Rattle.sb_ring.proofs.Prefixes.{prefix_refl, prefix_nil, prefix_more, prefix_trans, prefix_length, next_of, front_full}
-use Rattle.sb_ring.proofs.Words.{head_loaded, word_stored, tail_stored, tail_loaded, word_loaded, head_stored, paired_off, told_producer, told_consumer}
+use Rattle.sb_ring.specs.Plays.{note_of_received, note_of_sent, read_note, with_told, with_consumer, with_last, with_part, IsHeadLoad, IsWordLoad, IsWordStore, IsTailStore, IsTailLoad, IsHeadStore}
+use Rattle.sb_ring.proofs.Prefixes.{prefix_refl, prefix_nil, prefix_more, prefix_trans, prefix_length, next_of, front_full, last_of, with_last-snoc}
+use Rattle.sb_ring.proofs.Words.{head_loaded, word_found, word_replaced, tail_stored, tail_loaded, word_loaded, head_stored, paired_off, told_producer, told_consumer}
 use Rattle.sb_ring.proofs.Seats.{all_set, all_snoc, is_producer, is_consumer, producer_steps, consumer_steps, set_apart, set_there}
 
 none_follow : {I : Type 0} (follows : List I → I → Type 0) (ys zs : List I) (x : I) → [] ≡ ys ++ x ∷ zs → follows ys x
@@ -53,17 +53,33 @@ module _ {S P I : Type 0} (width : ℕ) (enc : I → List ℕ) (enc_length : (x 
         },
       )
 
-  pub word_store_allowed : (slots id : ℕ) (me : Me S (View P I)) (i x : ℕ) → me.0.role ≡ Producer → length me.0.items < me.0.learnt + c → length me.0.part < width
-      → i ≡ slot_place width c (length me.0.items) + length me.0.part → Allows (IsRuled width enc follows c) slots id me i (λ _. x) (λ _. IsWordStep me x)
-  word_store_allowed slots id me i x role room narrow is s k len at small = let r = is_producer width enc follows c s k id me.0 at role in
-      let w : View P I = record me.0 { part = me.0.part ++ x ∷ [] } in (
+  pub word_find_allowed : (slots id : ℕ) (me : Me S (View P I)) (i : ℕ) → me.0.role ≡ Producer → length me.0.items < me.0.learnt + c → length me.0.part < width
+      → i ≡ slot_place width c (length me.0.items) + length me.0.part → Allows (IsRuled width enc follows c) slots id me i (λ n. n) (λ n. IsWordLoad me n)
+  word_find_allowed slots id me i role room narrow is s k len at small = let r = is_producer width enc follows c s k id me.0 at role in let n : ℕ = get_or s.words i 0 in
+      let w : View P I = record me.0 { part = me.0.part ++ n ∷ [] } in (
         w,
         keeps,
         tt,
-        subst (λ j. IsRuled width enc follows c record { words = set s.words j x; homes = s.homes; views = set s.views id w }) (sym is)
-            (producer_steps width enc follows c s k id me.0 at role (set s.words (slot_place width c (length me.0.items) + length me.0.part) x) s.homes w role refl (prefix_refl me.0.items)
-            (word_stored width enc enc_length follows c s.words me.0 k.consumer x r room narrow)),
+        subst (λ ws. IsRuled width enc follows c record { words = ws; homes = s.homes; views = set s.views id w }) (sym (set-get_or s.words i 0))
+            (producer_steps width enc follows c s k id me.0 at role s.words s.homes w role refl (prefix_refl me.0.items)
+            (word_found width enc enc_length follows c s.words me.0 k.consumer n r room narrow (ap (λ j. get_or s.words j 0) is))),
         record { grown = refl },
+      )
+
+  pub word_store_allowed : (slots id : ℕ) (me : Me S (View P I)) (i x : ℕ) → me.0.role ≡ Producer → 0 < length me.0.part
+      → i + 1 ≡ slot_place width c (length me.0.items) + length me.0.part → Allows (IsRuled width enc follows c) slots id me i (λ _. x) (λ _. IsWordStore me x)
+  word_store_allowed slots id me i x role more is s k len at small = let r = is_producer width enc follows c s k id me.0 at role in
+      let last = last_of me.0.part more in let front : List ℕ = last.0 in let w : View P I = record me.0 { part = front ++ x ∷ [] } in
+      let longer : length me.0.part ≡ length front + 1 = ap length last.2 ∙ length-append front (last.1 ∷ []) in
+      let here : i ≡ slot_place width c (length me.0.items) + length front = omega arith in
+      let now : front ++ x ∷ [] ≡ with_last me.0.part x = sym (ap (λ (part : List ℕ). with_last part x) last.2 ∙ with_last-snoc front last.1 x) in (
+        w,
+        keeps,
+        tt,
+        subst (λ j. IsRuled width enc follows c record { words = set s.words j x; homes = s.homes; views = set s.views id w }) (sym here)
+            (producer_steps width enc follows c s k id me.0 at role (set s.words (slot_place width c (length me.0.items) + length front) x) s.homes w role refl (prefix_refl me.0.items)
+            (word_replaced width enc enc_length follows c s.words me.0 k.consumer front last.1 x r last.2)),
+        record { replaced = ap (λ (part : List ℕ). (with_part me.0 part, me.1)) now },
       )
 
   pub tail_store_allowed : (slots id : ℕ) (me : Me S (View P I)) (n : ℕ) (x : I) → me.0.role ≡ Producer → 0 < width → enc x ≡ me.0.part → follows me.0.plan me.0.items x
@@ -96,7 +112,7 @@ module _ {S P I : Type 0} (width : ℕ) (enc : I → List ℕ) (enc_length : (x 
       )
 
   pub word_load_allowed : (slots id : ℕ) (me : Me S (View P I)) (i : ℕ) → me.0.role ≡ Consumer → length me.0.items < me.0.learnt → length me.0.part < width
-      → i ≡ slot_place width c (length me.0.items) + length me.0.part → Allows (IsRuled width enc follows c) slots id me i (λ n. n) (λ n. IsWordStep me n)
+      → i ≡ slot_place width c (length me.0.items) + length me.0.part → Allows (IsRuled width enc follows c) slots id me i (λ n. n) (λ n. IsWordLoad me n)
   word_load_allowed slots id me i role there narrow is s k len at small = let r = is_consumer width enc follows c s k id me.0 at role in let n : ℕ = get_or s.words i 0 in
       let pair = ((k.seats id me.0 at).one_consumer role).2 in let w : View P I = record me.0 { part = me.0.part ++ n ∷ [] } in (
         w,

@@ -6,6 +6,7 @@ use Rattle.std.proofs.lemmas.Bool.{cases_lt}
 use mathlib.Core.Option.{some, some-injective, some-ne-none}
 use lib.ListN.{get_elem?}
 use Rattle.sb_packet.specs.Prefixes.{IsPrefix}
+use Rattle.sb_ring.specs.Plays.{with_last}
 use Rattle.sb_ring.specs.Rule.{StandAt}
 
 module _ {A : Type 0} where
@@ -91,3 +92,28 @@ stands_snoc ws base v xs room h j lt = ⊎_elim
     subst (λ k. get_or (set ws (base + length xs) v) (base + k) 0 ≡ get_or (xs ++ v ∷ []) k 0) (sym e)
     (get_or-set_same ws (base + length xs) v 0 room ∙ sym (get_or-append_seam xs v [] 0)))
     (cases_lt j (length xs))
+
+-- what stands one after another does so without its last number
+pub stands_front : (ws : List ℕ) (base y : ℕ) (xs : List ℕ) → StandAt ws base (xs ++ y ∷ []) → StandAt ws base xs
+stands_front ws base y xs h j lt = let further : j < length (xs ++ y ∷ []) = omega (arith, length-append xs (y ∷ [])) in h j further ∙ get_or_append_left xs (y ∷ []) 0 j lt
+
+-- and with the number that stands behind it
+pub stands_found : (ws : List ℕ) (base v : ℕ) (xs : List ℕ) → v ≡ get_or ws (base + length xs) 0 → StandAt ws base xs → StandAt ws base (xs ++ v ∷ [])
+stands_found ws base v xs is h j lt = ⊎_elim
+    (λ (l : j < length xs). h j l ∙ sym (get_or_append_left xs (v ∷ []) 0 j l))
+    (λ (l : length xs ≤ j). let e : j ≡ length xs = omega (arith, length-append xs (v ∷ [])) in
+    subst (λ k. get_or ws (base + k) 0 ≡ get_or (xs ++ v ∷ []) k 0) (sym e)
+    (sym is ∙ sym (get_or-append_seam xs v [] 0)))
+    (cases_lt j (length xs))
+
+-- a list that isn't empty ends in a number
+pub last_of : (xs : List ℕ) → 0 < length xs → (front : List ℕ) × (y : ℕ) × (xs ≡ front ++ y ∷ [])
+last_of [] more = absurd (omega arith)
+last_of (x ∷ []) more = ([], x, refl)
+last_of (x ∷ y ∷ xs) more = let rest = last_of (y ∷ xs) (omega arith) in (x ∷ rest.0, rest.1, ap (λ l. x ∷ l) rest.2)
+
+-- with another last number
+pub with_last-snoc : (front : List ℕ) (y v : ℕ) → with_last (front ++ y ∷ []) v ≡ front ++ v ∷ []
+with_last-snoc [] y v = refl
+with_last-snoc (x ∷ []) y v = refl
+with_last-snoc (x ∷ z ∷ front) y v = ap (λ l. x ∷ l) (with_last-snoc (z ∷ front) y v)

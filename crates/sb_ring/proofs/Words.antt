@@ -8,7 +8,7 @@ use Rattle.sb_ring.specs.declared.view.View.{View}
 use Rattle.sb_packet.specs.Prefixes.{IsPrefix}
 use Rattle.sb_ring.specs.Layout.{head_word, slots_word}
 use Rattle.sb_ring.specs.Rule.{StandAt, slot_place, IsRing}
-use Rattle.sb_ring.proofs.Prefixes.{prefix_snoc, prefix_nil, prefix_length, below, snoc_at, follows_snoc, front_grows, stands_else, stands_snoc}
+use Rattle.sb_ring.proofs.Prefixes.{prefix_snoc, prefix_nil, prefix_length, below, snoc_at, follows_snoc, front_grows, stands_else, stands_found, stands_front, stands_snoc}
 
 -- a place of an item lies in the table
 pub place_fits : (width c k j : ℕ) → 0 < c → j < width → slot_place width c k + j < slots_word + c * width
@@ -45,10 +45,35 @@ module _ {P I : Type 0} (width : ℕ) (enc : I → List ℕ) (enc_length : (x : 
     unpaired = r.unpaired;
   }
 
-  -- the producer stores a word of a slot
-  pub word_stored : (ws : List ℕ) (p q : View P I) (v : ℕ) → IsRing width enc follows c ws p q → length p.items < p.learnt + c → length p.part < width
-      → IsRing width enc follows c (set ws (slot_place width c (length p.items) + length p.part) v) (record p { part = p.part ++ v ∷ [] }) q
-  word_stored ws p q v r room narrow = let i : ℕ = slot_place width c (length p.items) + length p.part in
+  -- the producer loads a word of its free slot, which stands there behind those that it has
+  pub word_found : (ws : List ℕ) (p q : View P I) (v : ℕ) → IsRing width enc follows c ws p q → length p.items < p.learnt + c → length p.part < width
+      → v ≡ get_or ws (slot_place width c (length p.items) + length p.part) 0 → IsRing width enc follows c ws (record p { part = p.part ++ v ∷ [] }) q
+  word_found ws p q v r room narrow is = record {
+    size = r.size;
+    tail = r.tail;
+    head = r.head;
+    in_order = r.in_order;
+    taken = r.taken;
+    known = r.known;
+    room = r.room;
+    stored = r.stored;
+    free = λ _. room;
+    narrow = omega (arith, length-append p.part (v ∷ []));
+    written = stands_found ws (slot_place width c (length p.items)) v p.part is r.written;
+    waits = r.waits;
+    loaded = r.loaded;
+    lawful = r.lawful;
+    one_plan = r.one_plan;
+    told_producer = r.told_producer;
+    told_consumer = r.told_consumer;
+    unpaired = r.unpaired;
+  }
+
+  -- the producer stores another word in place of the last one that it has
+  pub word_replaced : (ws : List ℕ) (p q : View P I) (front : List ℕ) (y v : ℕ) → IsRing width enc follows c ws p q → p.part ≡ front ++ y ∷ []
+      → IsRing width enc follows c (set ws (slot_place width c (length p.items) + length front) v) (record p { part = front ++ v ∷ [] }) q
+  word_replaced ws p q front y v r is = let i : ℕ = slot_place width c (length p.items) + length front in let longer : length p.part ≡ length front + 1 = ap length is ∙ length-append front (y ∷ []) in
+      let some : 0 < length p.part = omega arith in let room = r.free some in let most = r.narrow in let narrow : length front < width = omega arith in
       let long : length q.items ≤ length p.items = prefix_length q.items p.items r.in_order in let t = r.taken in let pos : 0 < c = omega arith in record {
         size = length-set ws i v ∙ r.size;
         tail = let ne : 0 ≢ i = omega arith in get_or-set_other ws i 0 v 0 ne ∙ r.tail;
@@ -58,10 +83,10 @@ module _ {P I : Type 0} (width : ℕ) (enc : I → List ℕ) (enc_length : (x : 
         known = r.known;
         room = r.room;
         stored = λ k x le e. let lt = below p.items k x e in let ne : k ≢ length p.items = omega arith in let near : length p.items < k + c = omega arith in
-            stands_else ws (slot_place width c k) i v (enc x) (λ j h. let hj : j < width = omega (arith, enc_length x) in let le' : k ≤ length p.items = omega arith in place_apart width c k (length p.items) j (length p.part) le' near hj narrow ne) (r.stored k x le e);
+            stands_else ws (slot_place width c k) i v (enc x) (λ j h. let hj : j < width = omega (arith, enc_length x) in let le' : k ≤ length p.items = omega arith in place_apart width c k (length p.items) j (length front) le' near hj narrow ne) (r.stored k x le e);
         free = λ _. room;
-        narrow = omega (arith, length-append p.part (v ∷ []));
-        written = let fits = place_fits width c (length p.items) (length p.part) pos narrow in let s = r.size in let b : i < length ws = omega arith in stands_snoc ws (slot_place width c (length p.items)) v p.part b r.written;
+        narrow = omega (arith, length-append front (v ∷ []));
+        written = let fits = place_fits width c (length p.items) (length front) pos narrow in let s = r.size in let b : i < length ws = omega arith in stands_snoc ws (slot_place width c (length p.items)) v front b (stands_front ws (slot_place width c (length p.items)) y front (subst (λ (part : List ℕ). StandAt ws (slot_place width c (length p.items)) part) is r.written));
         waits = r.waits;
         loaded = r.loaded;
         lawful = r.lawful;

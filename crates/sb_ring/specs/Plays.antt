@@ -5,12 +5,18 @@ use Rattle.sb_packet.specs.Prefixes.{IsPrefix}
 use Rattle.sb_ring.specs.declared.view.View.{View}
 use Rattle.sb_ring.specs.declared.view.Role.TheVariants.{ReceivedNote, SentNote, Spent}
 
+-- a list with another number in place of its last one
+abbrev pub with_last : List ℕ → ℕ → List ℕ
+with_last [] word = []
+with_last (x ∷ []) word = word ∷ []
+with_last (x ∷ y ∷ rest) word = x ∷ with_last (y ∷ rest) word
+
 module _ {P I : Type 0} where
   -- a seat has learnt a count
   abbrev pub with_learnt : View P I → ℕ → View P I
   with_learnt v n = record v { learnt = n }
 
-  -- a seat has stored or loaded these words of its next item
+  -- a seat has these words of its next item
   abbrev pub with_part : View P I → List ℕ → View P I
   with_part v part = record v { part = part }
 
@@ -48,11 +54,16 @@ module _ {S P I : Type 0} where
     pub note_in_order : IsPrefix before.0.told before.0.items
     pub note_within : length before.0.told ≤ count
 
-  -- the producer stored a word of its next item, or the consumer loaded one
-  pub record IsWordStep (before : Me S (View P I)) (word : ℕ) (after : Me S (View P I)) : Type 0 where
+  -- either end loaded the word that stands behind those which it has: the producer in its free slot, the consumer in the
+  -- slot of its next item
+  pub record IsWordLoad (before : Me S (View P I)) (word : ℕ) (after : Me S (View P I)) : Type 0 where
     pub grown : after ≡ (with_part before.0 (before.0.part ++ word ∷ []), before.1)
 
-  -- the producer stored the tail word: the words that it had stored are an item that may be sent there, and it is sent
+  -- the producer stored another word in place of the last one that it has
+  pub record IsWordStore (before : Me S (View P I)) (word : ℕ) (after : Me S (View P I)) : Type 0 where
+    pub replaced : after ≡ (with_part before.0 (with_last before.0.part word), before.1)
+
+  -- the producer stored the tail word: the words that it has are an item that may be sent there, and it is sent
   pub record IsTailStore (spelling : I → List ℕ) (MaySend : P → List I → I → Type 0) (before after : Me S (View P I)) : Type 0 where
     pub item : I
     pub spelt : spelling item ≡ before.0.part
@@ -67,7 +78,7 @@ module _ {S P I : Type 0} where
     pub within : length before.0.items ≤ count
     pub note_within : length before.0.told ≤ count
 
-  -- the consumer stored the head word: the words that it had loaded are an item that might be sent there, and it is received
+  -- the consumer stored the head word: the words that it has are an item that might be sent there, and it is received
   pub record IsHeadStore (spelling : I → List ℕ) (MaySend : P → List I → I → Type 0) (before after : Me S (View P I)) : Type 0 where
     pub item : I
     pub spelt : spelling item ≡ before.0.part

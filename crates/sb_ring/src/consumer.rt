@@ -8,7 +8,7 @@ ghost use Rattle.sb_ring.specs.Sending.{MaySend};
 ghost use Rattle.sb_ring.specs.declared.view.Role.TheVariants.{Consumer};
 
 use crate::layout::{HEAD_WORD, SLOT_WIDTH, TAIL_WORD};
-use crate::plays::{HeadStore, TailLoad, WordStep};
+use crate::plays::{HeadStore, TailLoad, WordLoad};
 use crate::rule::{RingSeat, RingWords};
 use sb_packet::{Item, from_slot};
 
@@ -34,7 +34,7 @@ fn load_word(words: &RingWords, seat: &mut RingSeat, place: usize) -> u64
     ensures table { seat.new.table_id ≡ seat.old.table_id }
     ensures loaded { seat.new.me ≡ (with_part seat.old.me.0 (seat.old.me.0.part ++ result ∷ []), seat.old.me.1) }
 {
-    words.load::<WordStep>(seat, place)
+    words.load::<WordLoad>(seat, place)
 }
 
 /// Loads the words of the slot that begins at a place, one after another.

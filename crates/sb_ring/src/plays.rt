@@ -12,13 +12,22 @@ impl Play<u8, RingView> for HeadLoad {
     ghost then = { λ s before n after. IsHeadLoad before n after };
 }
 
-// the producer stores a word of its next item, or the consumer loads one
-pub(crate) struct WordStep;
+// either end loads the word behind those that it has
+pub(crate) struct WordLoad;
 
-impl Play<u8, RingView> for WordStep {
-    ghost use Rattle.sb_ring.specs.Plays.{IsWordStep};
+impl Play<u8, RingView> for WordLoad {
+    ghost use Rattle.sb_ring.specs.Plays.{IsWordLoad};
 
-    ghost then = { λ s before n after. IsWordStep before n after };
+    ghost then = { λ s before n after. IsWordLoad before n after };
+}
+
+// the producer stores another word in place of the last one that it has
+pub(crate) struct WordStore;
+
+impl Play<u8, RingView> for WordStore {
+    ghost use Rattle.sb_ring.specs.Plays.{IsWordStore};
+
+    ghost then = { λ s before n after. IsWordStore before n after };
 }
 
 // the producer stores the tail word
