@@ -7,7 +7,7 @@ use Rattle.sb_packet.specs.declared.item.Item.{Item}
 use Rattle.sb_link.specs.PlanOf.{plan_of}
 use Rattle.sb_link.specs.declared.plan.LinkPlan.{LinkPlan}
 use Rattle.sb_ring.specs.Plays.{with_item, with_learnt, with_part}
-use Rattle.sb_ring.specs.Sending.{IsSendable, MaySend}
+use Rattle.sb_ring.specs.Sending.{MaySendBy, MaySend}
 use Rattle.sb_ring.specs.declared.view.View.{View}
 
 -- a seat learnt a count, stored or loaded a slot, and sent or received an item
@@ -25,4 +25,4 @@ one_more list item = length-append list (item ∷ [])
 
 -- what may be sent by a known plan may follow by it
 pub may_follow : (some : Option LinkPlan) (plan : LinkPlan) (before : List Item) (item : Item) → some ≡ Some plan → MaySend some before item → MayFollow (plan_of plan) before item
-may_follow some plan before item is may = let sendable : IsSendable plan before item = subst (λ (p : Option LinkPlan). MaySend p before item) is may in sendable.may_follow
+may_follow some plan before item is may = let sendable : MaySendBy plan before item = subst (λ (p : Option LinkPlan). MaySend p before item) is may in sendable.may_follow

@@ -11,14 +11,14 @@ use Rattle.sb_ring.specs.Rule.{IsRuled}
 use Rattle.sb_ring.specs.declared.view.View.{View}
 
 -- an item may be sent after others: the plan lets it follow them, and its slot reads back as this item
-pub record IsSendable (plan : LinkPlan) (before : List Item) (item : Item) : Type 0 where
+pub record MaySendBy (plan : LinkPlan) (before : List Item) (item : Item) : Type 0 where
   pub may_follow : MayFollow (plan_of plan) before item
   pub reads_back : IsSlotOf (slot_of item) item
 
 -- The same by the plan of a view. A note that was read has none, and by it nothing may be sent.
 abbrev pub MaySend : Option LinkPlan → List Item → Item → Type 0
 MaySend None before item = ⊥
-MaySend (Some plan) before item = IsSendable plan before item
+MaySend (Some plan) before item = MaySendBy plan before item
 
 -- the rule of a ring's table
 abbrev pub IsRingTable : LinkPlan → State ℕ (View (Option LinkPlan) Item) → Type 0

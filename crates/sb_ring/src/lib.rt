@@ -10,6 +10,8 @@ mod plays;
 mod producer;
 mod rule;
 mod rx;
+#[cfg(test)]
+mod tests;
 mod tx;
 mod view;
 
