@@ -6,15 +6,18 @@ use Rattle.sb_packet.specs.Traffic.{MayFollow}
 use Rattle.sb_packet.specs.declared.item.Item.{Item}
 use Rattle.sb_link.specs.PlanOf.{plan_of}
 use Rattle.sb_link.specs.declared.plan.LinkPlan.{LinkPlan}
-use Rattle.sb_ring.specs.Plays.{with_item, with_part}
+use Rattle.sb_ring.specs.Plays.{with_item, with_learnt, with_part}
 use Rattle.sb_ring.specs.Sending.{MaySendBy, MaySend}
 use Rattle.sb_ring.specs.declared.view.View.{View}
 
--- a seat stored or loaded a slot, and sent or received an item
-pub seat_after : (m b d : Me ℕ (View (Option LinkPlan) Item)) (slot : List ℕ) (item : Item)
-    → b ≡ (with_part m.0 slot, m.1) → d ≡ (with_item b.0 item, b.1)
-    → d ≡ (with_item (with_part m.0 slot) item, m.1)
-seat_after m b d slot item part more = more ∙ ap (λ (z : Me ℕ (View (Option LinkPlan) Item)). (with_item z.0 item, z.1)) part
+-- a seat learnt a count, stored or loaded a slot, and sent or received an item
+pub seat_after : (m a b d : Me ℕ (View (Option LinkPlan) Item)) (n : ℕ) (slot : List ℕ) (item : Item)
+    → a ≡ (with_learnt m.0 n, m.1) → b ≡ (with_part a.0 slot, a.1) → d ≡ (with_item b.0 item, b.1)
+    → d ≡ (with_item (with_part (with_learnt m.0 n) slot) item, m.1)
+seat_after m a b d n slot item learnt part more =
+    more
+    ∙ ap (λ (z : Me ℕ (View (Option LinkPlan) Item)). (with_item z.0 item, z.1)) part
+    ∙ ap (λ (z : Me ℕ (View (Option LinkPlan) Item)). (with_item (with_part z.0 slot) item, z.1)) learnt
 
 -- a list with one more item is longer by one
 pub one_more : (list : List Item) (item : Item) → length (list ++ item ∷ []) ≡ length list + 1

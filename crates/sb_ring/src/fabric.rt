@@ -95,14 +95,12 @@ fn new_ring(alloc: Global, plan: &LinkPlan) -> Result<(RingTx, RingRx), AllocErr
         table,
         seat: producer,
         sent: 0,
-        taken: 0,
     };
     let rx = RingRx {
         plan: *plan,
         table: other,
         seat: consumer,
         received: 0,
-        known: 0,
     };
     Ok((tx, rx))
 }

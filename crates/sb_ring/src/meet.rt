@@ -28,6 +28,6 @@ pub(crate) fn meet_ends(tx: &mut RingTx, rx: &mut RingRx)
     let sent = note_sent(words, &mut tx.seat);
     read_received(words, &mut tx.seat, received);
     read_sent(words, &mut rx.seat, sent);
-    tx.taken = load_head(words, &mut tx.seat) as u32;
-    rx.known = load_tail(words, &mut rx.seat);
+    load_head(words, &mut tx.seat);
+    load_tail(words, &mut rx.seat);
 }

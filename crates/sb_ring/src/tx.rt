@@ -1,8 +1,8 @@
 //! The sending end of a ring.
 
-ghost use Rattle.std.specs.Prelude.{◌≡◌, ◌+◌, ◌*◌, ◌<◌, ◌≤◌, true, false, [], ◌∷◌, ◌++◌, length, Some};
+ghost use Rattle.std.specs.Prelude.{◌≡◌, ◌+◌, ◌*◌, ◌≤◌, [], length, Some};
 ghost use Rattle.std.specs.Arc.{arc_value};
-ghost use Rattle.sb_packet.specs.Traffic.{AreInTurn, MayFollow};
+ghost use Rattle.sb_packet.specs.Traffic.{AreInTurn};
 ghost use Rattle.sb_link.specs.PlanOf.{plan_of};
 ghost use Rattle.sb_ring.specs.Layout.{slot_width, slots_word};
 ghost use Rattle.sb_ring.specs.declared.view.Role.TheVariants.{Producer};
@@ -23,8 +23,6 @@ pub struct RingTx {
     pub(crate) seat: RingSeat,
     // the number of items that were sent
     pub(crate) sent: u32,
-    // the number of items that were taken, as far as it has learnt
-    pub(crate) taken: u32,
     ghost of_table: { seat.table_id ≡ (arc_value table).shared.table_id },
     ghost size: { (arc_value table).shared.table_id.words ≡ slots_word + plan.capacity * slot_width },
     ghost ruled: { (arc_value table).shared.key ≡ plan },
@@ -32,52 +30,9 @@ pub struct RingTx {
     ghost planned: { seat.me.0.plan ≡ Some plan },
     ghost between: { seat.me.0.part ≡ [] },
     ghost counted: { sent ≡ length seat.me.0.items },
-    ghost learnt: { taken ≡ seat.me.0.learnt },
-    ghost within: { sent ≤ taken + plan.capacity },
-    ghost behind: { taken ≤ sent },
+    ghost within: { sent ≤ seat.me.0.learnt + plan.capacity },
     ghost in_turn: { AreInTurn (plan_of plan) seat.me.0.items },
     ghost few: { sent ≤ plan.budget + 1 },
-}
-
-impl RingTx {
-    // by what it has learnt there is a free place
-    fn has_room(&self) -> bool
-        ensures room { result ≡ true → self.now.sent < self.now.taken + self.now.plan.capacity }
-        ensures full { result ≡ false → self.now.sent ≡ self.now.taken + self.now.plan.capacity }
-    {
-        self.sent - self.taken != u32::from(self.plan.capacity)
-    }
-
-    // learns how many items were taken
-    fn learn_taken(&mut self)
-        ensures plan { self.new.plan ≡ self.old.plan }
-        ensures table { self.new.seat.table_id ≡ self.old.seat.table_id }
-        ensures items { self.new.seat.me.0.items ≡ self.old.seat.me.0.items }
-        ensures sent { self.new.sent ≡ self.old.sent }
-        ensures learnt { self.old.seat.me.0.learnt ≤ self.new.seat.me.0.learnt }
-    {
-        let table = &*self.table;
-        let words = &table.shared;
-        self.taken = load_head(words, &mut self.seat) as u32;
-    }
-
-    // sends an item, where there is a free place
-    fn send(&mut self, item: &Item)
-        requires lawful { MayFollow (plan_of self.old.plan) self.old.seat.me.0.items item.now }
-        requires room { self.old.sent < self.old.taken + self.old.plan.capacity }
-        ensures plan { self.new.plan ≡ self.old.plan }
-        ensures table { self.new.seat.table_id ≡ self.old.seat.table_id }
-        ensures items { self.new.seat.me.0.items ≡ self.old.seat.me.0.items ++ item.now ∷ [] }
-        ensures taken { self.new.seat.me.0.learnt ≡ self.old.seat.me.0.learnt }
-    {
-        let table = &*self.table;
-        let words = &table.shared;
-        let place = SLOTS_WORD + self.sent as usize % usize::from(self.plan.capacity) * SLOT_WIDTH;
-        let slot = to_slot(item);
-        store_slot(words, &mut self.seat, place, &slot);
-        store_tail(words, &mut self.seat, item, u64::from(self.sent + 1));
-        self.sent += 1;
-    }
 }
 
 impl TxEnd for RingTx {
@@ -97,19 +52,21 @@ impl TxEnd for RingTx {
     }
 
     fn try_push(&mut self, item: &Item) -> Push {
-        if self.has_room() {
-            self.send(item);
-            return Push::Done;
+        let table = &*self.table;
+        let words = &table.shared;
+        let taken = load_head(words, &mut self.seat) as u32;
+        if self.sent - taken == u32::from(self.plan.capacity) {
+            return Push::Full {
+                sent: self.sent,
+                taken,
+            };
         }
-        self.learn_taken();
-        if self.has_room() {
-            self.send(item);
-            return Push::Done;
-        }
-        Push::Full {
-            sent: self.sent,
-            taken: self.taken,
-        }
+        let place = SLOTS_WORD + self.sent as usize % usize::from(self.plan.capacity) * SLOT_WIDTH;
+        let slot = to_slot(item);
+        store_slot(words, &mut self.seat, place, &slot);
+        store_tail(words, &mut self.seat, item, u64::from(self.sent + 1));
+        self.sent += 1;
+        Push::Done
     }
 
     // every push publishes its item, so that there is nothing left to publish
