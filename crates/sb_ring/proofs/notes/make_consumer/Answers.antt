@@ -1,0 +1,11 @@
+-- The rule allows the step.
+use Rattle.sb_packet.specs.Slots.{slot_of}
+use Rattle.sb_ring.specs.Layout.{slot_width}
+use Rattle.sb_ring.specs.Sending.{MaySend}
+use Rattle.sb_ring.proofs.Slots.{slot_length}
+use Rattle.sb_ring.proofs.Moves.{pairing_allowed}
+use Rattle.sb_ring.proofs.notes.make_consumer.Goals as goal
+
+pub split_seat-requires : goal.split_seat-requires
+split_seat-requires c = let seat = c.args.seat.now in
+    (c.requires.table, c.requires.size, pairing_allowed slot_width slot_of slot_length MaySend c.args.words.now.key.capacity seat.id seat.me.0 c.requires.role c.requires.unpaired)

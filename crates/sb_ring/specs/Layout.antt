@@ -1,0 +1,18 @@
+-- Where the words of a ring stand in its table.
+use Rattle.std.specs.Prelude.{ℕ}
+
+-- so many words a slot has
+abbrev pub slot_width : ℕ
+slot_width = 8
+
+-- the word with the count of the items sent
+abbrev pub tail_word : ℕ
+tail_word = 0
+
+-- the word with the count of the items received: 64 bytes away from every word that the producer stores
+abbrev pub head_word : ℕ
+head_word = 8
+
+-- the first word of the first slot
+abbrev pub slots_word : ℕ
+slots_word = 16

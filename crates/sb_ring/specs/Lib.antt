@@ -1,0 +1,5 @@
+pub mod Layout
+pub mod Rule
+pub mod Plays
+pub mod Sending
+pub mod RingMarks

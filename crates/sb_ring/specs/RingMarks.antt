@@ -1,0 +1,10 @@
+-- Which ring an end is of.
+use Rattle.std.specs.Prelude.{[], Some}
+use Rattle.atomic_table.specs.Seated.{TableId}
+use Rattle.sb_link.specs.Ends.{Mark}
+use Rattle.sb_link.specs.PlanOf.{plan_of}
+use Rattle.sb_link.specs.declared.plan.LinkPlan.{LinkPlan}
+
+-- the ring's plan and its table
+abbrev pub ring_mark : LinkPlan → TableId → Mark
+ring_mark plan id = record { plan = plan_of plan; table = Some id; handed = []; told = 0 }
