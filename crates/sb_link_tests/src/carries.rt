@@ -3,7 +3,7 @@
 ghost use Rattle.std.specs.Prelude.{◌≡◌, true, not};
 ghost use Rattle.sb_packet.specs.Journals.{is_request};
 ghost use Rattle.sb_packet.specs.Messages.{message_of};
-ghost use Rattle.sb_packet.specs.Traffic.{IsCarriable};
+ghost use Rattle.sb_link.specs.Traffic.{IsCarriable};
 ghost use Rattle.sb_link.specs.PlanOf.{plan_of};
 
 use sb_link::LinkPlan;

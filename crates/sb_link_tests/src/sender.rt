@@ -1,7 +1,7 @@
 //! A sending end that asks of each packet whether it may be sent.
 
 ghost use Rattle.std.specs.Prelude.{◌≡◌, ◌≤◌, false, [], length};
-ghost use Rattle.sb_packet.specs.Traffic.{has_close, item_accesses};
+ghost use Rattle.sb_link.specs.Traffic.{has_close, item_accesses};
 
 use crate::carries::carries;
 use sb_link::{Push, TxEnd};

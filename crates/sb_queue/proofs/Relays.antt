@@ -5,7 +5,7 @@ use mathlib.Core.Option.{some, some-ne-none, some-injective}
 use lib.ListN.{get_elem?}
 use Rattle.crossbeam_queue.specs.Fifo.{Pushes, Pops, Forks, Merges, Learns}
 use Rattle.crossbeam_queue.proofs.Lists.{at_set}
-use Rattle.sb_packet.specs.Traffic.{MayFollow}
+use Rattle.sb_link.specs.Traffic.{MayFollow}
 use Rattle.sb_packet.specs.declared.item.Item.{Item}
 use Rattle.sb_link.specs.PlanOf.{plan_of}
 use Rattle.sb_link.specs.declared.plan.LinkPlan.{LinkPlan}

@@ -2,13 +2,13 @@
 
 ghost use Rattle.std.specs.Prelude.{◌≡◌, ℕ, [], false};
 ghost use Rattle.crossbeam_queue.specs.Passes.{view};
-ghost use Rattle.sb_packet.specs.Prefixes.{IsPrefix};
+ghost use Rattle.sb_link.specs.Prefixes.{IsPrefix};
 
 use crate::make::new_ends;
 use crate::rule::Whole;
 use crate::rx::QueueRx;
 use crate::tx::QueueTx;
-use sb_link::{Fabric, LinkPlan, Shelf};
+use sb_link::{Fabric, LinkPlan, RingRegistry};
 use std::alloc::{AllocError, Global};
 use std::sync::Wait;
 
@@ -16,7 +16,7 @@ use std::sync::Wait;
 #[derive(Drop)]
 pub struct QueueFabric<R: Wait + Copy> {
     rt: R,
-    shelf: Shelf<QueueRx<R>>,
+    registry: RingRegistry<QueueRx<R>>,
 }
 
 impl<R: Wait + Copy + Send> QueueFabric<R> {
@@ -28,7 +28,7 @@ impl<R: Wait + Copy + Send> QueueFabric<R> {
     {
         QueueFabric {
             rt,
-            shelf: Shelf::new(alloc),
+            registry: RingRegistry::new(alloc),
         }
     }
 }
@@ -50,8 +50,8 @@ impl<R: Wait + Copy + Send> Fabric for QueueFabric<R> {
     ghost use Rattle.std.specs.Prelude.{false, is_some, []};
     ghost use Rattle.std.specs.Option.{option_map_or};
     ghost use Rattle.crossbeam_queue.specs.Passes.{view};
-    ghost use Rattle.sb_link.specs.Shelves.{end_of, plans_of};
-    ghost use Rattle.sb_packet.specs.Traffic.{item_accesses};
+    ghost use Rattle.sb_link.specs.Registries.{end_of, plans_of};
+    ghost use Rattle.sb_link.specs.Traffic.{item_accesses};
     ghost use Rattle.sb_packet.specs.declared.item.Item.{Item};
     ghost use Rattle.sb_queue.specs.declared.log.Log.{Log};
 
@@ -59,11 +59,11 @@ impl<R: Wait + Copy + Send> Fabric for QueueFabric<R> {
 
     type Rx = QueueRx<R>;
 
-    ghost made = { λ fabric. plans_of fabric.shelf.rows.items };
+    ghost made = { λ fabric. plans_of fabric.registry.rows.items };
 
-    ghost carried = { λ fabric ring. option_map_or (λ end. item_accesses (view {T = Item} {V = Log} end.pass).received) (end_of fabric.shelf.rows.items ring) [] };
+    ghost carried = { λ fabric ring. option_map_or (λ end. item_accesses (view {T = Item} {V = Log} end.pass).received) (end_of fabric.registry.rows.items ring) [] };
 
-    ghost settled = { λ fabric ring. is_some (end_of fabric.shelf.rows.items ring) };
+    ghost settled = { λ fabric ring. is_some (end_of fabric.registry.rows.items ring) };
 
     ghost prompt = { false };
 
@@ -73,7 +73,7 @@ impl<R: Wait + Copy + Send> Fabric for QueueFabric<R> {
         plan: &LinkPlan,
     ) -> Result<(QueueTx<R>, QueueRx<R>), AllocError> {
         let ends = new_ends(self.rt, alloc, plan)?;
-        self.shelf.add(plan)?;
+        self.registry.add(plan)?;
         Ok(ends)
     }
 
@@ -83,6 +83,6 @@ impl<R: Wait + Copy + Send> Fabric for QueueFabric<R> {
     fn settle(&mut self, tx: QueueTx<R>, mut rx: QueueRx<R>) {
         let ring = tx.plan.ring;
         take_back(tx, &mut rx);
-        self.shelf.keep(ring, rx);
+        self.registry.keep(ring, rx);
     }
 }

@@ -3,7 +3,7 @@
 ghost use Rattle.std.specs.Prelude.{◌≡◌, ◌≤◌, ◌+◌, true, length, Some};
 ghost use Rattle.std.specs.Arc.{arc_value};
 ghost use Rattle.crossbeam_queue.specs.Passes.{view, IsPassOf};
-ghost use Rattle.sb_packet.specs.Traffic.{AreInTurn};
+ghost use Rattle.sb_link.specs.Traffic.{AreInTurn};
 ghost use Rattle.sb_link.specs.PlanOf.{plan_of};
 
 use crate::rule::{QueuePop, RingPass, RingQueue};

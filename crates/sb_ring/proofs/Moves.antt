@@ -7,7 +7,7 @@ use Rattle.atomic_table.specs.Table.{State, Me, keeps, Allows, Splits, Joins, op
 use Rattle.atomic_table.proofs.Lists.{at_last, at_longer, at_set, set_again}
 use Rattle.sb_ring.specs.declared.view.View.{View}
 use Rattle.sb_ring.specs.declared.view.Role.TheVariants.{Producer, Consumer, ReceivedNote, SentNote}
-use Rattle.sb_packet.specs.Prefixes.{IsPrefix}
+use Rattle.sb_link.specs.Prefixes.{IsPrefix}
 use Rattle.sb_ring.specs.Layout.{head_word, slots_word, tail_word}
 use Rattle.sb_ring.specs.Rule.{IsRing, IsRuled, IsSeat, new_consumer, new_producer, slot_place}
 use Rattle.sb_ring.specs.Plays.{note_of_received, note_of_sent, read_note, with_told, with_consumer, with_last, with_part, IsHeadLoad, IsWordLoad, IsWordStore, IsTailStore, IsTailLoad, IsHeadStore}

@@ -5,7 +5,7 @@ use Rattle.std.proofs.Math.Seq.{get_or-append_seam}
 use Rattle.std.proofs.lemmas.Bool.{cases_lt}
 use mathlib.Core.Option.{some, some-injective, some-ne-none}
 use lib.ListN.{get_elem?}
-use Rattle.sb_packet.specs.Prefixes.{IsPrefix}
+use Rattle.sb_link.specs.Prefixes.{IsPrefix}
 use Rattle.sb_ring.specs.Plays.{with_last}
 use Rattle.sb_ring.specs.Rule.{StandAt}
 

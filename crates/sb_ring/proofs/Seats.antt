@@ -4,7 +4,7 @@ use mathlib.Core.Option.{Option, some, some-injective}
 use lib.ListN.{get_elem?}
 use Rattle.atomic_table.specs.Table.{State}
 use Rattle.atomic_table.proofs.Lists.{at_set, set_else, set_here}
-use Rattle.sb_packet.specs.Prefixes.{IsPrefix}
+use Rattle.sb_link.specs.Prefixes.{IsPrefix}
 use Rattle.sb_ring.specs.declared.view.View.{View}
 use Rattle.sb_ring.specs.declared.view.Role.TheVariants.{Producer, Consumer}
 use Rattle.sb_ring.specs.Rule.{IsRing, IsRuled, IsSeat}

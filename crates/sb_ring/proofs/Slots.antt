@@ -1,11 +1,10 @@
 -- What the slots of items have in common.
 use Rattle.std.proofs.Common.{◌≡◌, ℕ, List, length, refl, subst, sym, ◌∙◌}
 use Rattle.std.specs.Prelude.{Option, Some, None, Result, Ok}
-use Rattle.sb_packet.proofs.SlotLaws.{one_item}
-use Rattle.sb_packet.specs.Slots.{IsSlotOf}
+use Rattle.sb_slot.proofs.SlotLaws.{one_item}
+use Rattle.sb_slot.specs.Slots.{IsSlotOf, slot_of}
 use Rattle.sb_link.specs.declared.plan.LinkPlan.{LinkPlan}
 use Rattle.sb_ring.specs.Sending.{MaySend}
-use Rattle.sb_packet.specs.Slots.{slot_of}
 use Rattle.sb_packet.specs.declared.item.Item.{Item}
 use Rattle.sb_packet.specs.declared.item.Item.TheVariants as items
 use Rattle.sb_ring.specs.Layout.{slot_width}

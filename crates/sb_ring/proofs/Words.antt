@@ -5,7 +5,7 @@ use Rattle.std.proofs.lemmas.Nat.{same_from_place, mul-add-lt}
 use Rattle.std.proofs.Math.Nat.{mod-lt, mul_comm}
 use Rattle.atomic_table.proofs.Lists.{one_turn}
 use Rattle.sb_ring.specs.declared.view.View.{View}
-use Rattle.sb_packet.specs.Prefixes.{IsPrefix}
+use Rattle.sb_link.specs.Prefixes.{IsPrefix}
 use Rattle.sb_ring.specs.Layout.{head_word, slots_word}
 use Rattle.sb_ring.specs.Rule.{StandAt, slot_place, IsRing}
 use Rattle.sb_ring.proofs.Prefixes.{prefix_snoc, prefix_nil, prefix_length, below, snoc_at, follows_snoc, front_grows, stands_else, stands_found, stands_front, stands_snoc}

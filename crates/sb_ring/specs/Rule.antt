@@ -6,7 +6,7 @@ use Rattle.std.specs.Prelude.{◌≡◌, ℕ, ◌+◌, ◌*◌, ◌%◌, ◌<◌
 use mathlib.Core.Option.{some}
 use lib.ListN.{get_elem?}
 use Rattle.atomic_table.specs.Table.{State}
-use Rattle.sb_packet.specs.Prefixes.{IsPrefix}
+use Rattle.sb_link.specs.Prefixes.{IsPrefix}
 use Rattle.sb_ring.specs.Layout.{head_word, slots_word, tail_word}
 use Rattle.sb_ring.specs.declared.view.View.{View}
 use Rattle.sb_ring.specs.declared.view.Role.TheVariants.{Producer, Consumer, ReceivedNote, SentNote}

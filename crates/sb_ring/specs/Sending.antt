@@ -1,8 +1,8 @@
 -- What may be sent over a ring of this crate, and the rule of its table.
 use Rattle.std.specs.Prelude.{ℕ, List, Option, Some, None}
 use Rattle.atomic_table.specs.Table.{State}
-use Rattle.sb_packet.specs.Slots.{IsSlotOf, slot_of}
-use Rattle.sb_packet.specs.Traffic.{MayFollow}
+use Rattle.sb_slot.specs.Slots.{IsSlotOf, slot_of}
+use Rattle.sb_link.specs.Traffic.{MayFollow}
 use Rattle.sb_packet.specs.declared.item.Item.{Item}
 use Rattle.sb_link.specs.PlanOf.{plan_of}
 use Rattle.sb_link.specs.declared.plan.LinkPlan.{LinkPlan}

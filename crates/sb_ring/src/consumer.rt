@@ -10,7 +10,8 @@ ghost use Rattle.sb_ring.specs.declared.view.Role.TheVariants.{Consumer};
 use crate::layout::{HEAD_WORD, SLOT_WIDTH, TAIL_WORD};
 use crate::plays::{HeadStore, TailLoad, WordLoad};
 use crate::rule::{RingSeat, RingWords};
-use sb_packet::{Item, from_slot};
+use sb_packet::Item;
+use sb_slot::from_slot;
 
 /// Loads the count of the items that were sent.
 pub(crate) fn load_tail(words: &RingWords, seat: &mut RingSeat) -> u64

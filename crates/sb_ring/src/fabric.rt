@@ -1,7 +1,7 @@
 //! What makes rings whose ends may be on two threads.
 
 ghost use Rattle.std.specs.Prelude.{◌≡◌, ◌+◌, ◌*◌, ◌≤◌, ◌<◌, ℕ, [], false, replicate, length, IfOk, Some};
-ghost use Rattle.sb_packet.specs.Prefixes.{IsPrefix};
+ghost use Rattle.sb_link.specs.Prefixes.{IsPrefix};
 ghost use Rattle.sb_link.specs.Ends.{HaveMet};
 ghost use Rattle.sb_ring.specs.Layout.{slot_width, slots_word};
 
@@ -11,14 +11,14 @@ use crate::notes::make_consumer;
 use crate::rule::RingTable;
 use crate::rx::RingRx;
 use crate::tx::RingTx;
-use sb_link::{Fabric, LinkPlan, MeetFabric, Shelf};
+use sb_link::{Fabric, LinkPlan, MeetFabric, RingRegistry};
 use std::alloc::{AllocError, Global};
 use std::sync::Arc;
 
 /// Makes rings whose ends may be on two threads. What either end knows of the other is what it loaded last.
 #[derive(Drop)]
 pub struct RingFabric {
-    shelf: Shelf<RingRx>,
+    registry: RingRegistry<RingRx>,
 }
 
 impl RingFabric {
@@ -29,7 +29,7 @@ impl RingFabric {
         ensures prompt { ⟦<RingFabric as Fabric>⟧.prompt ≡ false }
     {
         RingFabric {
-            shelf: Shelf::new(alloc),
+            registry: RingRegistry::new(alloc),
         }
     }
 }
@@ -37,25 +37,25 @@ impl RingFabric {
 impl Fabric for RingFabric {
     ghost use Rattle.std.specs.Prelude.{false, is_some, []};
     ghost use Rattle.std.specs.Option.{option_map_or};
-    ghost use Rattle.sb_link.specs.Shelves.{end_of, plans_of};
-    ghost use Rattle.sb_packet.specs.Traffic.{item_accesses};
+    ghost use Rattle.sb_link.specs.Registries.{end_of, plans_of};
+    ghost use Rattle.sb_link.specs.Traffic.{item_accesses};
     ghost use Rattle.sb_ring.specs.declared.rx.RingRx.{RingRx};
 
     type Tx = RingTx;
 
     type Rx = RingRx;
 
-    ghost made = { λ fabric. plans_of fabric.shelf.rows.items };
+    ghost made = { λ fabric. plans_of fabric.registry.rows.items };
 
-    ghost carried = { λ fabric ring. option_map_or (λ (end : RingRx). item_accesses end.seat.me.0.items) (end_of fabric.shelf.rows.items ring) [] };
+    ghost carried = { λ fabric ring. option_map_or (λ (end : RingRx). item_accesses end.seat.me.0.items) (end_of fabric.registry.rows.items ring) [] };
 
-    ghost settled = { λ fabric ring. is_some (end_of fabric.shelf.rows.items ring) };
+    ghost settled = { λ fabric ring. is_some (end_of fabric.registry.rows.items ring) };
 
     ghost prompt = { false };
 
     fn make(&mut self, alloc: Global, plan: &LinkPlan) -> Result<(RingTx, RingRx), AllocError> {
         let ends = new_ring(alloc, plan)?;
-        self.shelf.add(plan)?;
+        self.registry.add(plan)?;
         Ok(ends)
     }
 
@@ -64,7 +64,7 @@ impl Fabric for RingFabric {
 
     fn settle(&mut self, mut tx: RingTx, mut rx: RingRx) {
         meet_ends(&mut tx, &mut rx);
-        self.shelf.keep(tx.plan.ring, rx);
+        self.registry.keep(tx.plan.ring, rx);
     }
 }
 

@@ -34,7 +34,7 @@ impl Play<u8, RingView> for WordStore {
 pub(crate) struct TailStore;
 
 impl Play<u8, RingView> for TailStore {
-    ghost use Rattle.sb_packet.specs.Slots.{slot_of};
+    ghost use Rattle.sb_slot.specs.Slots.{slot_of};
     ghost use Rattle.sb_ring.specs.Plays.{IsTailStore};
     ghost use Rattle.sb_ring.specs.Sending.{MaySend};
 
@@ -54,7 +54,7 @@ impl Play<u8, RingView> for TailLoad {
 pub(crate) struct HeadStore;
 
 impl Play<u8, RingView> for HeadStore {
-    ghost use Rattle.sb_packet.specs.Slots.{slot_of};
+    ghost use Rattle.sb_slot.specs.Slots.{slot_of};
     ghost use Rattle.sb_ring.specs.Plays.{IsHeadStore};
     ghost use Rattle.sb_ring.specs.Sending.{MaySend};
 

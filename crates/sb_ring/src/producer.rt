@@ -2,7 +2,7 @@
 
 ghost use Rattle.std.specs.Prelude.{◌≡◌, ◌+◌, ◌*◌, ◌<◌, ◌≤◌, [], ◌∷◌, ◌++◌, length, Some};
 ghost use Rattle.sb_link.specs.declared.plan.LinkPlan.{LinkPlan};
-ghost use Rattle.sb_packet.specs.Slots.{slot_of, IsSlotOf};
+ghost use Rattle.sb_slot.specs.Slots.{slot_of, IsSlotOf};
 ghost use Rattle.sb_packet.specs.declared.item.Item.{Item};
 ghost use Rattle.sb_ring.specs.Layout.{head_word, slot_width};
 ghost use Rattle.sb_ring.specs.Plays.{with_item, with_last, with_part, IsHeadLoad};
@@ -13,7 +13,8 @@ ghost use Rattle.sb_ring.specs.declared.view.Role.TheVariants.{Producer};
 use crate::layout::{HEAD_WORD, SLOT_WIDTH, TAIL_WORD};
 use crate::plays::{HeadLoad, TailStore, WordLoad, WordStore};
 use crate::rule::{RingSeat, RingWords};
-use sb_packet::{Item, to_slot};
+use sb_packet::Item;
+use sb_slot::to_slot;
 
 /// Loads the count of the items that were taken.
 pub(crate) fn load_head(words: &RingWords, seat: &mut RingSeat) -> u64

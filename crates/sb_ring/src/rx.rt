@@ -2,7 +2,7 @@
 
 ghost use Rattle.std.specs.Prelude.{◌≡◌, ◌+◌, ◌*◌, ◌≤◌, [], length, Some};
 ghost use Rattle.std.specs.Arc.{arc_value};
-ghost use Rattle.sb_packet.specs.Traffic.{AreInTurn};
+ghost use Rattle.sb_link.specs.Traffic.{AreInTurn};
 ghost use Rattle.sb_link.specs.PlanOf.{plan_of};
 ghost use Rattle.sb_ring.specs.Layout.{slot_width, slots_word};
 ghost use Rattle.sb_ring.specs.declared.view.Role.TheVariants.{Consumer};

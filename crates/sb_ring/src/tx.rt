@@ -2,7 +2,7 @@
 
 ghost use Rattle.std.specs.Prelude.{◌≡◌, ◌+◌, ◌*◌, ◌≤◌, [], length, Some};
 ghost use Rattle.std.specs.Arc.{arc_value};
-ghost use Rattle.sb_packet.specs.Traffic.{AreInTurn};
+ghost use Rattle.sb_link.specs.Traffic.{AreInTurn};
 ghost use Rattle.sb_link.specs.PlanOf.{plan_of};
 ghost use Rattle.sb_ring.specs.Layout.{slot_width, slots_word};
 ghost use Rattle.sb_ring.specs.declared.view.Role.TheVariants.{Producer};
@@ -11,7 +11,8 @@ use crate::layout::{SLOT_WIDTH, SLOTS_WORD};
 use crate::producer::{load_head, store_slot, store_tail};
 use crate::rule::{RingSeat, RingTable};
 use sb_link::{LinkPlan, Push, TxEnd};
-use sb_packet::{Item, to_slot};
+use sb_packet::Item;
+use sb_slot::to_slot;
 use std::sync::Arc;
 
 /// The sending end of a ring. It may be on another thread than the receiving end.

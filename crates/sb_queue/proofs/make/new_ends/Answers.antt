@@ -1,6 +1,6 @@
 -- A new queue meets the rule, and nothing is in turn.
 use Rattle.std.proofs.Common.{List, sym, subst}
-use Rattle.sb_packet.specs.Traffic.{AreInTurn}
+use Rattle.sb_link.specs.Traffic.{AreInTurn}
 use Rattle.sb_packet.specs.declared.item.Item.{Item}
 use Rattle.sb_link.specs.PlanOf.{plan_of}
 use Rattle.sb_link.proofs.InTurn.{nothing_in_turn}

@@ -2,7 +2,7 @@
 use Rattle.std.proofs.Common.{ap, sym, ◌∙◌, length, subst}
 use Rattle.sb_packet.specs.declared.item.Item.{Item}
 use Rattle.sb_ring.specs.Plays.{with_item}
-use Rattle.sb_packet.specs.Slots.{slot_of}
+use Rattle.sb_slot.specs.Slots.{slot_of}
 use Rattle.sb_ring.specs.Layout.{slot_width}
 use Rattle.sb_ring.specs.Sending.{MaySend}
 use Rattle.sb_ring.proofs.Slots.{one_ok, read_as, slot_length}

@@ -4,8 +4,8 @@ use Rattle.std.proofs.lemmas.List.{length-replicate}
 use Rattle.std.proofs.Math.ListN.{replicate}
 use Rattle.std.specs.Prelude.{Option, Some}
 use Rattle.atomic_table.specs.Table.{Me}
-use Rattle.sb_packet.specs.Slots.{slot_of}
-use Rattle.sb_packet.specs.Traffic.{AreInTurn}
+use Rattle.sb_slot.specs.Slots.{slot_of}
+use Rattle.sb_link.specs.Traffic.{AreInTurn}
 use Rattle.sb_packet.specs.declared.item.Item.{Item}
 use Rattle.sb_link.specs.PlanOf.{plan_of}
 use Rattle.sb_link.specs.declared.plan.LinkPlan.{LinkPlan}

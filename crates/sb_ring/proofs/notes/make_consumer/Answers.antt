@@ -1,5 +1,5 @@
 -- The rule allows the step.
-use Rattle.sb_packet.specs.Slots.{slot_of}
+use Rattle.sb_slot.specs.Slots.{slot_of}
 use Rattle.sb_ring.specs.Layout.{slot_width}
 use Rattle.sb_ring.specs.Sending.{MaySend}
 use Rattle.sb_ring.proofs.Slots.{slot_length}

@@ -1,7 +1,7 @@
 -- The rule allows the step, and the item whose words were stored is the one that is sent.
 use Rattle.std.proofs.Common.{arith, ap, sym, ◌∙◌}
 use Rattle.sb_packet.specs.declared.item.Item.{Item}
-use Rattle.sb_packet.specs.Slots.{slot_of}
+use Rattle.sb_slot.specs.Slots.{slot_of}
 use Rattle.sb_ring.specs.Layout.{slot_width}
 use Rattle.sb_ring.specs.Sending.{MaySend}
 use Rattle.sb_ring.proofs.Moves.{tail_store_allowed}

@@ -1,10 +1,10 @@
 -- The packet may follow, and what is counted stays counted.
 use Rattle.std.proofs.Common.{◌≡◌, arith, subst, ap, refl}
-use Rattle.sb_packet.specs.Plans.{RingPlan}
+use Rattle.sb_link.specs.RingPlans.{RingPlan}
 use Rattle.sb_packet.specs.declared.item.Item.TheVariants as items
 use Rattle.sb_packet.specs.Messages.{message_of}
 use Rattle.sb_packet.specs.declared.packet.Packet.{Packet}
-use Rattle.sb_packet.specs.Traffic.{IsCarriable}
+use Rattle.sb_link.specs.Traffic.{IsCarriable}
 use Rattle.sb_link.proofs.Pushes.{open_after, words_after, packet_words}
 use Rattle.sb_link_tests.proofs.sender.Sender.push.Goals as goal
 

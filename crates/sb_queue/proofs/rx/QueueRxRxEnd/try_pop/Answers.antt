@@ -1,7 +1,7 @@
 -- The rule allows the pop, and the end keeps what it says of itself.
 use Rattle.std.proofs.Common.{◌≡◌, List, [], ◌∷◌, ◌++◌, arith, ap, sym, subst}
 use Rattle.crossbeam_queue.specs.Passes.{view}
-use Rattle.sb_packet.specs.Traffic.{AreInTurn}
+use Rattle.sb_link.specs.Traffic.{AreInTurn}
 use Rattle.sb_packet.specs.declared.item.Item.{Item}
 use Rattle.sb_link.specs.PlanOf.{plan_of}
 use Rattle.sb_link.proofs.InTurn.{appended_in_turn, few_before}
