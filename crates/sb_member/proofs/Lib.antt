@@ -4,3 +4,4 @@ pub mod RingsJoined
 pub mod Turned
 pub mod Dealt
 pub mod DealtRings
+pub mod Dealing

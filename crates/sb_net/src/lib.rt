@@ -3,11 +3,12 @@
 
 mod collecting;
 mod groups;
-mod net;
-mod settling;
 pub mod ending_laws;
 mod making;
+mod net;
 mod running;
 pub mod spending_laws;
 pub mod standing_laws;
 pub mod standstill_laws;
+
+pub use net::{Net, build};
