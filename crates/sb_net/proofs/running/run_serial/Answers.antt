@@ -103,16 +103,19 @@ collect-requires-clause-room g c κs within =
     has_room network first start number collected joints before journal u turned after gone c.turn_all.ensures.whole meets.met meets.all_met
 
 pub loop-number-preserved : goal.loop-number-preserved
-loop-number-preserved g c = (c.meet_rings.ensures.count ∙ c.turn_all.ensures.one, λ network ready.
-    let u = c.loop-number.invariant.1 network ready in
-    let before = dealt_nodes (grouped_nodes c.loop-number.groups) in
-    let turned = dealt_nodes (grouped_nodes c.turn_all.new.groups) in
-    let gone : HasGone c.loop-number.number before turned true = subst (HasGone c.loop-number.number before turned) c.if-not-turn_all.false c.turn_all.ensures.gone in
-    let after = dealt_nodes (grouped_nodes c.meet_rings.new.groups) in
-    let meets = c.meet_rings.ensures in
-    let new = c.collect.ensures in
-    round_goes_on network c.args.first c.args.journal.now.spare c.loop-number.number c.loop-number.collected c.args.joints.now before c.loop-number.journal u
-    turned after gone c.turn_all.ensures.whole meets.met meets.all_met c.collect.new.collected c.collect.new.journal new.collected new.entries new.spare)
+loop-number-preserved g c = (
+  c.meet_rings.ensures.count ∙ c.turn_all.ensures.one,
+  λ network ready.
+      let u = c.loop-number.invariant.1 network ready in
+      let before = dealt_nodes (grouped_nodes c.loop-number.groups) in
+      let turned = dealt_nodes (grouped_nodes c.turn_all.new.groups) in
+      let gone : HasGone c.loop-number.number before turned true = subst (HasGone c.loop-number.number before turned) c.if-not-turn_all.false c.turn_all.ensures.gone in
+      let after = dealt_nodes (grouped_nodes c.meet_rings.new.groups) in
+      let meets = c.meet_rings.ensures in
+      let new = c.collect.ensures in
+      round_goes_on network c.args.first c.args.journal.now.spare c.loop-number.number c.loop-number.collected c.args.joints.now before c.loop-number.journal u
+      turned after gone c.turn_all.ensures.whole meets.met meets.all_met c.collect.new.collected c.collect.new.journal new.collected new.entries new.spare,
+)
 
 pub returns-clause-run : goal.returns-clause-run
 returns-clause-run g c = λ network ready.
