@@ -1,5 +1,5 @@
 -- The laws of networks of nodes, at the example's nodes: in its last round that moved, at the meeting after it, and in the round after that, in which none moved.
-use Rattle.std.proofs.Common.{◌≡◌, ◌≤◌, ◌<◌, ◌-◌, ◌^◌, ℕ, true, Global, List, [], length, lit<, refl, suc, false}
+use Rattle.std.proofs.Common.{◌≡◌, ◌≤◌, ◌<◌, ◌-◌, ◌^◌, true, Global, List, [], length, lit<, refl, suc, false}
 use Rattle.std.specs.Prelude.{◌++◌, All, IsTrue}
 use Rattle.std.proofs.lemmas.List.Elements.{All-from_recursion}
 use Rattle.sb_packet.specs.Journals.{is_in_round_order}

@@ -1,15 +1,10 @@
 -- Round by round the run goes on, and ends where no node moved.
-use Rattle.std.proofs.Common.{◌≡◌, ◌<◌, ◌+◌, ◌^◌, ◌-◌, ◌≤◌, ◌∙◌, Bool, true, false, length, sym, subst, arith}
-use Rattle.std.specs.Prelude.{All}
-use Rattle.sb_packet.specs.Networks.{Network}
+use Rattle.std.proofs.Common.{◌<◌, ◌+◌, ◌^◌, ◌≤◌, ◌∙◌, true, length, subst, arith}
 use Rattle.sb_member.specs.Groups.{dealt_nodes, grouped_nodes}
-use Rattle.sb_member.specs.Joints.{IsJoined}
-use Rattle.sb_member.specs.Members.{IsWholeMember}
 use Rattle.sb_member.proofs.Dealt.{total_of}
-use Rattle.sb_net.specs.Running.{HasGone, HasRun, IsReady}
+use Rattle.sb_net.specs.Running.{HasGone}
 use Rattle.sb_net.proofs.LaterNets.{stands_turned}
-use Rattle.sb_net.proofs.SpendingBounds.{some_node}
-use Rattle.sb_net.proofs.UnderWay.{IsUnderWay, device_range, has_room, never_so_late, nodes_fit, none_fewer, ready_starts, round_ends, round_goes_on}
+use Rattle.sb_net.proofs.UnderWay.{device_range, has_room, never_so_late, nodes_fit, none_fewer, round_ends, round_goes_on}
 use Rattle.sb_net.proofs.running.run_serial.Goals as goal
 
 pub turn_all-requires-clause-whole : goal.turn_all-requires-clause-whole
