@@ -46,19 +46,19 @@ module _ (F T U : Type 0) (heap : Global) where
   networks_stand_on_linked = linked small_joints (end_nodes F T U heap) (small_has_met F T U (end_state heap) (end_is_a_state heap))
 
   -- What the round served is recorded: it served nothing more. The journal stays in the order of rounds.
-  abbrev fresh_entries : List Entry
-  fresh_entries = new_entries small (entry_counts small (late_nodes F T U heap)) (end_nodes F T U heap)
+  abbrev added_entries : List Entry
+  added_entries = new_entries small (entry_counts small (late_nodes F T U heap)) (end_nodes F T U heap)
 
-  pub rounds_are_recorded : IsRecorded small (steps ++ fresh_entries) (end_nodes F T U heap)
+  pub rounds_are_recorded : IsRecorded small (steps ++ added_entries) (end_nodes F T U heap)
   rounds_are_recorded = recorded_on small small_joints 4 (late_nodes F T U heap) (turned_nodes F T U heap) (end_nodes F T U heap) host_moved true late_stands (moving_net_round F T U heap) (ends_meet F T U heap) steps (late_is_recorded F T U heap)
 
-  pub rounds_are_recorded_rounds : All (λ e. e.round ≡ 4) fresh_entries
+  pub rounds_are_recorded_rounds : All (λ e. e.round ≡ 4) added_entries
   rounds_are_recorded_rounds = new_rounds small small_joints 4 (late_nodes F T U heap) (turned_nodes F T U heap) (end_nodes F T U heap) host_moved true late_stands (moving_net_round F T U heap) (ends_meet F T U heap)
 
   earlier : All (λ e. e.round < 4) steps
   earlier = All-from_recursion (λ e. e.round < 4) steps (lit< tt, (lit< tt, (lit< tt, tt)))
 
-  pub rounds_are_recorded_in_order : IsTrue (is_in_round_order (steps ++ fresh_entries))
+  pub rounds_are_recorded_in_order : IsTrue (is_in_round_order (steps ++ added_entries))
   rounds_are_recorded_in_order = ordered_on small small_joints 4 (late_nodes F T U heap) (turned_nodes F T U heap) (end_nodes F T U heap) host_moved true late_stands (moving_net_round F T U heap) (ends_meet F T U heap) steps refl earlier
 
   pub rounds_are_recorded_none : new_entries small (entry_counts small (end_nodes F T U heap)) (end_nodes F T U heap) ≡ []
