@@ -38,7 +38,8 @@ use Rattle.sb_net.specs.Over.{HasFinalMemory, IsOver, TellsOutcomes}
 use Rattle.sb_net.specs.Recorded.{IsRecorded, member_entries}
 use Rattle.sb_net.specs.RingEnds.{net_moment, net_round_end, port_here, ring_here}
 use Rattle.sb_net.specs.Standing.{IsDeviceNode, IsHostNode, StandsFor, device_number}
-use Rattle.sb_net.proofs.EndingRings.{node_done, node_whole, port_told, ring_found, ring_stands}
+use Rattle.sb_net.proofs.EndingRings.{node_done, node_whole, port_told, ring_found}
+use Rattle.sb_net.proofs.StandingEnds.{ring_stands}
 
 module _ {F T U : Type 0} where
   -- a host has one port and one ring

@@ -1,23 +1,20 @@
 -- The ports and rings of a network's nodes once each ring has given its Close.
-use Rattle.std.proofs.Common.{◌≡◌, ℕ, zero, suc, ◌<◌, Bool, true, false, List, [], ◌∷◌, ◌++◌, length, refl, sym, ap, ◌∙◌, subst, arith}
-use Rattle.std.specs.Prelude.{◌&&◌, nat_lt, slice_index_or, if◌then◌else◌}
+use Rattle.std.proofs.Common.{◌≡◌, ℕ, zero, suc, ◌<◌, Bool, true, false, List, [], ◌∷◌, length, refl, sym, ap, ◌∙◌, arith}
+use Rattle.std.specs.Prelude.{◌&&◌, slice_index_or}
 use Rattle.std.specs.List.{list_all}
-use Rattle.std.proofs.lemmas.Bool.Decides.{nat_tests}
-use Rattle.std.proofs.lemmas.List.Elements.{All-append, All-get_or}
+use Rattle.std.proofs.lemmas.List.Elements.{All-get_or}
 use Rattle.sb_link.specs.Traffic.{has_close}
-use Rattle.sb_port.specs.Ports.{IsFit, PortSide}
+use Rattle.sb_port.specs.Ports.{PortSide}
 use Rattle.sb_node.specs.Sides.{RingSide, has_ended, is_done}
 use Rattle.sb_router.specs.Lanes.{no_port, no_ring}
-use Rattle.sb_router.specs.Whole.{IsWholeOutlet}
 use Rattle.sb_member.specs.Ends.{port_at, ports_of, ring_at, rings_of}
-use Rattle.sb_member.specs.Joints.{IsJoined, joint_at, no_node, node_at, receiver_of, sender_of}
+use Rattle.sb_member.specs.Joints.{IsJoined, joint_at, no_node, node_at}
 use Rattle.sb_member.specs.Members.{IsWholeMember}
 use Rattle.sb_member.specs.declared.joint.Joint.{Joint}
 use Rattle.sb_member.specs.declared.member.Member.{Member}
-use Rattle.sb_member.specs.declared.member.Member.TheVariants.{Host, Router, Device}
-use Rattle.sb_member.proofs.EndsChanged.{below_one}
 use Rattle.sb_net.specs.RingEnds.{port_here, ring_here}
 use Rattle.sb_net.specs.Standing.{IsCovered}
+use Rattle.sb_net.proofs.StandingEnds.{fits, port_stands, ring_stands}
 
 pub both : (a b : Bool) → a ≡ true → b ≡ true → (a && b) ≡ true
 both a b first second = ap (λ (c : Bool). c && b) first ∙ second
@@ -37,34 +34,20 @@ passes_each test [] none h k lt = absurd (omega (arith, lt))
 passes_each test (x ∷ xs) none h zero lt = (halves (test x) (list_all test xs) h).0
 passes_each test (x ∷ xs) none h (suc k) lt = passes_each test xs none (halves (test x) (list_all test xs) h).1 k (omega (arith, lt))
 
-module _ {F T U : Type 0} where
-  -- each port of a whole node is fit
-  pub whole_fits : (x : Member F T U) (o : ℕ) → IsWholeMember x → o < length (ports_of x) → IsFit (port_at x o).plan (port_at x o).state
-  whole_fits (Host h) o w lt = subst (λ k. IsFit (slice_index_or (h.requests ∷ []) k no_port).plan (slice_index_or (h.requests ∷ []) k no_port).state) (sym (below_one o lt)) w.fit
-  whole_fits (Router r) o w lt = (All-get_or IsWholeOutlet (r.requests.lane.outlets ++ r.answers.lane.outlets) o no_port lt
-      (All-append IsWholeOutlet r.requests.lane.outlets r.answers.lane.outlets w.requests.outlets w.answers.outlets)).fit
-  whole_fits (Device d) o w lt = subst (λ k. IsFit (slice_index_or (d.answers ∷ []) k no_port).plan (slice_index_or (d.answers ∷ []) k no_port).state) (sym (below_one o lt)) w.fit
-
 module _ {F T U : Type 0} (joints : List Joint) (nodes : List (Member F T U)) where
-  pub port_stands : (r : ℕ) → r < length joints → port_here joints nodes r ≡ sender_of nodes (joint_at joints r)
-  port_stands r lt = let is : nat_lt r (length joints) ≡ true = grind (arith, nat_tests) in ap (λ b. if b then sender_of nodes (joint_at joints r) else no_port) is
-
-  pub ring_stands : (r : ℕ) → r < length joints → ring_here joints nodes r ≡ receiver_of nodes (joint_at joints r)
-  ring_stands r lt = let is : nat_lt r (length joints) ≡ true = grind (arith, nat_tests) in ap (λ b. if b then receiver_of nodes (joint_at joints r) else no_ring) is
-
   module _ (covered : IsCovered joints nodes) where
     -- what stands at the ring of each port of each node is that port, and the same of its rings
     pub port_found : (k o : ℕ) → k < length nodes → o < length (ports_of (node_at nodes k)) → port_here joints nodes (port_at (node_at nodes k) o).plan.ring ≡ port_at (node_at nodes k) o
     port_found k o node place =
         let at = covered.ports k o node place in
         let j = joint_at joints (port_at (node_at nodes k) o).plan.ring in
-        port_stands (port_at (node_at nodes k) o).plan.ring at.ring ∙ ap (λ n. port_at (node_at nodes n) j.out) at.from ∙ ap (port_at (node_at nodes k)) at.out
+        port_stands joints nodes (port_at (node_at nodes k) o).plan.ring at.ring ∙ ap (λ n. port_at (node_at nodes n) j.out) at.from ∙ ap (port_at (node_at nodes k)) at.out
 
     pub ring_found : (k i : ℕ) → k < length nodes → i < length (rings_of (node_at nodes k)) → ring_here joints nodes (ring_at (node_at nodes k) i).plan.ring ≡ ring_at (node_at nodes k) i
     ring_found k i node place =
         let at = covered.rings k i node place in
         let j = joint_at joints (ring_at (node_at nodes k) i).plan.ring in
-        ring_stands (ring_at (node_at nodes k) i).plan.ring at.ring ∙ ap (λ n. ring_at (node_at nodes n) j.into) at.to ∙ ap (ring_at (node_at nodes k)) at.into
+        ring_stands joints nodes (ring_at (node_at nodes k) i).plan.ring at.ring ∙ ap (λ n. ring_at (node_at nodes n) j.into) at.to ∙ ap (ring_at (node_at nodes k)) at.into
 
     module _ (joined : IsJoined joints nodes)
         (closed : (r : ℕ) → r < length joints → has_close (port_here joints nodes r).state.sent ≡ true)
@@ -75,11 +58,11 @@ module _ {F T U : Type 0} (joints : List Joint) (nodes : List (Member F T U)) wh
       -- each port has sent its Close, and each ring has given its own
       pub port_shut : (k o : ℕ) → k < length nodes → o < length (ports_of (node_at nodes k)) → (port_at (node_at nodes k) o).state.close_sent ≡ true
       port_shut k o node place =
-          (whole_fits (node_at nodes k) o (node_whole k node) place).close ∙ sym (ap (λ (p : PortSide). has_close p.state.sent) (port_found k o node place))
+          (fits (node_at nodes k) o (node_whole k node) place).close ∙ sym (ap (λ (p : PortSide). has_close p.state.sent) (port_found k o node place))
           ∙ closed (port_at (node_at nodes k) o).plan.ring (covered.ports k o node place).ring
 
       pub port_told : (k o : ℕ) → k < length nodes → o < length (ports_of (node_at nodes k)) → (port_at (node_at nodes k) o).state.close_requested ≡ true
-      port_told k o node place = (whole_fits (node_at nodes k) o (node_whole k node) place).told (port_shut k o node place)
+      port_told k o node place = (fits (node_at nodes k) o (node_whole k node) place).told (port_shut k o node place)
 
       ring_ended : (k i : ℕ) → k < length nodes → i < length (rings_of (node_at nodes k)) → has_ended (ring_at (node_at nodes k) i) ≡ true
       ring_ended k i node place =

@@ -20,7 +20,6 @@ use Rattle.sb_node.proofs.Answering.{one_of}
 use Rattle.sb_laws.specs.Moments.{Moment}
 use Rattle.sb_laws.proofs.Prefixes.{front_prefix, same_prefix}
 use Rattle.sb_laws.proofs.ExampleNetwork.{read_back, small, steps, written}
-
 use Rattle.sb_laws.proofs.ExampleRun.{all_items, steps_of_small, the_end}
 use Rattle.sb_laws.proofs.ExampleNodes.{device_in, port_in, ring_in}
 use Rattle.sb_laws.proofs.ExamplePorts.{IsSettled, end_is_settled, have_met, is_fit}

@@ -14,7 +14,6 @@ use Rattle.sb_port.specs.Ports.{PortSide}
 use Rattle.sb_node.specs.Sides.{RingSide, is_done, received_words}
 use Rattle.sb_node.proofs.Answering.{one_of}
 use Rattle.sb_laws.proofs.ExampleNetwork.{answering, asking, cpu, small, steps, write}
-
 use Rattle.sb_laws.proofs.ExampleHostLaws.{hosts_find_the_journals_outcomes}
 use Rattle.sb_laws.proofs.ExampleRun.{all_items, steps_are_lawful, steps_of_small, the_end}
 use Rattle.sb_laws.proofs.ExampleHalfway.{first_step}

@@ -1,4 +1,6 @@
 pub mod StandstillEnds
+pub mod StandingEnds
+pub mod TwoLists
 pub mod StandstillShown
 pub mod StandstillRings
 pub mod StandstillHosts

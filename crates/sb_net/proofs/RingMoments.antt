@@ -1,8 +1,8 @@
 -- At each moment the lists of a network's rings are those of its nodes' ends, and each ring and port keeps its promise.
-use Rattle.std.proofs.Common.{◌≡◌, ℕ, ◌/◌, ◌%◌, ◌<◌, Bool, true, false, List, [], ◌∷◌, ◌++◌, length, refl, sym, ap, ◌∙◌, subst, arith}
-use Rattle.std.specs.Prelude.{◌==◌, ◌&&◌, not, nat_lt, slice_index_or, if◌then◌else◌}
+use Rattle.std.proofs.Common.{◌≡◌, ℕ, ◌/◌, ◌%◌, ◌<◌, Bool, true, false, List, [], ◌∷◌, length, refl, sym, ap, ◌∙◌, subst, arith}
+use Rattle.std.specs.Prelude.{◌==◌, ◌&&◌, not, nat_lt, if◌then◌else◌}
 use Rattle.std.proofs.lemmas.Bool.Decides.{nat_tests}
-use Rattle.std.proofs.lemmas.List.Elements.{All-append, All-get_or, All-nil}
+use Rattle.std.proofs.lemmas.List.Elements.{All-get_or, All-nil}
 use Rattle.sb_packet.specs.Networks.{Network}
 use Rattle.sb_link.specs.RingPlans.{RingPlan}
 use Rattle.sb_link.specs.Prefixes.{IsPrefix}
@@ -13,7 +13,6 @@ use Rattle.sb_device.specs.Served.{AreSound}
 use Rattle.sb_port.specs.Ports.{IsFit, PortSide, offered_words}
 use Rattle.sb_node.specs.Sides.{RingSide}
 use Rattle.sb_router.specs.Lanes.{no_port, no_ring}
-use Rattle.sb_router.specs.Whole.{IsWholeOutlet}
 use Rattle.sb_laws.specs.Courses.{CarriesItsFlows}
 use Rattle.sb_laws.specs.Moments.{ClosesLast, Moment}
 use Rattle.sb_laws.specs.NetworkLayouts.{answer_ring, network_answers, network_requests, request_ring, ring_count}
@@ -29,17 +28,13 @@ use Rattle.sb_member.specs.Joints.{IsJoined, joint_at, no_node, node_at, receive
 use Rattle.sb_member.specs.Members.{IsWholeMember}
 use Rattle.sb_member.specs.declared.joint.Joint.{Joint}
 use Rattle.sb_member.specs.declared.member.Member.{Member}
-use Rattle.sb_member.specs.declared.member.Member.TheVariants.{Host, Router, Device}
-use Rattle.sb_member.proofs.EndsChanged.{below_one}
 use Rattle.sb_net.specs.RingEnds.{AreLinked, net_moment, port_here, ring_here}
 use Rattle.sb_net.specs.Standing.{IsCovered, StandsFor}
+use Rattle.sb_net.proofs.StandingEnds.{fits, port_stands, ring_stands}
 
 by_test : {P : Type 0} (b : Bool) → (b ≡ true → P) → (b ≡ false → P) → P
 by_test true f g = f refl
 by_test false f g = g refl
-
-pub is_below : (a b : ℕ) → a < b → nat_lt a b ≡ true
-is_below a b lt = grind (arith, nat_tests)
 
 below_is : (a b : ℕ) → nat_lt a b ≡ true → a < b
 below_is a b e = grind (arith, nat_tests)
@@ -66,28 +61,15 @@ closes_nothing [] after item e = refl
 closes_nothing (x ∷ before) after item e = let no_way : ⊥ = cc in absurd no_way
 
 module _ {F T U : Type 0} where
-  -- each port of a whole node is fit
-  pub fits : (m : Member F T U) (o : ℕ) → IsWholeMember m → o < length (ports_of m) → IsFit (port_at m o).plan (port_at m o).state
-  fits (Host h) o w lt = subst (λ k. IsFit (slice_index_or (h.requests ∷ []) k no_port).plan (slice_index_or (h.requests ∷ []) k no_port).state) (sym (below_one o lt)) w.fit
-  fits (Device d) o w lt = subst (λ k. IsFit (slice_index_or (d.answers ∷ []) k no_port).plan (slice_index_or (d.answers ∷ []) k no_port).state) (sym (below_one o lt)) w.fit
-  fits (Router r) o w lt = (All-get_or IsWholeOutlet (r.requests.lane.outlets ++ r.answers.lane.outlets) o no_port lt
-      (All-append IsWholeOutlet r.requests.lane.outlets r.answers.lane.outlets w.requests.outlets w.answers.outlets)).fit
-
   module _ (joints : List Joint) (nodes : List (Member F T U)) where
     abbrev m : Moment
     m = net_moment joints nodes
 
-    is_port : (r : ℕ) → r < length joints → port_here joints nodes r ≡ sender_of nodes (joint_at joints r)
-    is_port r lt = ap (λ b. if b then sender_of nodes (joint_at joints r) else no_port) (is_below r (length joints) lt)
-
-    is_ring : (r : ℕ) → r < length joints → ring_here joints nodes r ≡ receiver_of nodes (joint_at joints r)
-    is_ring r lt = ap (λ b. if b then receiver_of nodes (joint_at joints r) else no_ring) (is_below r (length joints) lt)
-
     pub has_sender : (r : ℕ) → r < length joints → HasPort m r (sender_of nodes (joint_at joints r))
-    has_sender r lt = record { sent = ap (λ (p : PortSide). p.state.sent) (is_port r lt); offered = ap offered_words (is_port r lt) }
+    has_sender r lt = record { sent = ap (λ (p : PortSide). p.state.sent) (port_stands joints nodes r lt); offered = ap offered_words (port_stands joints nodes r lt) }
 
     pub has_receiver : (r : ℕ) → r < length joints → HasRing m r (receiver_of nodes (joint_at joints r))
-    has_receiver r lt = record { received = ap (λ (x : RingSide). x.received) (is_ring r lt) }
+    has_receiver r lt = record { received = ap (λ (x : RingSide). x.received) (ring_stands joints nodes r lt) }
 
     -- each port of a node, by its ring's number, and each ring's end
     pub has_port : IsCovered joints nodes → (k o : ℕ) → k < length nodes → o < length (ports_of (node_at nodes k)) → HasPort m (port_at (node_at nodes k) o).plan.ring (port_at (node_at nodes k) o)

@@ -1,7 +1,7 @@
 -- At each moment the lists of a router's rings are those of the network's moment.
-use Rattle.std.proofs.Common.{◌≡◌, ℕ, ◌+◌, ◌<◌, List, [], ◌++◌, length, map, sym, ap, ◌∙◌, subst, arith}
+use Rattle.std.proofs.Common.{◌≡◌, ℕ, ◌+◌, ◌<◌, List, [], length, map, sym, ap, ◌∙◌, subst, arith}
 use Rattle.std.specs.Prelude.{slice_index_or, if◌then◌else◌}
-use Rattle.std.proofs.lemmas.List.{get_or-append-add, get_or-map, length-append, length-map}
+use Rattle.std.proofs.lemmas.List.{get_or-append-add, length-append, length-map}
 use Rattle.std.proofs.Math.ListN.{get_or-append}
 use Rattle.std.proofs.lemmas.List.Elements.{All-from_get_or, All-get_or}
 use Rattle.sb_packet.specs.Networks.{Network}
@@ -22,15 +22,9 @@ use Rattle.sb_member.specs.declared.member.Member.{Member}
 use Rattle.sb_member.specs.declared.member.Member.TheVariants.{Router}
 use Rattle.sb_net.specs.RingEnds.{net_moment, node_holds}
 use Rattle.sb_net.specs.Standing.{IsCovered, IsRouterBuilt}
-use Rattle.sb_net.proofs.RingMoments.{has_port, has_ring, is_below}
-
-module _ {A B : Type 0} (f : A → B) (xs ys : List A) (i : ℕ) (d : A) (e : B) where
-  -- the elements of two lists, by their places in both together
-  pub in_first : i < length xs → slice_index_or (map f xs ++ map f ys) i e ≡ f (slice_index_or xs i d)
-  in_first lt = get_or-append (map f xs) (map f ys) e i (omega (arith, lt, length-map xs f)) ∙ get_or-map f xs i d e lt
-
-  pub in_second : i < length ys → slice_index_or (map f xs ++ map f ys) (length xs + i) e ≡ f (slice_index_or ys i d)
-  in_second lt = ap (λ n. slice_index_or (map f xs ++ map f ys) (n + i) e) (sym (length-map xs f)) ∙ get_or-append-add (map f xs) (map f ys) i e ∙ get_or-map f ys i d e lt
+use Rattle.sb_net.proofs.RingMoments.{has_port, has_ring}
+use Rattle.sb_net.proofs.StandingEnds.{is_below}
+use Rattle.sb_net.proofs.TwoLists.{in_first, in_second}
 
 abbrev ring_in : InletState → RingSide
 ring_in x = x.ring
@@ -83,15 +77,15 @@ module _ {F T U : Type 0} (joints : List Joint) (nodes : List (Member F T U)) (n
 
   requests_have : HasLane m q
   requests_have = record {
-    inlets = All-from_get_or (HasInlet m) q.inlets no_inlet (λ i lt. ring_place i (inlet_at q i) (omega (arith, lt, rings_count)) (in_first ring_in q.inlets a.inlets i no_inlet no_ring lt)
-        (in_first (λ (x : InletState). held_words x.held) q.inlets a.inlets i no_inlet [] lt));
+    inlets = All-from_get_or (HasInlet m) q.inlets no_inlet (λ i lt. ring_place i (inlet_at q i) (omega (arith, lt, rings_count)) (in_first ring_in ring_in q.inlets a.inlets i no_inlet no_ring lt)
+        (in_first (λ (x : InletState). held_words x.held) (λ (x : InletState). held_words x.held) q.inlets a.inlets i no_inlet [] lt));
     outlets = All-from_get_or (λ y. HasPort m y.plan.ring y) q.outlets no_port (λ o lt. port_place o (outlet_at q o) (omega (arith, lt, ports_count)) (get_or-append q.outlets a.outlets no_port o lt));
   }
 
   answers_have : HasLane m a
   answers_have = record {
-    inlets = All-from_get_or (HasInlet m) a.inlets no_inlet (λ i lt. ring_place (length q.inlets + i) (inlet_at a i) (omega (arith, lt, rings_count)) (in_second ring_in q.inlets a.inlets i no_inlet no_ring lt)
-        (in_second (λ (x : InletState). held_words x.held) q.inlets a.inlets i no_inlet [] lt));
+    inlets = All-from_get_or (HasInlet m) a.inlets no_inlet (λ i lt. ring_place (length q.inlets + i) (inlet_at a i) (omega (arith, lt, rings_count)) (in_second ring_in ring_in q.inlets a.inlets i no_inlet no_ring lt)
+        (in_second (λ (x : InletState). held_words x.held) (λ (x : InletState). held_words x.held) q.inlets a.inlets i no_inlet [] lt));
     outlets = All-from_get_or (λ y. HasPort m y.plan.ring y) a.outlets no_port (λ o lt. port_place (length q.outlets + o) (outlet_at a o) (omega (arith, lt, ports_count)) (get_or-append-add q.outlets a.outlets o no_port));
   }
 

@@ -1,5 +1,5 @@
 -- What is spent at the rings of a network is bounded by their budgets.
-use Rattle.std.proofs.Common.{◌≡◌, ◌≤◌, ◌<◌, ℕ, zero, suc, ◌+◌, ◌*◌, ◌-◌, ◌^◌, Bool, true, List, [], ◌∷◌, ◌++◌, length, map, sym, ap, ◌∙◌, subst, arith, append_assoc}
+use Rattle.std.proofs.Common.{◌≡◌, ◌≤◌, ◌<◌, ℕ, zero, suc, ◌+◌, ◌*◌, ◌-◌, ◌^◌, Bool, true, List, [], ◌∷◌, ◌++◌, length, map, sym, subst, arith}
 use Rattle.std.specs.Prelude.{◌&&◌, get_or, nat_le, slice_index_or, Option, None, Some}
 use Rattle.std.specs.List.{list_all, range_with_len}
 use Rattle.std.proofs.lemmas.Bool.{and_parts, leb-true}
@@ -8,10 +8,8 @@ use Rattle.std.proofs.lemmas.List.Sums.{sum_by-le}
 use Rattle.std.proofs.lemmas.List.Elements.{All-get_or}
 use Rattle.sb_packet.specs.Networks.{Network}
 use Rattle.sb_link.specs.RingPlans.{RingPlan}
-use Rattle.sb_link.specs.Prefixes.{IsPrefix}
 use Rattle.sb_flow.specs.Rings.{ring_budget, ring_plan}
 use Rattle.sb_link.specs.Traffic.{AreInTurn}
-use Rattle.sb_packet.specs.declared.item.Item.{Item}
 use Rattle.sb_packet.specs.declared.packet.Packet.{Packet}
 use Rattle.sb_port.specs.Ports.{IsFit}
 use Rattle.sb_node.specs.Sides.{RingSide, port_moves}
@@ -21,6 +19,7 @@ use Rattle.sb_flow.specs.Accepted.{IsAccepted}
 use Rattle.sb_flow.specs.Limits.{is_from_to, is_limited, is_limited_device, is_limited_host, is_limited_link, is_limited_router, page_count}
 use Rattle.sb_laws.specs.Moves.{move_bound}
 use Rattle.sb_laws.specs.NetworkLayouts.{ring_count}
+use Rattle.sb_laws.proofs.InTurn.{begins_in_turn}
 use Rattle.sb_laws.proofs.PortSides.{moves_are_few, received_are_few}
 use Rattle.sb_member.specs.Ends.{ring_at, rings_of}
 use Rattle.sb_member.specs.Joints.{joint_at, no_node, node_at, receiver_of, sender_of}
@@ -34,13 +33,8 @@ use Rattle.sb_net.specs.Spent.{network_moves, node_receipts, spent, spent_at}
 use Rattle.sb_net.specs.Standing.{StandsFor, node_count}
 use Rattle.sb_net.proofs.GrownSums.{range_grows}
 use Rattle.sb_net.proofs.SpendingRounds.{sending_at, spent_is}
-use Rattle.sb_net.proofs.Standstills.{fits}
+use Rattle.sb_net.proofs.StandingEnds.{fits}
 use Rattle.sb_net.proofs.WordsAtDevices.{ring_budget_le}
-
--- what begins a list in turn is in turn
-begins_in_turn : (plan : RingPlan) (list all : List Item) → IsPrefix list all → AreInTurn plan all → AreInTurn plan list
-begins_in_turn plan list all begins turn before after item cut =
-    turn before (after ++ begins.rest) item (sym begins.joined ∙ ap (λ (l : List Item). l ++ begins.rest) cut ∙ append_assoc before (item ∷ after) begins.rest)
 
 -- a router counts each item twice at most, and one more
 inlet_bound : (x : InletState) → inlet_moves x ≤ 2 * length x.ring.received + 1

@@ -23,7 +23,7 @@ use Rattle.sb_net.specs.Spent.{node_receipts, spent, spent_at}
 use Rattle.sb_net.specs.Standing.{StandsFor}
 use Rattle.sb_net.proofs.GrownSums.{GrewAt, NoLess, one_grew, range_grows, range_grows_more, total, total_grows}
 use Rattle.sb_net.proofs.SpendingNodes.{doings, doings_grow, moved_adds, node_sendings, receipts_grow, sendings_grow}
-use Rattle.sb_net.proofs.StandstillShown.{below_passes}
+use Rattle.sb_net.proofs.StandingEnds.{is_below}
 
 module _ {F T U : Type 0} where
   -- a port's number among those of its node
@@ -45,7 +45,7 @@ module _ {F T U : Type 0} where
     -- what is spent at a ring, as its two nodes count it
     pub spent_is : spent_at joints nodes r ≡ slice_index_or (node_sendings (node_at nodes j.from)) j.out 0 + slice_index_or (node_receipts (node_at nodes j.to)) j.into 0
     spent_is =
-        ap (λ b. port_moves (if b then sender_of nodes j else no_port) + (if b then slice_index_or (node_receipts (node_at nodes j.to)) j.into 0 else 0)) (below_passes r (length joints) below)
+        ap (λ b. port_moves (if b then sender_of nodes j else no_port) + (if b then slice_index_or (node_receipts (node_at nodes j.to)) j.into 0 else 0)) (is_below r (length joints) below)
         ∙ ap (λ (n : ℕ). n + slice_index_or (node_receipts (node_at nodes j.to)) j.into 0) (sym (sending_at (node_at nodes j.from) j.out))
 
 module _ {F T U : Type 0} (network : Network) (joints : List Joint) (before after : List (Member F T U)) (round : ℕ) (stands : StandsFor network joints before) (kept : EachKept round before after) where

@@ -1,7 +1,7 @@
 -- A router that didn't move is idle at its rings, as a node of its network.
-use Rattle.std.proofs.Common.{◌≡◌, ◌≢◌, ℕ, ◌+◌, ◌<◌, List, [], ◌++◌, length, map, sym, ap, ◌∙◌, subst, arith}
+use Rattle.std.proofs.Common.{◌≡◌, ◌≢◌, ℕ, ◌+◌, ◌<◌, [], length, map, sym, ap, ◌∙◌, subst, arith}
 use Rattle.std.specs.Prelude.{None, Option, slice_index_or}
-use Rattle.std.proofs.lemmas.List.{length-map, length-append, get_or-map, get_or-append-add}
+use Rattle.std.proofs.lemmas.List.{length-map, length-append, get_or-append-add}
 use Rattle.std.proofs.Math.ListN.{get_or-append}
 use Rattle.std.proofs.lemmas.List.Elements.{All-append, All-from_get_or, All-get_or, All-map}
 use Rattle.sb_link.specs.declared.answers.Turn.{Turn}
@@ -27,14 +27,7 @@ use Rattle.sb_net.specs.RingEnds.{node_holds, node_next}
 use Rattle.sb_net.specs.Standing.{IsRouterNode}
 use Rattle.sb_net.proofs.StandstillRings.{answers_at_stage, requests_at_stage}
 use Rattle.sb_net.proofs.StandstillShown.{IsIdleNode, IsShown}
-
-module _ {A B : Type 0} (f g : A → B) (xs ys : List A) (i : ℕ) (d : A) (e : B) where
-  -- the elements of two lists, by their places in both together
-  in_first : i < length xs → slice_index_or (map f xs ++ map g ys) i e ≡ f (slice_index_or xs i d)
-  in_first below = get_or-append (map f xs) (map g ys) e i (omega (arith, below, length-map xs f)) ∙ get_or-map f xs i d e below
-
-  in_second : i < length ys → slice_index_or (map f xs ++ map g ys) (length xs + i) e ≡ g (slice_index_or ys i d)
-  in_second below = ap (λ n. slice_index_or (map f xs ++ map g ys) (n + i) e) (sym (length-map xs f)) ∙ get_or-append-add (map f xs) (map g ys) i e ∙ get_or-map g ys i d e below
+use Rattle.sb_net.proofs.TwoLists.{in_first, in_second}
 
 abbrev ring_in : InletState → RingSide
 ring_in x = x.ring

@@ -1,10 +1,8 @@
 -- What there is after a round, end by end of each node.
-use Rattle.std.proofs.Common.{◌≡◌, ℕ, ◌<◌, true, List, [], length, ap, ◌∙◌, subst, arith}
-use Rattle.std.specs.Prelude.{None, nat_lt, is_some, slice_index_or, if◌then◌else◌}
-use Rattle.std.proofs.lemmas.Bool.Decides.{nat_tests}
+use Rattle.std.proofs.Common.{◌≡◌, ℕ, ◌<◌, List, [], length, ap, ◌∙◌, subst}
+use Rattle.std.specs.Prelude.{None, is_some, slice_index_or, if◌then◌else◌}
 use Rattle.sb_port.specs.Ports.{PortSide, offered_words, owes}
 use Rattle.sb_node.specs.Sides.{RingSide, is_drained, is_full}
-use Rattle.sb_router.specs.Lanes.{no_port, no_ring}
 use Rattle.sb_laws.specs.RoundSides.{ShowsPort, ShowsRing}
 use Rattle.sb_laws.specs.Stages.{Stages}
 use Rattle.sb_laws.specs.Standstills.{IsIdleReceiver, IsIdleSender, RoundEnd}
@@ -12,8 +10,9 @@ use Rattle.sb_member.specs.Ends.{port_at, ports_of, ring_at, rings_of}
 use Rattle.sb_member.specs.Joints.{joint_at, node_at, receiver_of, sender_of}
 use Rattle.sb_member.specs.declared.joint.Joint.{Joint}
 use Rattle.sb_member.specs.declared.member.Member.{Member}
-use Rattle.sb_net.specs.RingEnds.{net_round_end, node_holds, node_next, port_here, ring_here}
+use Rattle.sb_net.specs.RingEnds.{net_round_end, node_holds, node_next}
 use Rattle.sb_net.specs.Standing.{IsCovered}
+use Rattle.sb_net.proofs.StandingEnds.{is_below, port_stands, ring_stands}
 
 module _ {F T U : Type 0} where
   -- what there is after a round is, at the rings of a node, what the node has
@@ -28,33 +27,23 @@ module _ {F T U : Type 0} where
     pub senders : (o : ℕ) → o < length (ports_of m) → IsIdleSender stages e (port_at m o).plan.ring
     pub receivers : (i : ℕ) → i < length (rings_of m) → IsIdleReceiver stages e (ring_at m i).plan.ring
 
--- a number below another passes the test
-pub below_passes : (r n : ℕ) → r < n → nat_lt r n ≡ true
-below_passes r n below = grind (arith, nat_tests)
-
 module _ {F T U : Type 0} (joints : List Joint) (nodes : List (Member F T U)) where
   abbrev e : RoundEnd
   e = net_round_end joints nodes
 
-  is_port : (r : ℕ) → r < length joints → port_here joints nodes r ≡ sender_of nodes (joint_at joints r)
-  is_port r below = ap (λ b. if b then sender_of nodes (joint_at joints r) else no_port) (below_passes r (length joints) below)
-
-  is_ring : (r : ℕ) → r < length joints → ring_here joints nodes r ≡ receiver_of nodes (joint_at joints r)
-  is_ring r below = ap (λ b. if b then receiver_of nodes (joint_at joints r) else no_ring) (below_passes r (length joints) below)
-
   pub shows_sender : (r : ℕ) → r < length joints → ShowsPort e r (sender_of nodes (joint_at joints r))
   shows_sender r below = record {
-    lists = record { sent = ap (λ (p : PortSide). p.state.sent) (is_port r below); offered = ap offered_words (is_port r below) };
-    full = ap is_full (is_port r below);
-    owes = ap (λ (p : PortSide). owes p.state) (is_port r below);
-    merges = ap (λ (p : PortSide). is_some p.state.waiting.held) (is_port r below);
-    told = ap (λ (p : PortSide). p.state.close_requested) (is_port r below);
+    lists = record { sent = ap (λ (p : PortSide). p.state.sent) (port_stands joints nodes r below); offered = ap offered_words (port_stands joints nodes r below) };
+    full = ap is_full (port_stands joints nodes r below);
+    owes = ap (λ (p : PortSide). owes p.state) (port_stands joints nodes r below);
+    merges = ap (λ (p : PortSide). is_some p.state.waiting.held) (port_stands joints nodes r below);
+    told = ap (λ (p : PortSide). p.state.close_requested) (port_stands joints nodes r below);
   }
 
   pub shows_receiver : (r : ℕ) → r < length joints → ShowsRing e r (receiver_of nodes (joint_at joints r))
   shows_receiver r below = record {
-    lists = record { received = ap (λ (x : RingSide). x.received) (is_ring r below) };
-    empty = ap is_drained (is_ring r below);
+    lists = record { received = ap (λ (x : RingSide). x.received) (ring_stands joints nodes r below) };
+    empty = ap is_drained (ring_stands joints nodes r below);
   }
 
   pub is_shown : IsCovered joints nodes → (k : ℕ) → k < length nodes → IsShown e (node_at nodes k)
@@ -71,12 +60,12 @@ module _ {F T U : Type 0} (joints : List Joint) (nodes : List (Member F T U)) wh
         let at = c.rings k i inside place in
         let r = (ring_at (node_at nodes k) i).plan.ring in
         let j = joint_at joints r in
-        ap (λ b. if b then slice_index_or (node_holds (node_at nodes j.to)) j.into [] else []) (below_passes r (length joints) at.ring)
+        ap (λ b. if b then slice_index_or (node_holds (node_at nodes j.to)) j.into [] else []) (is_below r (length joints) at.ring)
         ∙ ap (λ n. slice_index_or (node_holds (node_at nodes n)) j.into []) at.to ∙ ap (λ n. slice_index_or (node_holds (node_at nodes k)) n []) at.into;
     next = λ i place.
         let at = c.rings k i inside place in
         let r = (ring_at (node_at nodes k) i).plan.ring in
         let j = joint_at joints r in
-        ap (λ b. if b then slice_index_or (node_next (node_at nodes j.to)) j.into None else None) (below_passes r (length joints) at.ring)
+        ap (λ b. if b then slice_index_or (node_next (node_at nodes j.to)) j.into None else None) (is_below r (length joints) at.ring)
         ∙ ap (λ n. slice_index_or (node_next (node_at nodes n)) j.into None) at.to ∙ ap (λ n. slice_index_or (node_next (node_at nodes k)) n None) at.into;
   }

@@ -1,18 +1,14 @@
 -- A round in which no node moved is a standstill.
-use Rattle.std.proofs.Common.{◌≡◌, ◌≢◌, inl, inr, ℕ, ◌+◌, ◌-◌, ◌<◌, Bool, true, false, List, [], ◌∷◌, length, refl, sym, ◌∙◌, subst, arith}
+use Rattle.std.proofs.Common.{◌≡◌, ◌≢◌, inl, inr, ℕ, ◌+◌, ◌-◌, ◌<◌, Bool, true, false, List, length, refl, sym, ◌∙◌, subst, arith}
 use Rattle.std.specs.Prelude.{nat_lt, slice_index_or, if◌then◌else◌}
 use Rattle.std.proofs.lemmas.Bool.{cases_lt}
-use Rattle.std.proofs.lemmas.List.Elements.{All-append, All-get_or}
+use Rattle.std.proofs.lemmas.List.Elements.{All-get_or}
 use Rattle.sb_drive.specs.Rounds.{EndsWith}
 use Rattle.sb_link.specs.declared.answers.Turn.{Turn}
 use Rattle.sb_link.specs.declared.answers.Turn.TheVariants.{Done, Moved}
 use Rattle.sb_packet.specs.Networks.{Network}
 use Rattle.sb_link.specs.RingPlans.{RingPlan}
 use Rattle.sb_packet.specs.declared.entry.Entry.{Entry}
-use Rattle.sb_port.specs.Ports.{IsFit}
-use Rattle.sb_router.specs.Lanes.{no_port}
-use Rattle.sb_router.specs.Routers.{router_ports}
-use Rattle.sb_router.specs.Whole.{IsWholeOutlet}
 use Rattle.sb_flow.specs.Accepted.{IsAccepted}
 use Rattle.sb_laws.specs.Endings.{IsWholeStandstill}
 use Rattle.sb_laws.specs.NetworkLayouts.{network_layout, ring_count}
@@ -25,16 +21,15 @@ use Rattle.sb_laws.proofs.AcceptedNetworks.{accepted_is_routed}
 use Rattle.sb_laws.proofs.RisingStages.{stages_rise, ways_within}
 use Rattle.sb_laws.proofs.SidePromises.{true_ring}
 use Rattle.sb_laws.proofs.WaysOfRouted.{ways_of_routed}
-use Rattle.sb_member.specs.Ends.{port_at, ports_of}
 use Rattle.sb_member.specs.Joints.{HaveAllMet, joint_at, no_node, node_at, sender_of, receiver_of}
 use Rattle.sb_member.specs.Members.{IsMemberTurn, IsRestedMember, IsWholeMember}
 use Rattle.sb_member.specs.declared.joint.Joint.{Joint}
 use Rattle.sb_member.specs.declared.member.Member.{Member}
 use Rattle.sb_member.specs.declared.member.Member.TheVariants.{Host, Router, Device}
-use Rattle.sb_member.proofs.EndsChanged.{below_one}
 use Rattle.sb_net.specs.NetRounds.{IsNetRound}
 use Rattle.sb_net.specs.RingEnds.{net_moment, net_round_end, node_waits}
 use Rattle.sb_net.specs.Standing.{IsDeviceNode, IsRouterNode, StandsFor, device_number, router_number}
+use Rattle.sb_net.proofs.StandingEnds.{fits}
 use Rattle.sb_net.proofs.StandstillDevices.{idle_device}
 use Rattle.sb_net.proofs.StandstillEnds.{met_still}
 use Rattle.sb_net.proofs.StandstillHosts.{idle_host}
@@ -43,12 +38,6 @@ use Rattle.sb_net.proofs.StandstillRouters.{idle_router}
 use Rattle.sb_net.proofs.StandstillShown.{IsIdleNode, IsShown, is_shown, shows_receiver, shows_sender}
 
 module _ {F T U : Type 0} where
-  -- each port of a whole node is fit
-  pub fits : (m : Member F T U) (o : ℕ) → IsWholeMember m → o < length (ports_of m) → IsFit (port_at m o).plan (port_at m o).state
-  fits (Host h) o whole below = subst (λ k. IsFit (slice_index_or (h.requests ∷ []) k no_port).plan (slice_index_or (h.requests ∷ []) k no_port).state) (sym (below_one o below)) whole.fit
-  fits (Device d) o whole below = subst (λ k. IsFit (slice_index_or (d.answers ∷ []) k no_port).plan (slice_index_or (d.answers ∷ []) k no_port).state) (sym (below_one o below)) whole.fit
-  fits (Router r) o whole below = (All-get_or IsWholeOutlet (router_ports r) o no_port below (All-append IsWholeOutlet r.requests.lane.outlets r.answers.lane.outlets whole.requests.outlets whole.answers.outlets)).fit
-
   -- no node waits for a slot
   none_waits : (m : Member F T U) → node_waits m ≡ false
   none_waits (Host h) = refl

@@ -1,5 +1,5 @@
 -- A run under way: what holds before each round, and what follows of a round.
-use Rattle.std.proofs.Common.{◌≡◌, ◌≤◌, ◌<◌, ◌+◌, ◌-◌, ◌++◌, ℕ, Bool, true, false, List, [], length, refl, sym, ap, subst, ◌∙◌, arith}
+use Rattle.std.proofs.Common.{◌≡◌, ◌≤◌, ◌<◌, ◌+◌, ◌-◌, ◌++◌, ℕ, true, false, List, [], length, refl, sym, ap, subst, ◌∙◌, arith}
 use Rattle.std.specs.Prelude.{◌^◌, ◌==◌, All, IsTrue, filter, flat_map, slice_index_or}
 use Rattle.std.specs.List.{range_with_len}
 use Rattle.std.proofs.lemmas.List.{length-append}
@@ -10,20 +10,18 @@ use Rattle.sb_packet.specs.Networks.{Network}
 use Rattle.sb_packet.specs.declared.entry.Entry.{Entry}
 use Rattle.sb_flow.specs.Accepted.{IsAccepted}
 use Rattle.sb_flow.specs.Limits.{word_count}
-use Rattle.sb_laws.specs.NetworkLayouts.{network_layout}
 use Rattle.sb_member.specs.Joints.{HaveAllMet, MeetAlong, node_at}
 use Rattle.sb_member.specs.Members.{IsWholeMember}
 use Rattle.sb_member.specs.declared.joint.Joint.{Joint}
 use Rattle.sb_member.specs.declared.member.Member.{Member}
 use Rattle.sb_net.specs.Collecting.{counts_from, entries_behind, entries_from}
-use Rattle.sb_net.specs.NetRounds.{IsNetRound}
 use Rattle.sb_net.specs.Recorded.{IsRecorded, device_entries, entry_counts, member_entries, new_entries}
 use Rattle.sb_net.specs.RingEnds.{AreLinked}
-use Rattle.sb_net.specs.Running.{HasGone, HasRun, IsBuilt, IsReady}
+use Rattle.sb_net.specs.Running.{HasGone, HasRun, IsReady}
 use Rattle.sb_net.specs.Spent.{network_moves, spent}
 use Rattle.sb_net.specs.Standing.{StandsFor}
 use Rattle.sb_net.proofs.LaterNets.{linked, stands_all_met, stands_turned}
-use Rattle.sb_net.proofs.RoundsRecorded.{counts_kept, new_rounds, ordered_on, recorded_on, recorded_still, served_more}
+use Rattle.sb_net.proofs.RoundsRecorded.{new_rounds, ordered_on, recorded_on, recorded_still, served_more}
 use Rattle.sb_net.proofs.PromisesKept.{at_moment, has_entries}
 use Rattle.sb_net.proofs.StandstillEnds.{met_still}
 use Rattle.sb_net.proofs.Standstills.{whole_standstill}

@@ -1,5 +1,5 @@
 -- The new entries of one device more were put behind the journal.
-use Rattle.std.proofs.Common.{◌≡◌, ◌≢◌, ◌≤◌, ◌<◌, ◌+◌, ◌-◌, ◌++◌, ℕ, List, length, take, drop, set, map, refl, sym, ap, subst, ◌∙◌, append_assoc, arith}
+use Rattle.std.proofs.Common.{◌≡◌, ◌<◌, ◌+◌, ◌-◌, ◌++◌, ℕ, List, length, take, drop, set, sym, ap, ◌∙◌, append_assoc, arith}
 use Rattle.std.specs.Prelude.{flat_map, slice_index_or}
 use Rattle.std.specs.List.{range_with_len}
 use Rattle.std.proofs.lemmas.List.{ext_get_or, get_or-map, get_or-set_other, get_or-set_same, length-append, length-drop, length-set}
@@ -58,7 +58,7 @@ loop-device-preserved g c =
     let less = c.add_all.ensures.spare in
     let len : length (set before d (length served)) ≡ length was = length-set before d (length served) ∙ i.2 in (
       c.add_all.ensures.entries ∙ ap (λ list. c.loop-device.journal.entries ++ list) is ∙ ap (λ list. list ++ f d) i.0 ∙ append_assoc c.args.journal.now.entries so_far (f d)
-      ∙ sym (ap (λ list. c.args.journal.now.entries ++ list) (places_more f d)),
+          ∙ sym (ap (λ list. c.args.journal.now.entries ++ list) (places_more f d)),
       omega (arith, one, few, spare, less),
       len,
       (λ k below. same_or_not k d
@@ -79,5 +79,5 @@ returns-clause-collected g c =
     let f : ℕ → ℕ = λ d. length (member_entries (node_at nodes (first + d))) in
     ext_get_or 0 c.loop-device.collected (counts_from first (length was) nodes) (i.2 ∙ sym (length-map-range_with_len f 0 (length was)))
     (λ k below. let inside : k < length was = omega (arith, below, same) in let plain : 0 + k ≡ k = omega arith in
-        i.3 k (omega (arith, below, out)) ∙ sym (get_or-map f (range_with_len 0 (length was)) k 0 0 (omega (arith, inside, length-range_with_len 0 (length was)))
-        ∙ ap f (get_or-range_with_len 0 (length was) k 0 inside ∙ plain)))
+    i.3 k (omega (arith, below, out)) ∙ sym (get_or-map f (range_with_len 0 (length was)) k 0 0 (omega (arith, inside, length-range_with_len 0 (length was)))
+    ∙ ap f (get_or-range_with_len 0 (length was) k 0 inside ∙ plain)))

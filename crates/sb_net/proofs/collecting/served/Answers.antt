@@ -1,5 +1,5 @@
 -- The node of the number is found, and a device tells its journal.
-use Rattle.std.proofs.Common.{◌≡◌, ◌<◌, ◌/◌, length, sym, ap, ◌∙◌, arith}
+use Rattle.std.proofs.Common.{◌/◌, length, sym, ap, ◌∙◌, arith}
 use Rattle.sb_member.proofs.Dealt.{node_found, place_found}
 use Rattle.sb_member.proofs.RingsMet.{within_list}
 use Rattle.sb_member.specs.Joints.{no_node}

@@ -1,15 +1,10 @@
 -- Round by round the run goes on, and ends where no node moved.
-use Rattle.std.proofs.Common.{◌≡◌, ◌<◌, ◌+◌, ◌^◌, ◌-◌, ◌≤◌, ◌∙◌, Bool, true, false, length, sym, subst, arith}
-use Rattle.std.specs.Prelude.{All}
-use Rattle.sb_packet.specs.Networks.{Network}
+use Rattle.std.proofs.Common.{◌<◌, ◌+◌, ◌^◌, ◌≤◌, ◌∙◌, true, length, subst, arith}
 use Rattle.sb_member.specs.Groups.{dealt_nodes, grouped_nodes}
-use Rattle.sb_member.specs.Joints.{IsJoined}
-use Rattle.sb_member.specs.Members.{IsWholeMember}
 use Rattle.sb_member.proofs.Dealt.{total_of}
-use Rattle.sb_net.specs.Running.{HasGone, HasRun, IsReady}
+use Rattle.sb_net.specs.Running.{HasGone}
 use Rattle.sb_net.proofs.LaterNets.{stands_turned}
-use Rattle.sb_net.proofs.SpendingBounds.{some_node}
-use Rattle.sb_net.proofs.UnderWay.{IsUnderWay, device_range, has_room, never_so_late, nodes_fit, none_fewer, ready_starts, round_ends, round_goes_on}
+use Rattle.sb_net.proofs.UnderWay.{device_range, has_room, never_so_late, nodes_fit, none_fewer, round_ends, round_goes_on}
 use Rattle.sb_net.proofs.running.run_serial.Goals as goal
 
 pub turn_all-requires-clause-whole : goal.turn_all-requires-clause-whole
@@ -103,16 +98,19 @@ collect-requires-clause-room g c κs within =
     has_room network first start number collected joints before journal u turned after gone c.turn_all.ensures.whole meets.met meets.all_met
 
 pub loop-number-preserved : goal.loop-number-preserved
-loop-number-preserved g c = (c.meet_rings.ensures.count ∙ c.turn_all.ensures.one, λ network ready.
-    let u = c.loop-number.invariant.1 network ready in
-    let before = dealt_nodes (grouped_nodes c.loop-number.groups) in
-    let turned = dealt_nodes (grouped_nodes c.turn_all.new.groups) in
-    let gone : HasGone c.loop-number.number before turned true = subst (HasGone c.loop-number.number before turned) c.if-not-turn_all.false c.turn_all.ensures.gone in
-    let after = dealt_nodes (grouped_nodes c.meet_rings.new.groups) in
-    let meets = c.meet_rings.ensures in
-    let new = c.collect.ensures in
-    round_goes_on network c.args.first c.args.journal.now.spare c.loop-number.number c.loop-number.collected c.args.joints.now before c.loop-number.journal u
-    turned after gone c.turn_all.ensures.whole meets.met meets.all_met c.collect.new.collected c.collect.new.journal new.collected new.entries new.spare)
+loop-number-preserved g c = (
+  c.meet_rings.ensures.count ∙ c.turn_all.ensures.one,
+  λ network ready.
+      let u = c.loop-number.invariant.1 network ready in
+      let before = dealt_nodes (grouped_nodes c.loop-number.groups) in
+      let turned = dealt_nodes (grouped_nodes c.turn_all.new.groups) in
+      let gone : HasGone c.loop-number.number before turned true = subst (HasGone c.loop-number.number before turned) c.if-not-turn_all.false c.turn_all.ensures.gone in
+      let after = dealt_nodes (grouped_nodes c.meet_rings.new.groups) in
+      let meets = c.meet_rings.ensures in
+      let new = c.collect.ensures in
+      round_goes_on network c.args.first c.args.journal.now.spare c.loop-number.number c.loop-number.collected c.args.joints.now before c.loop-number.journal u
+      turned after gone c.turn_all.ensures.whole meets.met meets.all_met c.collect.new.collected c.collect.new.journal new.collected new.entries new.spare,
+)
 
 pub returns-clause-run : goal.returns-clause-run
 returns-clause-run g c = λ network ready.

@@ -1,7 +1,7 @@
 -- The run is under way, for each network for which it was ready.
 use Rattle.std.proofs.Common.{◌≡◌, length}
 use Rattle.sb_packet.specs.Networks.{Network}
-use Rattle.sb_member.specs.Groups.{IsDealt, dealt_nodes, grouped_nodes}
+use Rattle.sb_member.specs.Groups.{dealt_nodes, grouped_nodes}
 use Rattle.sb_net.specs.Running.{IsReady}
 use Rattle.sb_net.proofs.UnderWay.{IsUnderWay}
 use Rattle.sb_net.proofs.running.run_serial.Given as goal

@@ -1,5 +1,5 @@
 -- The nodes of the one group are all nodes.
-use Rattle.std.proofs.Common.{◌≡◌, set, sym, subst}
+use Rattle.std.proofs.Common.{set, sym, subst}
 use Rattle.std.specs.Prelude.{All, slice_index_or}
 use Rattle.sb_member.specs.Groups.{dealt_nodes, grouped_nodes}
 use Rattle.sb_member.specs.Members.{IsWholeMember}
