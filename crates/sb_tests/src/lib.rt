@@ -6,6 +6,8 @@ mod blanks;
 #[cfg(test)]
 mod line;
 #[cfg(test)]
+mod nets;
+#[cfg(test)]
 mod network;
 #[cfg(test)]
 mod sample;

@@ -18,6 +18,7 @@ use sb_member::{Joint, Member, meet_rings};
 use sb_packet::{Code, TxnState};
 use sb_router::Router;
 use std::alloc::{AllocError, Global};
+use std::slice;
 use std::test::Fail;
 
 /// More rounds than the run takes.
@@ -52,7 +53,7 @@ fn run<F: MeetFabric>(group: &mut Group<Member<F>>) -> bool
         if !round_serial(group, 0, number) {
             return true;
         }
-        meet_rings(&mut group.nodes, &joints);
+        meet_rings(slice::from_mut(group), &joints);
     }
     false
 }

@@ -1,15 +1,13 @@
 -- Turns and meetings leave the rings where they stand.
-use Rattle.std.proofs.Common.{◌≡◌, ◌<◌, List, ◌++◌, length, take, drop, sym, subst, ap, ◌∙◌, arith, ℕ}
-use Rattle.std.proofs.Math.Seq.{take-append_seam}
+use Rattle.std.proofs.Common.{◌≡◌, ◌<◌, lit<, List, length, sym, subst, arith}
+use Rattle.std.specs.Prelude.{slice_index_or}
+use Rattle.sb_member.specs.Groups.{IsDealt, dealt_nodes, grouped_nodes}
 use Rattle.sb_member.specs.Joints.{IsJoined}
 use Rattle.sb_member.specs.declared.joint.Joint.{Joint}
+use Rattle.sb_member.proofs.Dealt.{one_dealt, one_group, sole_group}
 use Rattle.sb_member.proofs.Turned.{each_kept, joined_then}
 use Rattle.sb_tests.specs.Lines.{sample_joints}
 use Rattle.sb_tests.proofs.line.run.Goals as goal
-
--- a list is the whole of itself
-taken_whole : {A : Type 0} (new rest : List A) (n : ℕ) → n ≡ length new → take n (new ++ rest) ≡ new
-taken_whole new rest n len = ap (λ n. take n (new ++ rest)) len ∙ take-append_seam new rest
 
 pub returns-then-not-round_serial : goal.returns-then-not-round_serial
 returns-then-not-round_serial g c =
@@ -19,22 +17,27 @@ returns-then-not-round_serial g c =
     let long : length after.items ≡ length before.items = omega (arith, r.ensures.count, after.ok.0, before.ok.0) in
     record { joined = joined_then c.loop-number.number sample_joints before.items after.items long (each_kept c.loop-number.number before.items after.items r.ensures.round.reached) r.ensures.whole c.loop-number.invariant.1 }
 
+pub meet_rings-requires-clause-dealt : goal.meet_rings-requires-clause-dealt
+meet_rings-requires-clause-dealt g c κs below =
+    subst (λ groups. IsDealt (grouped_nodes groups)) (sym c.from_mut.ensures.value) (one_dealt c.round_serial.new.group.nodes.items)
+
 pub meet_rings-requires-clause-joined : goal.meet_rings-requires-clause-joined
 meet_rings-requires-clause-joined g c κs below =
     let r = c.round_serial in
     let before = c.loop-number.group.nodes in
     let after = r.new.group.nodes in
     let long : length after.items ≡ length before.items = omega (arith, r.ensures.count, after.ok.0, before.ok.0) in
-    subst (λ (joints : List Joint). IsJoined joints c.deref_mut.result.now) (sym c.joints-joints.ensures) (subst (λ nodes. IsJoined sample_joints nodes) (sym c.deref_mut.ensures.value)
-    (joined_then c.loop-number.number sample_joints before.items after.items long (each_kept c.loop-number.number before.items after.items r.ensures.round.reached) r.ensures.whole c.loop-number.invariant.1))
+    subst (λ (joints : List Joint). IsJoined joints (dealt_nodes (grouped_nodes c.from_mut.result.now))) (sym c.joints-joints.ensures)
+    (subst (λ groups. IsJoined sample_joints (dealt_nodes (grouped_nodes groups))) (sym c.from_mut.ensures.value)
+    (subst (λ nodes. IsJoined sample_joints nodes) (sym (one_group after.items))
+    (joined_then c.loop-number.number sample_joints before.items after.items long (each_kept c.loop-number.number before.items after.items r.ensures.round.reached) r.ensures.whole c.loop-number.invariant.1)))
 
 pub loop-number-preserved : goal.loop-number-preserved
 loop-number-preserved g c =
-    let r = c.round_serial in
-    let nodes = r.new.group.nodes in
-    let new = c.meet_rings.new.nodes in
-    let rest = drop (length new) nodes.items in
-    let kept = c.meet_rings.auto.nodes in
-    let some = c.loop-number.invariant.0 in
-    let len : nodes.len ≡ length new = omega (arith, nodes.ok.0, kept, c.deref_mut.ensures.len) in
-    (omega (arith, some, r.ensures.count), subst (λ list. IsJoined sample_joints list) (sym (taken_whole new rest nodes.len len)) (subst (λ (joints : List Joint). IsJoined joints new) c.joints-joints.ensures c.meet_rings.ensures.joined))
+    let new = c.meet_rings.new.groups in
+    let group = slice_index_or new 0 c.round_serial.new.group in
+    let one : length new ≡ 1 = omega (arith, c.meet_rings.ensures.count, c.from_mut.ensures.len) in
+    let joined : IsJoined sample_joints group.nodes.items = subst (λ nodes. IsJoined sample_joints nodes) (sole_group new c.round_serial.new.group one)
+    (subst (λ (joints : List Joint). IsJoined joints (dealt_nodes (grouped_nodes new))) c.joints-joints.ensures c.meet_rings.ensures.joined) in
+    let some : 0 < length group.nodes.items = (joined.placed 0 (lit< tt)).from in
+    (omega (arith, some, group.nodes.ok.0), joined)
