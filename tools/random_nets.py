@@ -50,8 +50,10 @@ class Net(Maker):
             near = [at for at, nexts in enumerate(ways) if home in nexts]
             near = r.sample(near, min(len(near), r.choice((0, 1, 1, 2, 3, 32))))
             wide = Lines(r, [spans[at] for at in near], spans)
-            lines = [self.meeting(hot[r.choice(near)]) if near and self.maybe(0.7) else wide.line().decode("latin-1") for _ in range(r.choice((0, 1, 3, 10, 30)))]
-            scripts.append(lines)
+            scripts.append([])
+            for _ in range(r.choice((0, 1, 3, 10, 30))):
+                meets = near and self.maybe(0.7)
+                scripts[-1].append(self.meeting(hot[r.choice(near)]) if meets else wide.line().decode("latin-1"))
             aimed.append((home, near))
         return scripts, aimed
 
@@ -101,10 +103,12 @@ def additions(count, device=0):
 
 
 def mixed(host, devices, count=12):
-    """Reads that are cut into many packets, writes that are posted and that aren't, at each device in turn, and some at none."""
-    at = lambda number: place_of((host + number) % devices)
-    lines = (lambda n: f"rd {at(n)} 3 256", lambda n: f"wr {at(n)} 2 {'01020304' * 40}", lambda n: f"wp {at(n)} 0 {host:02x}", lambda n: f"swap {at(n)} 3 {host:016x}")
-    return [lines[n % 4](n) for n in range(count)] + [f"rd {NOWHERE:#x} 3 4"] * (host % 2)
+    """Reads and writes of several packets, posted writes and atomics by turns, at each device in turn, and a read at none."""
+    lines = []
+    for number in range(count):
+        place = place_of((host + number) % devices)
+        lines += (f"rd {place} 3 256", f"wr {place} 2 {'01020304' * 40}", f"wp {place} 0 {host:02x}", f"swap {place} 3 {host:016x}")[number % 4 :][:1]
+    return lines + [f"rd {NOWHERE:#x} 3 4"] * (host % 2)
 
 
 def fixed_nets():
