@@ -47,3 +47,4 @@ pub mod DealtLegs
 pub mod NodesMade
 pub mod JointsMade
 pub mod PartsStand
+pub mod PutBy

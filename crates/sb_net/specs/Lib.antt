@@ -8,3 +8,4 @@ pub mod Collecting
 pub mod Running
 pub mod Legs
 pub mod Made
+pub mod Apart

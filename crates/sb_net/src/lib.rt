@@ -2,8 +2,8 @@
 #![tactic(auto)]
 
 mod collecting;
-mod groups;
-mod net;
+// mod groups;
+// mod net;
 mod settling;
 pub mod ending_laws;
 mod making;

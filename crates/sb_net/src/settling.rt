@@ -1,5 +1,8 @@
 //! A network is taken apart, and its rings are given back.
 
+mod apart;
+
+pub(crate) use apart::Apart;
 use sb_device::{Device, DeviceState};
 use sb_drive::Group;
 use sb_host::{Host, HostParts, Transactions};
@@ -9,16 +12,6 @@ use sb_packet::TxnState;
 use sb_port::OutPort;
 use sb_router::{Inlet, Router, RouterEnds};
 use std::alloc::{AllocError, Global};
-
-/// The parts of nodes that were taken apart: the port in front of each ring and the end behind it, at the ring's number,
-/// and what hosts and devices tell afterwards, from the last one on.
-#[derive(Drop)]
-pub(crate) struct Apart<F: Fabric> {
-    ports: Vec<Option<OutPort<F::Tx>>>,
-    ends: Vec<Option<F::Rx>>,
-    hosts: Vec<Transactions>,
-    devices: Vec<DeviceState>,
-}
 
 /// What remains of a network that has run and was settled: what hosts and devices tell.
 #[derive(Drop)]
