@@ -48,3 +48,4 @@ pub mod NodesMade
 pub mod JointsMade
 pub mod PartsStand
 pub mod PutBy
+pub mod TakenNodes

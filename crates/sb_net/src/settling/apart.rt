@@ -2,7 +2,7 @@
 
 ghost use Rattle.std.specs.Prelude.{◌≡◌, ◌<◌, [], Some, IfOk, All, length, map, set, vec_capacity};
 ghost use Rattle.sb_node.specs.Sides.{ring_side};
-ghost use Rattle.sb_member.specs.declared.member.Member.TheVariants.{Host, Router, Device};
+ghost use Rattle.sb_member.specs.declared.member.Member.TheVariants as members;
 ghost use Rattle.sb_net.specs.Apart.{HasRoomFor, IsTaken, end_places, put_by, ring_ahead, ring_behind};
 
 use sb_device::{Device, DeviceState};
@@ -100,8 +100,8 @@ fn put_inlets<U: RxEnd>(ends: &mut Vec<Option<U>>, more: Vec<Inlet<U>>)
 
 /// Takes a host apart.
 fn take_host<F: Fabric>(host: Host<F>, apart: &mut Apart<F>)
-    requires room { HasRoomFor (Host host) apart.old }
-    ensures taken { IsTaken F.Rx.RxEnd (Host host) apart.old apart.new }
+    requires room { HasRoomFor (members.Host host) apart.old }
+    ensures taken { IsTaken F.Rx.RxEnd (members.Host host) apart.old apart.new }
 {
     let HostParts {
         transactions,
@@ -115,8 +115,8 @@ fn take_host<F: Fabric>(host: Host<F>, apart: &mut Apart<F>)
 
 /// Takes a router apart.
 fn take_router<F: Fabric>(router: Router<F>, apart: &mut Apart<F>)
-    requires room { HasRoomFor (Router router) apart.old }
-    ensures taken { IsTaken F.Rx.RxEnd (Router router) apart.old apart.new }
+    requires room { HasRoomFor (members.Router router) apart.old }
+    ensures taken { IsTaken F.Rx.RxEnd (members.Router router) apart.old apart.new }
 {
     let RouterEnds {
         requests_in,
@@ -132,8 +132,8 @@ fn take_router<F: Fabric>(router: Router<F>, apart: &mut Apart<F>)
 
 /// Takes a device apart.
 fn take_device<F: Fabric>(device: Device<F>, apart: &mut Apart<F>)
-    requires room { HasRoomFor (Device device) apart.old }
-    ensures taken { IsTaken F.Rx.RxEnd (Device device) apart.old apart.new }
+    requires room { HasRoomFor (members.Device device) apart.old }
+    ensures taken { IsTaken F.Rx.RxEnd (members.Device device) apart.old apart.new }
 {
     let (requests, answers, state) = device.into_parts();
     put_port(&mut apart.ports, answers);
