@@ -49,3 +49,4 @@ pub mod JointsMade
 pub mod PartsStand
 pub mod PutBy
 pub mod TakenNodes
+pub mod DealtLast

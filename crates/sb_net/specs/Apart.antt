@@ -1,5 +1,5 @@
 -- Nodes that are taken apart: their ports and ends lie at the numbers of their rings, and what hosts and devices tell lies in a list.
-use Rattle.std.specs.Prelude.{◌≡◌, ℕ, ◌+◌, ◌≤◌, ◌<◌, List, [], ◌∷◌, ◌++◌, All, Option, Some, length, map, flat_map, reverse, set, vec_len, vec_capacity}
+use Rattle.std.specs.Prelude.{◌≡◌, ℕ, ◌+◌, ◌≤◌, ◌<◌, List, [], ◌∷◌, ◌++◌, All, Option, Some, length, map, flat_map, set, vec_len, vec_capacity}
 use Rattle.std.specs.Option.{option_map}
 use Rattle.sb_packet.specs.Memories.{MemoryState}
 use Rattle.sb_link.specs.declared.ends.RxEnd as rx
@@ -61,11 +61,18 @@ module _ {F T U : Type 0} where
     pub host_room : vec_capacity after.hosts ≡ vec_capacity before.hosts
     pub device_room : vec_capacity after.devices ≡ vec_capacity before.devices
 
-  -- There is a place for each ring and for what each node tells, and nothing lies there.
-  pub record IsRoomFor (rings : ℕ) (nodes : List (Member F T U)) (apart : Apart F T U) : Type 0 where
-    pub ports : length apart.ports.items ≡ rings
-    pub ends : length apart.ends.items ≡ rings
+  -- There is a place for each end of some nodes, and for what they tell; nothing is told yet.
+  pub record IsRoomFor (nodes : List (Member F T U)) (apart : Apart F T U) : Type 0 where
+    pub ports : All (λ port. ring_ahead port < length apart.ports.items) (flat_map ports_of nodes)
+    pub ends : All (λ ring. ring_behind ring < length apart.ends.items) (flat_map rings_of nodes)
     pub no_hosts : apart.hosts.items ≡ []
     pub no_devices : apart.devices.items ≡ []
     pub hosts : length (flat_map member_transactions nodes) ≤ vec_capacity apart.hosts
     pub devices : length (flat_map member_memories nodes) ≤ vec_capacity apart.devices
+
+  -- Nodes were taken apart, from the last one on: their ports and ends were put at their rings' numbers, and what they tell stands in their order.
+  pub record AreTaken (rx : rx.Ghosts U) (nodes : List (Member F T U)) (before after : Apart F T U) : Type 0 where
+    pub ports : after.ports.items ≡ put_by ring_ahead (flat_map ports_of nodes) before.ports.items
+    pub ends : end_places rx after.ends.items ≡ put_by ring_behind (flat_map rings_of nodes) (end_places rx before.ends.items)
+    pub hosts : after.hosts.items ≡ flat_map member_transactions nodes
+    pub memories : memories_of after.devices.items ≡ flat_map member_memories nodes

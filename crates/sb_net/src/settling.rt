@@ -1,6 +1,7 @@
 //! A network is taken apart, and its rings are given back.
 
 mod apart;
+mod last_nodes;
 
 pub(crate) use apart::Apart;
 use sb_device::{Device, DeviceState};
