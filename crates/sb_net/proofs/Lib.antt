@@ -50,3 +50,5 @@ pub mod PartsStand
 pub mod PutBy
 pub mod TakenNodes
 pub mod DealtLast
+pub mod RingsLie
+pub mod TakenPlaces

@@ -9,3 +9,4 @@ pub mod Running
 pub mod Legs
 pub mod Made
 pub mod Apart
+pub mod GivenBack

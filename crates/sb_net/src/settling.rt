@@ -2,6 +2,7 @@
 
 mod apart;
 mod last_nodes;
+mod rings;
 
 pub(crate) use apart::Apart;
 use sb_device::{Device, DeviceState};
