@@ -52,3 +52,4 @@ pub mod TakenNodes
 pub mod DealtLast
 pub mod RingsLie
 pub mod TakenPlaces
+pub mod RingsBack

@@ -1,19 +1,27 @@
 //! A network is taken apart, and its rings are given back.
 
+ghost use Rattle.std.specs.Prelude.{◌≡◌, ◌<◌, ℕ, false, flat_map, length};
+ghost use Rattle.sb_packet.specs.Networks.{Network};
+ghost use Rattle.sb_node.specs.Sides.{received_words};
+ghost use Rattle.sb_laws.specs.NetworkLayouts.{ring_count};
+ghost use Rattle.sb_member.specs.Groups.{IsDealt, dealt_nodes, grouped_nodes, node_total};
+ghost use Rattle.sb_member.specs.Joints.{joint_at, receiver_of};
+ghost use Rattle.sb_net.specs.Apart.{IsRoomFor, member_memories, member_transactions, memories_of};
+ghost use Rattle.sb_net.specs.Legs.{first_plans};
+ghost use Rattle.sb_net.specs.Standing.{StandsFor};
+
 mod apart;
 mod last_nodes;
 mod rings;
 
 pub(crate) use apart::Apart;
-use sb_device::{Device, DeviceState};
+use last_nodes::take_apart;
+use rings::give_back;
+use sb_device::DeviceState;
 use sb_drive::Group;
-use sb_host::{Host, HostParts, Transactions};
-use sb_link::{Fabric, RxEnd};
-use sb_member::Member;
-use sb_packet::TxnState;
-use sb_port::OutPort;
-use sb_router::{Inlet, Router, RouterEnds};
-use std::alloc::{AllocError, Global};
+use sb_host::Transactions;
+use sb_link::Fabric;
+use sb_member::{Joint, Member};
 
 /// What remains of a network that has run and was settled: what hosts and devices tell.
 #[derive(Drop)]
@@ -22,19 +30,36 @@ pub struct SettledNet {
     devices: Vec<DeviceState>,
 }
 
-impl SettledNet {
-    /// How far a transaction has come, by the place of its host in the bundle, and its own in the host's script.
-    pub fn state(&self, host: u8, index: u32) -> TxnState {
-        self.hosts[usize::from(host)].state(index)
-    }
-
-    /// The bytes that were answered to it; none where it isn't answered.
-    pub fn body(&self, host: u8, index: u32) -> &[u8] {
-        self.hosts[usize::from(host)].body(index)
-    }
-
-    /// The bytes of a device's memory, by its place in the bundle.
-    pub fn image(&self, device: u8) -> &[u8] {
-        self.devices[usize::from(device)].memory.image()
-    }
+/// Takes all nodes of a network apart, and gives the ends of its rings back to the fabric that made them, which keeps
+/// what each ring carried. Takes no memory.
+pub(crate) fn settle_nodes<F: Fabric>(
+    fabric: &mut F,
+    groups: &mut [Group<Member<F>>],
+    count: usize,
+    joints: &[Joint],
+    room: Apart<F>,
+) -> SettledNet
+    requires dealt { IsDealt (grouped_nodes groups.old) }
+    requires count { count ≡ node_total (grouped_nodes groups.old) }
+    requires room { IsRoomFor (dealt_nodes (grouped_nodes groups.old)) room }
+    requires ports { length room.ports.items ≡ length joints.now }
+    requires ends { length room.ends.items ≡ length joints.now }
+    requires stands { (network : Network) × StandsFor network joints.now (dealt_nodes (grouped_nodes groups.old))
+        × F.made fabric.old ≡ first_plans network (ring_count network)
+        × ((r : ℕ) → r < ring_count network → F.settled fabric.old r ≡ false) }
+    ensures carried { (network : Network) → StandsFor network joints.now (dealt_nodes (grouped_nodes groups.old))
+        → (r : ℕ) → r < ring_count network
+        → F.carried fabric.new r ≡ received_words (receiver_of (dealt_nodes (grouped_nodes groups.old)) (joint_at joints.now r)) }
+    ensures made { F.made fabric.new ≡ F.made fabric.old }
+    ensures hosts { result.hosts.items ≡ flat_map member_transactions (dealt_nodes (grouped_nodes groups.old)) }
+    ensures memories { memories_of result.devices.items ≡ flat_map member_memories (dealt_nodes (grouped_nodes groups.old)) }
+{
+    let Apart {
+        ports,
+        ends,
+        hosts,
+        devices,
+    } = take_apart(groups, count, room);
+    give_back(fabric, ports, ends);
+    SettledNet { hosts, devices }
 }
