@@ -85,9 +85,9 @@ module _ {F T U : Type 0} (groups : List (List (Member F T U))) (n : ℕ) (dealt
           let here : k < w = subst (λ m. k < m) count_stays inside in
           subst (λ m. (p < length (nodes_in after k)) ↔ (p * m + k < node_total after)) (sym count_stays)
           (subst (λ m. (p < length (nodes_in after k)) ↔ (p * w + k < m)) (sym total_after)
-            (same_or_not k g
-              (λ e. subst (λ i. (p < length (nodes_in after i)) ↔ (p * w + i < n)) (sym e) (subst (λ (list : List (Member F T U)). (p < length list) ↔ (p * w + g < n)) (sym nodes_there) (numbered_there p)))
-              (λ differs. subst (λ (list : List (Member F T U)). (p < length list) ↔ (p * w + k < n)) (sym (nodes_elsewhere k differs)) (numbered_elsewhere k p here differs))));
+          (same_or_not k g
+          (λ e. subst (λ i. (p < length (nodes_in after i)) ↔ (p * w + i < n)) (sym e) (subst (λ (list : List (Member F T U)). (p < length list) ↔ (p * w + g < n)) (sym nodes_there) (numbered_there p)))
+          (λ differs. subst (λ (list : List (Member F T U)). (p < length list) ↔ (p * w + k < n)) (sym (nodes_elsewhere k differs)) (numbered_elsewhere k p here differs))));
     }
 
     long_after : length (dealt_nodes after) ≡ n
@@ -101,20 +101,20 @@ module _ {F T U : Type 0} (groups : List (List (Member F T U))) (n : ℕ) (dealt
         let joined = length-append (dealt_nodes after) (x ∷ []) in
         ext_get_or no_node (dealt_nodes groups) (dealt_nodes after ++ x ∷ []) (omega (arith, all, few, joined))
         (λ k below. let inside : k < n + 1 = subst (λ m. k < m) all below in
-            let low : k < node_total groups = omega (arith, inside, last) in
-            stands_in groups k low ∙ same_or_not k n
-            (λ e. ap (λ m. node_at (nodes_in groups (m % w)) (m / w)) e ∙ ap (λ (list : List (Member F T U)). node_at list (n / w)) is ∙ ap (λ m. node_at (nodes ++ x ∷ []) m) (sym one_fewer)
-            ∙ get_or-append_seam nodes x [] no_node
-            ∙ sym (ap (λ m. node_at (dealt_nodes after ++ x ∷ []) m) (e ∙ sym few) ∙ get_or-append_seam (dealt_nodes after) x [] no_node))
-            (λ differs. let under : k < node_total after = let t = total_after in omega (arith, inside, differs, t) in
-                let stands : node_at (dealt_nodes after) k ≡ node_at (nodes_in after (k % w)) (k / w) = stands_in after k under ∙ ap (λ m. node_at (nodes_in after (k % m)) (k / m)) count_stays in
-                let place : k / w < length (nodes_in after (k % w)) = subst (λ m. k / m < length (nodes_in after (k % m))) count_stays (place_there after dealt_after k under) in
-                same_or_not (k % w) g
-                (λ e. let in_nodes : k / w < length nodes = subst (λ (list : List (Member F T U)). k / w < length list) (ap (λ i. nodes_in after i) e ∙ nodes_there) place in
-                    ap (λ i. node_at (nodes_in groups i) (k / w)) e ∙ ap (λ (list : List (Member F T U)). node_at list (k / w)) is ∙ get_or-append nodes (x ∷ []) no_node (k / w) in_nodes
-                    ∙ sym (ap (λ (list : List (Member F T U)). node_at list (k / w)) (ap (λ i. nodes_in after i) e ∙ nodes_there)))
-                (λ apart. sym (ap (λ (list : List (Member F T U)). node_at list (k / w)) (nodes_elsewhere (k % w) apart)))
-                ∙ sym stands ∙ sym (get_or-append (dealt_nodes after) (x ∷ []) no_node k (omega (arith, under, total_of after)))))
+        let low : k < node_total groups = omega (arith, inside, last) in
+        stands_in groups k low ∙ same_or_not k n
+        (λ e. ap (λ m. node_at (nodes_in groups (m % w)) (m / w)) e ∙ ap (λ (list : List (Member F T U)). node_at list (n / w)) is ∙ ap (λ m. node_at (nodes ++ x ∷ []) m) (sym one_fewer)
+        ∙ get_or-append_seam nodes x [] no_node
+        ∙ sym (ap (λ m. node_at (dealt_nodes after ++ x ∷ []) m) (e ∙ sym few) ∙ get_or-append_seam (dealt_nodes after) x [] no_node))
+        (λ differs. let under : k < node_total after = let t = total_after in omega (arith, inside, differs, t) in
+        let stands : node_at (dealt_nodes after) k ≡ node_at (nodes_in after (k % w)) (k / w) = stands_in after k under ∙ ap (λ m. node_at (nodes_in after (k % m)) (k / m)) count_stays in
+        let place : k / w < length (nodes_in after (k % w)) = subst (λ m. k / m < length (nodes_in after (k % m))) count_stays (place_there after dealt_after k under) in
+        same_or_not (k % w) g
+        (λ e. let in_nodes : k / w < length nodes = subst (λ (list : List (Member F T U)). k / w < length list) (ap (λ i. nodes_in after i) e ∙ nodes_there) place in
+        ap (λ i. node_at (nodes_in groups i) (k / w)) e ∙ ap (λ (list : List (Member F T U)). node_at list (k / w)) is ∙ get_or-append nodes (x ∷ []) no_node (k / w) in_nodes
+        ∙ sym (ap (λ (list : List (Member F T U)). node_at list (k / w)) (ap (λ i. nodes_in after i) e ∙ nodes_there)))
+        (λ apart. sym (ap (λ (list : List (Member F T U)). node_at list (k / w)) (nodes_elsewhere (k % w) apart)))
+        ∙ sym stands ∙ sym (get_or-append (dealt_nodes after) (x ∷ []) no_node k (omega (arith, under, total_of after)))))
 
 -- A group gives out its last node, which is the last of all.
 pub record HasGivenLast {F T U : Type 0} (n : ℕ) (before after : List (List (Member F T U))) (popped : Option (Member F T U)) : Type 0 where

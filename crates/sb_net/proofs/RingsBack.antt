@@ -75,4 +75,4 @@ module _ {F T U : Type 0} (rx : rx.Ghosts U) (network : Network) (joints : List 
   made_at made n are count r port below is = let long = ports_count in let lt : r < length joints = omega (arith, below, long) in
       subst (λ list. Contains list port.plan) (sym are)
       (subst (λ plan. Contains (first_plans network n) plan) (sym (s.sends_by r lt) ∙ ap (λ p. p.plan) (one_held (slice_index_or ports r None) (sender_of nodes (joint_at joints r)) port (port_there r lt) is))
-        (plan_made network n r (omega (arith, lt, count))))
+      (plan_made network n r (omega (arith, lt, count))))

@@ -4,10 +4,10 @@
 mod collecting;
 // mod groups;
 // mod net;
-mod settling;
 pub mod ending_laws;
 mod making;
 mod running;
+mod settling;
 pub mod spending_laws;
 pub mod standing_laws;
 pub mod standstill_laws;

@@ -40,7 +40,12 @@ impl<F: Fabric> Apart<F> {
     /// # Errors
     ///
     /// `AllocError` where there isn't enough memory.
-    pub fn new(alloc: Global, rings: usize, hosts: usize, devices: usize) -> Result<Apart<F>, AllocError>
+    pub fn new(
+        alloc: Global,
+        rings: usize,
+        hosts: usize,
+        devices: usize,
+    ) -> Result<Apart<F>, AllocError>
         ensures ports { IfOk result (λ apart. length apart.ports.items ≡ rings) }
         ensures ends { IfOk result (λ apart. length apart.ends.items ≡ rings) }
         ensures no_hosts { IfOk result (λ apart. apart.hosts.items ≡ []) }

@@ -10,7 +10,10 @@ use sb_link::Fabric;
 use sb_member::Member;
 
 /// Takes the node of the last number out of its group. Takes no memory.
-pub(crate) fn pop_last<F: Fabric>(groups: &mut [Group<Member<F>>], number: usize) -> Option<Member<F>>
+pub(crate) fn pop_last<F: Fabric>(
+    groups: &mut [Group<Member<F>>],
+    number: usize,
+) -> Option<Member<F>>
     requires dealt { IsDealt (grouped_nodes groups.old) }
     requires last { number + 1 ≡ node_total (grouped_nodes groups.old) }
     ensures some { IsSome result }
@@ -24,7 +27,11 @@ pub(crate) fn pop_last<F: Fabric>(groups: &mut [Group<Member<F>>], number: usize
 }
 
 /// Takes all nodes apart, from the last one down to the first. Takes no memory.
-pub(crate) fn take_apart<F: Fabric>(groups: &mut [Group<Member<F>>], count: usize, apart: Apart<F>) -> Apart<F>
+pub(crate) fn take_apart<F: Fabric>(
+    groups: &mut [Group<Member<F>>],
+    count: usize,
+    apart: Apart<F>,
+) -> Apart<F>
     requires dealt { IsDealt (grouped_nodes groups.old) }
     requires count { count ≡ node_total (grouped_nodes groups.old) }
     requires room { IsRoomFor (dealt_nodes (grouped_nodes groups.old)) apart }

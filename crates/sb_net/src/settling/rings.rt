@@ -9,7 +9,11 @@ use sb_link::Fabric;
 use sb_port::OutPort;
 
 /// Gives the ends of all rings back to the fabric that made them. Takes no memory.
-pub(crate) fn give_back<F: Fabric>(fabric: &mut F, ports: Vec<Option<OutPort<F::Tx>>>, ends: Vec<Option<F::Rx>>)
+pub(crate) fn give_back<F: Fabric>(
+    fabric: &mut F,
+    ports: Vec<Option<OutPort<F::Tx>>>,
+    ends: Vec<Option<F::Rx>>,
+)
     requires count { length ends.items ≡ length ports.items }
     requires ends { (r : ℕ) → r < length ports.items → HasEndsAt F.Rx.RxEnd r ports.items ends.items }
     requires made { (r : ℕ) (port : PortSide) → r < length ports.items → slice_index_or ports.items r None ≡ Some port

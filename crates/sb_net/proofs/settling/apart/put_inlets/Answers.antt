@@ -20,9 +20,11 @@ pub put_end-requires : goal.put_end-requires
 put_end-requires g c =
     let is = ap (λ list. map (λ inlet. inlet.ring) list) c.in-Some.ensures.items ∙ map-append (λ inlet. inlet.ring) c.pop.new.self.items (c.in-Some.inlet ∷ []) in
     let lt = next_within ring_behind (map (λ inlet. inlet.ring) c.args.more.items) (end_places g.U.RxEnd c.args.ends.now.items) (map (λ inlet. inlet.ring) c.loop-inlet.more.items)
-        (map (λ inlet. inlet.ring) c.pop.new.self.items) c.in-Some.inlet.ring (end_places g.U.RxEnd c.loop-inlet.ends.items) c.loop-inlet.invariant is in
-    record { within = subst (λ ring. ring.plan.ring < length c.loop-inlet.ends.items) (sym c.into_end.ensures.ring)
-        (subst (λ n. c.in-Some.inlet.ring.plan.ring < n) (length-map c.loop-inlet.ends.items (option_map (ring_side g.U.RxEnd))) lt) }
+    (map (λ inlet. inlet.ring) c.pop.new.self.items) c.in-Some.inlet.ring (end_places g.U.RxEnd c.loop-inlet.ends.items) c.loop-inlet.invariant is in
+    record {
+      within = subst (λ ring. ring.plan.ring < length c.loop-inlet.ends.items) (sym c.into_end.ensures.ring)
+          (subst (λ n. c.in-Some.inlet.ring.plan.ring < n) (length-map c.loop-inlet.ends.items (option_map (ring_side g.U.RxEnd))) lt);
+    }
 
 pub loop-inlet-preserved : goal.loop-inlet-preserved
 loop-inlet-preserved g c =
@@ -30,6 +32,6 @@ loop-inlet-preserved g c =
     let end = c.into_end.result in
     let is = ap (λ list. map (λ inlet. inlet.ring) list) c.in-Some.ensures.items ∙ map-append (λ inlet. inlet.ring) c.pop.new.self.items (c.in-Some.inlet ∷ []) in
     let put = ap (end_places rx) c.put_end.ensures.put ∙ map-set (option_map (ring_side rx)) c.loop-inlet.ends.items (rx.planned end).ring (Some end)
-        ∙ ap (λ ring. set (end_places rx c.loop-inlet.ends.items) (ring_behind ring) (Some ring)) c.into_end.ensures.ring in
+    ∙ ap (λ ring. set (end_places rx c.loop-inlet.ends.items) (ring_behind ring) (Some ring)) c.into_end.ensures.ring in
     put_next ring_behind (map (λ inlet. inlet.ring) c.args.more.items) (end_places rx c.args.ends.now.items) (map (λ inlet. inlet.ring) c.loop-inlet.more.items)
     (map (λ inlet. inlet.ring) c.pop.new.self.items) c.in-Some.inlet.ring (end_places rx c.loop-inlet.ends.items) (end_places rx c.put_end.new.ends.items) c.loop-inlet.invariant is put

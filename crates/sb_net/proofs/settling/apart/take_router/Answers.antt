@@ -24,7 +24,7 @@ put_ports-requires-2 g c =
     record {
       within = subst (λ list. All (λ port. ring_ahead port < length c.put_ports.new.ports.items) list) (sym c.into_ends-requests_in.ensures.requests_out)
           (subst (λ n. All (λ port. ring_ahead port < n) r.requests.lane.outlets) (sym long)
-            (All-left (λ port. ring_ahead port < length before) r.requests.lane.outlets r.answers.lane.outlets c.requires.room.ports));
+          (All-left (λ port. ring_ahead port < length before) r.requests.lane.outlets r.answers.lane.outlets c.requires.room.ports));
     }
 
 pub put_inlets-requires : goal.put_inlets-requires
@@ -34,7 +34,7 @@ put_inlets-requires g c =
     record {
       within = subst (λ list. All (λ inlet. ring_behind inlet.ring < n) list) (sym c.into_ends-requests_in.ensures.answers_in)
           (mapped_all (λ ring. ring_behind ring < n) (λ inlet. inlet.ring) r.answers.lane.inlets
-            (All-right (λ ring. ring_behind ring < n) (map (λ x. x.ring) r.requests.lane.inlets) (map (λ x. x.ring) r.answers.lane.inlets) c.requires.room.ends));
+          (All-right (λ ring. ring_behind ring < n) (map (λ x. x.ring) r.requests.lane.inlets) (map (λ x. x.ring) r.answers.lane.inlets) c.requires.room.ends));
     }
 
 pub put_inlets-requires-2 : goal.put_inlets-requires-2
@@ -45,8 +45,8 @@ put_inlets-requires-2 g c =
     record {
       within = subst (λ list. All (λ inlet. ring_behind inlet.ring < length c.put_inlets.new.ends.items) list) (sym c.into_ends-requests_in.ensures.requests_in)
           (subst (λ n. All (λ inlet. ring_behind inlet.ring < n) r.requests.lane.inlets) (sym long)
-            (mapped_all (λ ring. ring_behind ring < length before) (λ inlet. inlet.ring) r.requests.lane.inlets
-              (All-left (λ ring. ring_behind ring < length before) (map (λ x. x.ring) r.requests.lane.inlets) (map (λ x. x.ring) r.answers.lane.inlets) c.requires.room.ends)));
+          (mapped_all (λ ring. ring_behind ring < length before) (λ inlet. inlet.ring) r.requests.lane.inlets
+          (All-left (λ ring. ring_behind ring < length before) (map (λ x. x.ring) r.requests.lane.inlets) (map (λ x. x.ring) r.answers.lane.inlets) c.requires.room.ends)));
     }
 
 pub returns : goal.returns

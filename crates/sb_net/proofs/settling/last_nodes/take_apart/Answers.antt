@@ -31,5 +31,5 @@ returns g c =
     let total = i.total in let out = c.loop-taken-test.false in let up = c.loop-taken.auto.taken-end in
     let none = total_of (grouped_nodes c.loop-taken.groups) in
     let all = all_taken g.F.Rx.RxEnd (dealt_nodes (grouped_nodes c.args.groups.now)) (dealt_nodes (grouped_nodes c.loop-taken.groups)) c.args.apart c.loop-taken.apart c.reverse.new.self.items c.reverse-2.new.self.items
-        i.so_far (omega (arith, none, total, out, up)) c.reverse.ensures.items c.reverse-2.ensures.items in
+    i.so_far (omega (arith, none, total, out, up)) c.reverse.ensures.items c.reverse-2.ensures.items in
     record { taken = record { hosts = all.0; memories = all.1; ports = all.2; ends = all.3 } }

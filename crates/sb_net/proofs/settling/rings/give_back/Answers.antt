@@ -24,7 +24,7 @@ returns-in_default-take-clause-carried g c =
     let lt : r < length c.args.ports.items = omega (arith, c.loop-ring-test.true, c.len-ring-end.ensures, c.args.ports.ok.0) in
     let at = c.requires.ends r lt in
     let got = taken_is c.loop-ring.ends.items c.args.ends.items r c.take-in-loop-ring.result c.index_mut-in-loop-ring.result.now i.ends_count (omega (arith, lt, count)) c.take-in-loop-ring.ensures.value
-        c.index_mut-in-loop-ring.ensures.value (i.ends_left r (omega arith)) in
+    c.index_mut-in-loop-ring.ensures.value (i.ends_left r (omega arith)) in
     absurd (not_both (slice_index_or c.args.ends.items r None) at.end (got ∙ c.in_default-take.is) at.end_there)
 
 pub settle-requires-clause-marks : goal.settle-requires-clause-marks
@@ -36,7 +36,7 @@ settle-requires-clause-marks g c =
     let at = c.requires.ends r lt in
     let port = taken_is c.loop-ring.ports.items c.args.ports.items r c.take.result c.index_mut.result.now i.ports_count lt c.take.ensures.value c.index_mut.ensures.value (i.ports_left r (omega arith)) in
     let end = taken_is c.loop-ring.ends.items c.args.ends.items r c.take-in-loop-ring.result c.index_mut-in-loop-ring.result.now i.ends_count (omega (arith, lt, count)) c.take-in-loop-ring.ensures.value
-        c.index_mut-in-loop-ring.ensures.value (i.ends_left r (omega arith)) in
+    c.index_mut-in-loop-ring.ensures.value (i.ends_left r (omega arith)) in
     c.into_end.ensures.mark ∙ ap (λ p. p.mark) (one_held (slice_index_or c.args.ports.items r None) c.in-Some.port at.port (port ∙ c.in-Some.is) at.port_there) ∙ at.marks
     ∙ ap g.F.Rx.RxEnd.mark (one_held (slice_index_or c.args.ends.items r None) at.end c.in-Some-take.end at.end_there (end ∙ c.in-Some-take.is))
 
@@ -68,7 +68,7 @@ loop-ring-preserved g c =
     let at = c.requires.ends r lt in
     let port = taken_is c.loop-ring.ports.items c.args.ports.items r c.take.result c.index_mut.result.now i.ports_count lt c.take.ensures.value c.index_mut.ensures.value (i.ports_left r (omega arith)) in
     let end = taken_is c.loop-ring.ends.items c.args.ends.items r c.take-in-loop-ring.result c.index_mut-in-loop-ring.result.now i.ends_count (omega (arith, lt, count)) c.take-in-loop-ring.ensures.value
-        c.index_mut-in-loop-ring.ensures.value (i.ends_left r (omega arith)) in
+    c.index_mut-in-loop-ring.ensures.value (i.ends_left r (omega arith)) in
     let number = ap (λ plan. plan.ring) c.into_end.ensures.plan ∙ ap (λ p. p.plan.ring) (one_held (slice_index_or c.args.ports.items r None) c.in-Some.port at.port (port ∙ c.in-Some.is) at.port_there) ∙ at.ring in
     record {
       ports_count = length-set c.loop-ring.ports.items r c.take.new.self ∙ i.ports_count;
