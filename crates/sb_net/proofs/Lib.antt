@@ -49,3 +49,9 @@ pub mod DealtLegs
 pub mod NodesMade
 pub mod JointsMade
 pub mod PartsStand
+pub mod PutBy
+pub mod TakenNodes
+pub mod DealtLast
+pub mod RingsLie
+pub mod TakenPlaces
+pub mod RingsBack

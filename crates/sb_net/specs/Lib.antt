@@ -9,3 +9,5 @@ pub mod Running
 pub mod Legs
 pub mod Made
 pub mod Nets
+pub mod Apart
+pub mod GivenBack

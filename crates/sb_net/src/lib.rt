@@ -7,6 +7,7 @@ pub mod ending_laws;
 mod making;
 mod net;
 mod running;
+mod settling;
 pub mod spending_laws;
 pub mod standing_laws;
 pub mod standstill_laws;

@@ -1,0 +1,65 @@
+//! A network is taken apart, and its rings are given back.
+
+ghost use Rattle.std.specs.Prelude.{◌≡◌, ◌<◌, ℕ, false, flat_map, length};
+ghost use Rattle.sb_packet.specs.Networks.{Network};
+ghost use Rattle.sb_node.specs.Sides.{received_words};
+ghost use Rattle.sb_laws.specs.NetworkLayouts.{ring_count};
+ghost use Rattle.sb_member.specs.Groups.{IsDealt, dealt_nodes, grouped_nodes, node_total};
+ghost use Rattle.sb_member.specs.Joints.{joint_at, receiver_of};
+ghost use Rattle.sb_net.specs.Apart.{IsRoomFor, member_memories, member_transactions, memories_of};
+ghost use Rattle.sb_net.specs.Legs.{first_plans};
+ghost use Rattle.sb_net.specs.Standing.{StandsFor};
+
+mod apart;
+mod last_nodes;
+mod rings;
+
+pub(crate) use apart::Apart;
+use last_nodes::take_apart;
+use rings::give_back;
+use sb_device::DeviceState;
+use sb_drive::Group;
+use sb_host::Transactions;
+use sb_link::Fabric;
+use sb_member::{Joint, Member};
+
+/// What remains of a network that has run and was settled: what hosts and devices tell.
+#[derive(Drop)]
+pub struct SettledNet {
+    hosts: Vec<Transactions>,
+    devices: Vec<DeviceState>,
+}
+
+/// Takes all nodes of a network apart, and gives the ends of its rings back to the fabric that made them, which keeps
+/// what each ring carried. Takes no memory.
+pub(crate) fn settle_nodes<F: Fabric>(
+    fabric: &mut F,
+    groups: &mut [Group<Member<F>>],
+    count: usize,
+    joints: &[Joint],
+    room: Apart<F>,
+) -> SettledNet
+    requires dealt { IsDealt (grouped_nodes groups.old) }
+    requires count { count ≡ node_total (grouped_nodes groups.old) }
+    requires room { IsRoomFor (dealt_nodes (grouped_nodes groups.old)) room }
+    requires ports { length room.ports.items ≡ length joints.now }
+    requires ends { length room.ends.items ≡ length joints.now }
+    requires stands { (network : Network) × StandsFor network joints.now (dealt_nodes (grouped_nodes groups.old))
+        × F.made fabric.old ≡ first_plans network (ring_count network)
+        × ((r : ℕ) → r < ring_count network → F.settled fabric.old r ≡ false) }
+    ensures carried { (network : Network) → StandsFor network joints.now (dealt_nodes (grouped_nodes groups.old))
+        → (r : ℕ) → r < ring_count network
+        → F.carried fabric.new r ≡ received_words (receiver_of (dealt_nodes (grouped_nodes groups.old)) (joint_at joints.now r)) }
+    ensures made { F.made fabric.new ≡ F.made fabric.old }
+    ensures hosts { result.hosts.items ≡ flat_map member_transactions (dealt_nodes (grouped_nodes groups.old)) }
+    ensures memories { memories_of result.devices.items ≡ flat_map member_memories (dealt_nodes (grouped_nodes groups.old)) }
+{
+    let Apart {
+        ports,
+        ends,
+        hosts,
+        devices,
+    } = take_apart(groups, count, room);
+    give_back(fabric, ports, ends);
+    SettledNet { hosts, devices }
+}
