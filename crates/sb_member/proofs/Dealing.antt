@@ -52,7 +52,7 @@ module _ {F T U : Type 0} (groups : List (List (Member F T U))) (dealt : IsDealt
       let at : k / w * w + g ≡ k = div-add-mod' k w in
       let not_there : length (nodes_in groups g) ≤ k / w = at_most (length (nodes_in groups g)) (k / w) (λ lt. let inside = (dealt.numbered g (k / w) here).0 lt in omega (arith, inside, at)) in
       let all : k / w ≤ length (nodes_in groups g) = at_most (k / w) (length (nodes_in groups g)) (λ lt.
-          let inside = (dealt.numbered g (length (nodes_in groups g)) here).1 (let rows : length (nodes_in groups g) * w < k / w * w = mul-lt-mul_of_pos_right lt dealt.some in omega (arith, rows, at)) in omega (arith, inside)) in
+      let inside = (dealt.numbered g (length (nodes_in groups g)) here).1 (let rows : length (nodes_in groups g) * w < k / w * w = mul-lt-mul_of_pos_right lt dealt.some in omega (arith, rows, at)) in omega (arith, inside)) in
       omega (arith, not_there, all)
     where
       at_most : (a b : ℕ) → (b < a → ⊥) → a ≤ b
@@ -109,18 +109,18 @@ module _ {F T U : Type 0} (groups : List (List (Member F T U))) (dealt : IsDealt
       let before : length (dealt_nodes groups) ≡ k = total_of groups in
       ext_get_or no_node (dealt_nodes added) (dealt_nodes groups ++ x ∷ []) (omega (arith, all, before, length-append (dealt_nodes groups) (x ∷ [])))
       (λ i below. let inside : i < k + 1 = omega (arith, below, all) in
-          let stands : node_at (dealt_nodes added) i ≡ node_at (nodes_in added (i % w)) (i / w) =
-          stands_in added i (omega (arith, inside, added_total)) ∙ ap (λ n. node_at (nodes_in added (i % n)) (i / n)) added_count in
-          stands ∙ same_or_not i k
-          (λ e. ap (λ n. node_at (nodes_in added (n % w)) (n / w)) e ∙ ap (λ list. node_at list (k / w)) added_here ∙ ap (λ n. node_at more n) (sym row) ∙ get_or-append_seam (nodes_in groups g) x [] no_node
-          ∙ sym (ap (λ n. node_at (dealt_nodes groups ++ x ∷ []) n) (e ∙ sym before) ∙ get_or-append_seam (dealt_nodes groups) x [] no_node))
-          (λ differs. let lt : i < k = below_not i k inside differs in
-              let there = place_there groups dealt i lt in
-              same_or_not (i % w) g
-              (λ e. ap (λ h. node_at (nodes_in added h) (i / w)) e ∙ ap (λ list. node_at list (i / w)) added_here
-              ∙ get_or_append_left (nodes_in groups g) (x ∷ []) no_node (i / w) (subst (λ h. i / w < length (nodes_in groups h)) e there) ∙ ap (λ h. node_at (nodes_in groups h) (i / w)) (sym e))
-              (λ apart. ap (λ list. node_at list (i / w)) (added_elsewhere (i % w) apart))
-              ∙ sym (stands_in groups i lt) ∙ sym (get_or_append_left (dealt_nodes groups) (x ∷ []) no_node i (omega (arith, lt, before)))))
+      let stands : node_at (dealt_nodes added) i ≡ node_at (nodes_in added (i % w)) (i / w) =
+      stands_in added i (omega (arith, inside, added_total)) ∙ ap (λ n. node_at (nodes_in added (i % n)) (i / n)) added_count in
+      stands ∙ same_or_not i k
+      (λ e. ap (λ n. node_at (nodes_in added (n % w)) (n / w)) e ∙ ap (λ list. node_at list (k / w)) added_here ∙ ap (λ n. node_at more n) (sym row) ∙ get_or-append_seam (nodes_in groups g) x [] no_node
+      ∙ sym (ap (λ n. node_at (dealt_nodes groups ++ x ∷ []) n) (e ∙ sym before) ∙ get_or-append_seam (dealt_nodes groups) x [] no_node))
+      (λ differs. let lt : i < k = below_not i k inside differs in
+      let there = place_there groups dealt i lt in
+      same_or_not (i % w) g
+      (λ e. ap (λ h. node_at (nodes_in added h) (i / w)) e ∙ ap (λ list. node_at list (i / w)) added_here
+      ∙ get_or_append_left (nodes_in groups g) (x ∷ []) no_node (i / w) (subst (λ h. i / w < length (nodes_in groups h)) e there) ∙ ap (λ h. node_at (nodes_in groups h) (i / w)) (sym e))
+      (λ apart. ap (λ list. node_at list (i / w)) (added_elsewhere (i % w) apart))
+      ∙ sym (stands_in groups i lt) ∙ sym (get_or_append_left (dealt_nodes groups) (x ∷ []) no_node i (omega (arith, lt, before)))))
 
 -- an element of a list that has nothing else
 alike : {A : Type 0} (x : A) (n k : ℕ) → slice_index_or (replicate n x) k x ≡ x

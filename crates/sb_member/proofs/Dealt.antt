@@ -95,17 +95,17 @@ module _ {F T U : Type 0} (groups : List (List (Member F T U))) where
         let all : length (dealt_nodes then) ≡ node_total groups = total_of then ∙ totals in
         ext_get_or no_node (dealt_nodes then) (set (dealt_nodes groups) n x) (all ∙ sym (total_of groups) ∙ sym (length-set (dealt_nodes groups) n x))
         (λ k below. let inside : k < node_total groups = subst (λ m. k < m) all below in
-            let stands : node_at (dealt_nodes then) k ≡ node_at (nodes_in then (k % w)) (k / w) =
-            stands_in then k (subst (λ m. k < m) (sym totals) inside) ∙ ap (λ m. node_at (nodes_in then (k % m)) (k / m)) counts in
-            same_or_not k n
-            (λ e. stands ∙ ap (λ m. node_at (nodes_in then (m % w)) (m / w)) e ∙ ap (λ list. node_at list (n / w)) (nodes_there g nodes here long)
-            ∙ get_or-set_same (nodes_in groups g) (n / w) x no_node (place_there n lt)
-            ∙ sym (ap (λ m. node_at (set (dealt_nodes groups) n x) m) e ∙ get_or-set_same (dealt_nodes groups) n x no_node (subst (λ m. n < m) (sym (total_of groups)) lt)))
-            (λ differs. stands ∙ same_or_not (k % w) g
-                (λ e. ap (λ m. node_at (nodes_in then m) (k / w)) e ∙ ap (λ list. node_at list (k / w)) (nodes_there g nodes here long)
-                ∙ get_or-set_other (nodes_in groups g) (n / w) (k / w) x no_node (places_differ k n w differs e) ∙ sym (ap (λ m. node_at (nodes_in groups m) (k / w)) e))
-                (λ apart. ap (λ list. node_at list (k / w)) (nodes_elsewhere g nodes here long (k % w) apart))
-            ∙ sym (stands_in groups k inside) ∙ sym (get_or-set_other (dealt_nodes groups) n k x no_node differs)))
+        let stands : node_at (dealt_nodes then) k ≡ node_at (nodes_in then (k % w)) (k / w) =
+        stands_in then k (subst (λ m. k < m) (sym totals) inside) ∙ ap (λ m. node_at (nodes_in then (k % m)) (k / m)) counts in
+        same_or_not k n
+        (λ e. stands ∙ ap (λ m. node_at (nodes_in then (m % w)) (m / w)) e ∙ ap (λ list. node_at list (n / w)) (nodes_there g nodes here long)
+        ∙ get_or-set_same (nodes_in groups g) (n / w) x no_node (place_there n lt)
+        ∙ sym (ap (λ m. node_at (set (dealt_nodes groups) n x) m) e ∙ get_or-set_same (dealt_nodes groups) n x no_node (subst (λ m. n < m) (sym (total_of groups)) lt)))
+        (λ differs. stands ∙ same_or_not (k % w) g
+        (λ e. ap (λ m. node_at (nodes_in then m) (k / w)) e ∙ ap (λ list. node_at list (k / w)) (nodes_there g nodes here long)
+        ∙ get_or-set_other (nodes_in groups g) (n / w) (k / w) x no_node (places_differ k n w differs e) ∙ sym (ap (λ m. node_at (nodes_in groups m) (k / w)) e))
+        (λ apart. ap (λ list. node_at list (k / w)) (nodes_elsewhere g nodes here long (k % w) apart))
+        ∙ sym (stands_in groups k inside) ∙ sym (get_or-set_other (dealt_nodes groups) n k x no_node differs)))
 
 -- a list is the whole of itself
 pub taken_whole : {A : Type 0} (new rest : List A) (n : ℕ) → n ≡ length new → take n (new ++ rest) ≡ new
@@ -140,7 +140,7 @@ of_one k = (let lt : k % 1 < 1 = mod-lt k (omega arith) in omega (arith, lt), le
 pub one_group : {F T U : Type 0} (nodes : List (Member F T U)) → dealt_nodes (nodes ∷ []) ≡ nodes
 one_group nodes = ext_get_or no_node (dealt_nodes (nodes ∷ [])) nodes (total_of (nodes ∷ []) ∙ one_total nodes)
     (λ k below. let inside : k < node_total (nodes ∷ []) = subst (λ n. k < n) (total_of (nodes ∷ [])) below in
-        stands_in (nodes ∷ []) k inside ∙ ap (λ g. node_at (nodes_in (nodes ∷ []) g) (k / 1)) (of_one k).0 ∙ ap (λ p. node_at nodes p) (of_one k).1)
+    stands_in (nodes ∷ []) k inside ∙ ap (λ g. node_at (nodes_in (nodes ∷ []) g) (k / 1)) (of_one k).0 ∙ ap (λ p. node_at nodes p) (of_one k).1)
 
 pub one_dealt : {F T U : Type 0} (nodes : List (Member F T U)) → IsDealt (nodes ∷ [])
 one_dealt nodes = record {

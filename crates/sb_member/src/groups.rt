@@ -45,7 +45,12 @@ fn meet_groups<F: MeetFabric>(
 }
 
 // the ends of a ring meet that leads to a later group
-fn meet_onward<F: MeetFabric>(groups: &mut [Group<Member<F>>], from: usize, to: usize, places: &Joint)
+fn meet_onward<F: MeetFabric>(
+    groups: &mut [Group<Member<F>>],
+    from: usize,
+    to: usize,
+    places: &Joint,
+)
     requires order { from < to }
     requires within { to < length groups.old }
     requires ends { IsRingAcross (nodes_in (grouped_nodes groups.old) from) (nodes_in (grouped_nodes groups.old) to) places.now }
@@ -56,7 +61,12 @@ fn meet_onward<F: MeetFabric>(groups: &mut [Group<Member<F>>], from: usize, to: 
 }
 
 // the ends of a ring meet that leads to an earlier group
-fn meet_backward<F: MeetFabric>(groups: &mut [Group<Member<F>>], from: usize, to: usize, places: &Joint)
+fn meet_backward<F: MeetFabric>(
+    groups: &mut [Group<Member<F>>],
+    from: usize,
+    to: usize,
+    places: &Joint,
+)
     requires order { to < from }
     requires within { from < length groups.old }
     requires ends { IsRingAcross (nodes_in (grouped_nodes groups.old) from) (nodes_in (grouped_nodes groups.old) to) places.now }

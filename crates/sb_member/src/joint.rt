@@ -19,7 +19,12 @@ pub struct Joint {
 }
 
 // the ends of a ring meet: the port at a place of one node, and the end at a place of another
-pub(crate) fn meet_ends<F: MeetFabric>(from: &mut Member<F>, out: usize, to: &mut Member<F>, into: usize)
+pub(crate) fn meet_ends<F: MeetFabric>(
+    from: &mut Member<F>,
+    out: usize,
+    to: &mut Member<F>,
+    into: usize,
+)
     requires out { out < length (ports_of from.old) }
     requires within { into < length (rings_of to.old) }
     requires marks { (port_at from.old out).mark ≡ (ring_at to.old into).mark }

@@ -13,7 +13,7 @@ use Rattle.sb_member.specs.Ends.{ports_of, rings_of}
 use Rattle.sb_member.specs.declared.member.Member.{Member}
 use Rattle.sb_member.specs.declared.member.Member.TheVariants.{Host, Router, Device}
 use Rattle.sb_net.specs.declared.settling.apart.Apart.{Apart}
-use Rattle.sb_net.specs.Apart.{HasRoomFor, IsRoomFor, IsTaken, end_places, member_memories, member_transactions, memories_of, put_by, ring_ahead, ring_behind}
+use Rattle.sb_net.specs.Apart.{HasRoomFor, IsRoomFor, IsTakenApart, end_places, member_memories, member_transactions, memories_of, put_by, ring_ahead, ring_behind}
 use Rattle.sb_net.proofs.PutBy.{put_append, put_length}
 
 -- an end that is put is a ring that is put
@@ -108,7 +108,7 @@ module _ {F T U : Type 0} where
     }
 
     -- and one node more is taken
-    pub one_more_taken : (after : Apart F T U) → IsTaken rx node mid after → AreTakenSoFar rx nodes new before after
+    pub one_more_taken : (after : Apart F T U) → IsTakenApart rx node mid after → AreTakenSoFar rx nodes new before after
     one_more_taken after taken = record {
       done = node ∷ so_far.done;
       split = regrouped_split;

@@ -53,7 +53,7 @@ module _ {F T U : Type 0} where
     pub devices : length apart.devices.items + length (member_memories node) ≤ vec_capacity apart.devices
 
   -- A node was taken apart: its ports and ends were put at their rings' numbers, and what it tells behind the others.
-  pub record IsTaken (rx : rx.Ghosts U) (node : Member F T U) (before after : Apart F T U) : Type 0 where
+  pub record IsTakenApart (rx : rx.Ghosts U) (node : Member F T U) (before after : Apart F T U) : Type 0 where
     pub ports : after.ports.items ≡ put_by ring_ahead (ports_of node) before.ports.items
     pub ends : end_places rx after.ends.items ≡ put_by ring_behind (rings_of node) (end_places rx before.ends.items)
     pub hosts : after.hosts.items ≡ before.hosts.items ++ member_transactions node
@@ -71,7 +71,7 @@ module _ {F T U : Type 0} where
     pub devices : length (flat_map member_memories nodes) ≤ vec_capacity apart.devices
 
   -- Nodes were taken apart, from the last one on: their ports and ends were put at their rings' numbers, and what they tell stands in their order.
-  pub record AreTaken (rx : rx.Ghosts U) (nodes : List (Member F T U)) (before after : Apart F T U) : Type 0 where
+  pub record AreTakenApart (rx : rx.Ghosts U) (nodes : List (Member F T U)) (before after : Apart F T U) : Type 0 where
     pub ports : after.ports.items ≡ put_by ring_ahead (flat_map ports_of nodes) before.ports.items
     pub ends : end_places rx after.ends.items ≡ put_by ring_behind (flat_map rings_of nodes) (end_places rx before.ends.items)
     pub hosts : after.hosts.items ≡ flat_map member_transactions nodes

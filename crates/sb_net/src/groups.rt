@@ -9,10 +9,7 @@ use sb_member::Member;
 use std::alloc::{AllocError, Global};
 
 // so many groups without nodes
-fn empty_groups<F: Fabric>(
-    alloc: Global,
-    count: usize,
-) -> Result<Vec<Group<Member<F>>>, AllocError>
+fn empty_groups<F: Fabric>(alloc: Global, count: usize) -> Result<Vec<Group<Member<F>>>, AllocError>
     ensures groups { IfOk result (λ groups. grouped_nodes groups.items ≡ replicate count []) }
 {
     let mut groups = Vec::new(alloc);

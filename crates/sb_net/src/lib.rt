@@ -2,8 +2,8 @@
 #![tactic(auto)]
 
 mod collecting;
-mod groups;
 pub mod ending_laws;
+mod groups;
 mod making;
 mod net;
 mod running;

@@ -3,7 +3,7 @@
 ghost use Rattle.std.specs.Prelude.{◌≡◌, ◌<◌, [], Some, IfOk, All, length, map, set, vec_capacity};
 ghost use Rattle.sb_node.specs.Sides.{ring_side};
 ghost use Rattle.sb_member.specs.declared.member.Member.TheVariants as members;
-ghost use Rattle.sb_net.specs.Apart.{HasRoomFor, IsTaken, end_places, put_by, ring_ahead, ring_behind};
+ghost use Rattle.sb_net.specs.Apart.{HasRoomFor, IsTakenApart, end_places, put_by, ring_ahead, ring_behind};
 
 use sb_device::{Device, DeviceState};
 use sb_host::{Host, HostParts, Transactions};
@@ -106,7 +106,7 @@ fn put_inlets<U: RxEnd>(ends: &mut Vec<Option<U>>, more: Vec<Inlet<U>>)
 /// Takes a host apart.
 fn take_host<F: Fabric>(host: Host<F>, apart: &mut Apart<F>)
     requires room { HasRoomFor (members.Host host) apart.old }
-    ensures taken { IsTaken F.Rx.RxEnd (members.Host host) apart.old apart.new }
+    ensures taken { IsTakenApart F.Rx.RxEnd (members.Host host) apart.old apart.new }
 {
     let HostParts {
         transactions,
@@ -121,7 +121,7 @@ fn take_host<F: Fabric>(host: Host<F>, apart: &mut Apart<F>)
 /// Takes a router apart.
 fn take_router<F: Fabric>(router: Router<F>, apart: &mut Apart<F>)
     requires room { HasRoomFor (members.Router router) apart.old }
-    ensures taken { IsTaken F.Rx.RxEnd (members.Router router) apart.old apart.new }
+    ensures taken { IsTakenApart F.Rx.RxEnd (members.Router router) apart.old apart.new }
 {
     let RouterEnds {
         requests_in,
@@ -138,7 +138,7 @@ fn take_router<F: Fabric>(router: Router<F>, apart: &mut Apart<F>)
 /// Takes a device apart.
 fn take_device<F: Fabric>(device: Device<F>, apart: &mut Apart<F>)
     requires room { HasRoomFor (members.Device device) apart.old }
-    ensures taken { IsTaken F.Rx.RxEnd (members.Device device) apart.old apart.new }
+    ensures taken { IsTakenApart F.Rx.RxEnd (members.Device device) apart.old apart.new }
 {
     let (requests, answers, state) = device.into_parts();
     put_port(&mut apart.ports, answers);
@@ -150,7 +150,7 @@ fn take_device<F: Fabric>(device: Device<F>, apart: &mut Apart<F>)
 /// memory.
 pub(crate) fn take_node<F: Fabric>(node: Member<F>, apart: &mut Apart<F>)
     requires room { HasRoomFor node apart.old }
-    ensures taken { IsTaken F.Rx.RxEnd node apart.old apart.new }
+    ensures taken { IsTakenApart F.Rx.RxEnd node apart.old apart.new }
 {
     match node {
         Member::Host(host) => take_host(host, apart),

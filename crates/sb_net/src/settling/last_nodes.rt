@@ -2,7 +2,7 @@
 
 ghost use Rattle.std.specs.Prelude.{◌≡◌, ◌+◌, [], ◌∷◌, ◌++◌, IsSome, IfSome};
 ghost use Rattle.sb_member.specs.Groups.{IsDealt, dealt_nodes, grouped_nodes, node_total};
-ghost use Rattle.sb_net.specs.Apart.{AreTaken, IsRoomFor};
+ghost use Rattle.sb_net.specs.Apart.{AreTakenApart, IsRoomFor};
 
 use crate::settling::apart::{Apart, take_node};
 use sb_drive::Group;
@@ -35,7 +35,7 @@ pub(crate) fn take_apart<F: Fabric>(
     requires dealt { IsDealt (grouped_nodes groups.old) }
     requires count { count ≡ node_total (grouped_nodes groups.old) }
     requires room { IsRoomFor (dealt_nodes (grouped_nodes groups.old)) apart }
-    ensures taken { AreTaken F.Rx.RxEnd (dealt_nodes (grouped_nodes groups.old)) apart result }
+    ensures taken { AreTakenApart F.Rx.RxEnd (dealt_nodes (grouped_nodes groups.old)) apart result }
 {
     let mut apart = apart;
     for taken in 0..count {

@@ -21,7 +21,7 @@ none_counted network nodes unserved =
     let f : ℕ → ℕ = λ d. length (device_entries network nodes d) in
     ext_get_or 0 (replicate n 0) (entry_counts network nodes) (length-replicate {A = ℕ} n 0 ∙ sym (length-map-range_with_len f 0 n))
     (λ d below. let lt : d < n = omega (arith, below, length-replicate {A = ℕ} n 0) in
-        get_or-replicate n d 0 0 lt ∙ sym (get_or-map-range_with_len f 0 n d d 0 lt (omega arith) ∙ ap (λ (list : List Entry). length list) (unserved d lt)))
+    get_or-replicate n d 0 0 lt ∙ sym (get_or-map-range_with_len f 0 n d d 0 lt (omega arith) ∙ ap (λ (list : List Entry). length list) (unserved d lt)))
 
 pub returns-clause-built : goal.returns-clause-built
 returns-clause-built g c =
