@@ -10,3 +10,4 @@ pub mod Legs
 pub mod Made
 pub mod Apart
 pub mod GivenBack
+pub mod Settled
