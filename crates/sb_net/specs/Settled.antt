@@ -11,3 +11,7 @@ pub record SettledSide : Type 0 where
 -- the transactions of the host at a place
 abbrev pub transactions_at : SettledSide → ℕ → TransactionsSide
 transactions_at settled host = slice_index_or settled.hosts host (record { asked = record { id = 0; qos = 0; prot = 0; lines = [] }; rows = []; next = 0; part = 0; ended = false })
+
+-- the memory of the device at a place
+abbrev pub memory_at : SettledSide → ℕ → MemoryState
+memory_at settled device = slice_index_or settled.memories device (record { base = 0; bytes = []; readonly = false })

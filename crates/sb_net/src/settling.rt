@@ -6,7 +6,7 @@ ghost use Rattle.sb_packet.specs.Accesses.{Access};
 ghost use Rattle.sb_packet.specs.Outcomes.{Outcome};
 ghost use Rattle.sb_host.specs.Outcomes.{outcomes_so_far};
 ghost use Rattle.sb_host.specs.Rows.{IsTable};
-ghost use Rattle.sb_net.specs.Settled.{transactions_at};
+ghost use Rattle.sb_net.specs.Settled.{memory_at, transactions_at};
 ghost use Rattle.sb_node.specs.Sides.{received_words};
 ghost use Rattle.sb_laws.specs.NetworkLayouts.{ring_count};
 ghost use Rattle.sb_member.specs.Groups.{IsDealt, dealt_nodes, grouped_nodes, node_total};
@@ -65,6 +65,14 @@ impl SettledNet {
             → (slice_index_or (outcomes_so_far t.asked received t.next) index none).body ≡ result.now }
     {
         self.hosts[usize::from(host)].body(index)
+    }
+
+    /// The bytes of a device's memory, by its place in the bundle.
+    pub fn image(&self, device: u8) -> &[u8]
+        requires device { device < length self.now.memories }
+        ensures image { result.now ≡ (memory_at self.now device).bytes }
+    {
+        self.devices[usize::from(device)].memory.image()
     }
 }
 
