@@ -2,12 +2,12 @@
 #![tactic(auto)]
 
 mod collecting;
-// mod groups;
-// mod net;
+mod groups;
+mod net;
+mod settling;
 pub mod ending_laws;
 mod making;
 mod running;
-mod settling;
 pub mod spending_laws;
 pub mod standing_laws;
 pub mod standstill_laws;
