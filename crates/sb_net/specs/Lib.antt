@@ -11,3 +11,4 @@ pub mod Made
 pub mod Nets
 pub mod Apart
 pub mod GivenBack
+pub mod Settled

@@ -1,12 +1,17 @@
 //! A network is taken apart, and its rings are given back.
 
-ghost use Rattle.std.specs.Prelude.{◌≡◌, ◌<◌, ℕ, false, flat_map, length};
+ghost use Rattle.std.specs.Prelude.{◌≡◌, ◌<◌, ℕ, List, false, flat_map, length, slice_index_or};
 ghost use Rattle.sb_packet.specs.Networks.{Network};
+ghost use Rattle.sb_packet.specs.Accesses.{Access};
+ghost use Rattle.sb_packet.specs.Outcomes.{Outcome};
+ghost use Rattle.sb_host.specs.Outcomes.{outcomes_so_far};
+ghost use Rattle.sb_host.specs.Rows.{IsTable};
+ghost use Rattle.sb_net.specs.Settled.{memory_at, transactions_at};
 ghost use Rattle.sb_node.specs.Sides.{received_words};
 ghost use Rattle.sb_laws.specs.NetworkLayouts.{ring_count};
 ghost use Rattle.sb_member.specs.Groups.{IsDealt, dealt_nodes, grouped_nodes, node_total};
 ghost use Rattle.sb_member.specs.Joints.{joint_at, receiver_of};
-ghost use Rattle.sb_net.specs.Apart.{IsRoomFor, member_memories, member_transactions, memories_of};
+ghost use Rattle.sb_net.specs.Apart.{IsRoomFor, member_memories, member_transactions};
 ghost use Rattle.sb_net.specs.Legs.{first_plans};
 ghost use Rattle.sb_net.specs.Standing.{StandsFor};
 
@@ -22,12 +27,53 @@ use sb_drive::Group;
 use sb_host::Transactions;
 use sb_link::Fabric;
 use sb_member::{Joint, Member};
+use sb_packet::TxnState;
+use std::marker::Model;
 
 /// What remains of a network that has run and was settled: what hosts and devices tell.
 #[derive(Drop)]
 pub struct SettledNet {
     hosts: Vec<Transactions>,
     devices: Vec<DeviceState>,
+}
+
+impl Model for SettledNet {
+    ghost use Rattle.sb_net.specs.Settled.{SettledSide};
+    ghost use Rattle.sb_net.specs.Apart.{memories_of};
+
+    ghost Value = { SettledSide };
+
+    ghost view = { λ s. record { hosts = s.hosts.items; memories = memories_of s.devices.items } };
+}
+
+impl SettledNet {
+    /// How far a transaction has come, by the place of its host in the bundle, and its own in the host's script.
+    pub fn state(&self, host: u8, index: u32) -> TxnState
+        requires host { host < length self.now.hosts }
+        requires index { index < length (transactions_at self.now host).asked.lines }
+        ensures state { let t = transactions_at self.now host in (received : List Access) (none : Outcome) → IsTable t.asked received t.rows
+            → (slice_index_or (outcomes_so_far t.asked received t.next) index none).state ≡ result }
+    {
+        self.hosts[usize::from(host)].state(index)
+    }
+
+    /// The bytes that were answered to it; none where it isn't answered.
+    pub fn body(&self, host: u8, index: u32) -> &[u8]
+        requires host { host < length self.now.hosts }
+        requires index { index < length (transactions_at self.now host).asked.lines }
+        ensures body { let t = transactions_at self.now host in (received : List Access) (none : Outcome) → IsTable t.asked received t.rows
+            → (slice_index_or (outcomes_so_far t.asked received t.next) index none).body ≡ result.now }
+    {
+        self.hosts[usize::from(host)].body(index)
+    }
+
+    /// The bytes of a device's memory, by its place in the bundle.
+    pub fn image(&self, device: u8) -> &[u8]
+        requires device { device < length self.now.memories }
+        ensures image { result.now ≡ (memory_at self.now device).bytes }
+    {
+        self.devices[usize::from(device)].memory.image()
+    }
 }
 
 /// Takes all nodes of a network apart, and gives the ends of its rings back to the fabric that made them, which keeps
@@ -51,8 +97,8 @@ pub(crate) fn settle_nodes<F: Fabric>(
         → (r : ℕ) → r < ring_count network
         → F.carried fabric.new r ≡ received_words (receiver_of (dealt_nodes (grouped_nodes groups.old)) (joint_at joints.now r)) }
     ensures made { F.made fabric.new ≡ F.made fabric.old }
-    ensures hosts { result.hosts.items ≡ flat_map member_transactions (dealt_nodes (grouped_nodes groups.old)) }
-    ensures memories { memories_of result.devices.items ≡ flat_map member_memories (dealt_nodes (grouped_nodes groups.old)) }
+    ensures hosts { result.hosts ≡ flat_map member_transactions (dealt_nodes (grouped_nodes groups.old)) }
+    ensures memories { result.memories ≡ flat_map member_memories (dealt_nodes (grouped_nodes groups.old)) }
 {
     let Apart {
         ports,
