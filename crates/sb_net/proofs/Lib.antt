@@ -55,3 +55,5 @@ pub mod DealtLast
 pub mod RingsLie
 pub mod TakenPlaces
 pub mod RingsBack
+pub mod OneEach
+pub mod Told

@@ -8,6 +8,8 @@ use Rattle.sb_node.specs.Sides.{RingSide, ring_side}
 use Rattle.sb_host.specs.Progress.{TransactionsSide}
 use Rattle.sb_device.specs.declared.device_state.DeviceState.{DeviceState}
 use Rattle.sb_member.specs.Ends.{ports_of, rings_of}
+use Rattle.sb_member.specs.Groups.{IsDealt, dealt_nodes, node_total}
+use Rattle.sb_member.specs.declared.joint.Joint.{Joint}
 use Rattle.sb_member.specs.declared.member.Member.{Member}
 use Rattle.sb_member.specs.declared.member.Member.TheVariants.{Host, Router, Device}
 use Rattle.sb_net.specs.declared.settling.apart.Apart.{Apart}
@@ -76,3 +78,11 @@ module _ {F T U : Type 0} where
     pub ends : end_places rx after.ends.items ≡ put_by ring_behind (flat_map rings_of nodes) (end_places rx before.ends.items)
     pub hosts : after.hosts.items ≡ flat_map member_transactions nodes
     pub memories : memories_of after.devices.items ≡ flat_map member_memories nodes
+
+  -- Nodes of groups can be taken apart by their numbers, and there is a place for each end of each ring, and for what they tell.
+  pub record CanBeTakenApart (groups : List (List (Member F T U))) (joints : List Joint) (count : ℕ) (room : Apart F T U) : Type 0 where
+    pub dealt : IsDealt groups
+    pub count_is : count ≡ node_total groups
+    pub room_is : IsRoomFor (dealt_nodes groups) room
+    pub ports : length room.ports.items ≡ length joints
+    pub ends : length room.ends.items ≡ length joints

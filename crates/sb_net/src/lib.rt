@@ -13,3 +13,4 @@ pub mod standing_laws;
 pub mod standstill_laws;
 
 pub use net::{Net, build};
+pub use settling::SettledNet;

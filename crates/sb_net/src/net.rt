@@ -1,16 +1,20 @@
 //! Networks that can be run.
 
-ghost use Rattle.std.specs.Prelude.{◌≡◌, ◌<◌, ℕ, [], false, length, replicate, IfOk};
+ghost use Rattle.std.specs.Prelude.{◌≡◌, ◌<◌, ℕ, List, [], false, length, replicate, IfOk};
 ghost use Rattle.sb_packet.specs.Networks.{Network};
+ghost use Rattle.sb_packet.specs.declared.entry.Entry.{Entry};
 ghost use Rattle.sb_flow.specs.NetworkOf.{network_of};
+ghost use Rattle.sb_flow.specs.Rings.{IsCarried};
 ghost use Rattle.sb_laws.specs.NetworkLayouts.{ring_count};
 ghost use Rattle.sb_member.specs.Groups.{IsDealt};
 ghost use Rattle.sb_net.specs.Legs.{first_plans};
 ghost use Rattle.sb_net.specs.Nets.{CanRun, IsNetOf, RanToTheEnd};
+ghost use Rattle.sb_net.specs.Settled.{TellsRun};
 
 use crate::groups::deal;
 use crate::making::{Parts, parts_of};
 use crate::running::run_serial;
+use crate::settling::{Apart, SettledNet, settle_nodes};
 use sb_drive::Group;
 use sb_flow::Bundle;
 use sb_link::{Fabric, MeetFabric};
@@ -29,6 +33,10 @@ pub struct Net<F: Fabric> {
     first_device: usize,
     // of each device, how many of its entries are in the journal
     collected: Vec<usize>,
+    // how many nodes there are
+    count: usize,
+    // where the parts of the nodes go when these are taken apart
+    room: Apart<F>,
 }
 
 impl<F: Fabric> Model for Net<F> {
@@ -37,7 +45,12 @@ impl<F: Fabric> Model for Net<F> {
 
     ghost Value = { NetSide F F.Tx F.Rx };
 
+    ghost use Rattle.sb_net.specs.Apart.{CanBeTakenApart};
+
     ghost view = { λ net. record { groups = grouped_nodes net.groups.items; joints = net.joints.items; first = net.first_device; collected = net.collected.items } };
+
+    // when it is settled, its nodes can be taken apart, and there is room for their parts
+    ghost invariant = { λ net. CanBeTakenApart (grouped_nodes net.groups.items) net.joints.items net.count net.room };
 }
 
 // so many zeros
@@ -72,14 +85,21 @@ pub fn build<F: Fabric>(
     ensures made { IfOk result (λ net. F.made fabric.new ≡ first_plans (network_of bundle.now) (ring_count (network_of bundle.now))) }
     ensures unsettled { IfOk result (λ net. (ring : ℕ) → ring < ring_count (network_of bundle.now) → F.settled fabric.new ring ≡ false) }
 {
+    let hosts = bundle.hosts.len();
+    let first_device = hosts + bundle.routers.len();
+    let devices = bundle.devices.len();
     let Parts { nodes, joints } = parts_of(alloc, bundle, fabric)?;
-    let collected = zeros(alloc, bundle.devices.len())?;
+    let collected = zeros(alloc, devices)?;
+    let room = Apart::new(alloc, joints.len(), hosts, devices)?;
+    let count = nodes.len();
     let groups = deal(alloc, nodes, workers as usize)?;
     Ok(Net {
         groups,
         joints,
-        first_device: bundle.hosts.len() + bundle.routers.len(),
+        first_device,
         collected,
+        count,
+        room,
     })
 }
 
@@ -104,5 +124,29 @@ impl<F: MeetFabric> Net<F> {
             order,
             journal,
         );
+    }
+}
+
+impl<F: Fabric> Net<F> {
+    /// Takes a network apart that has run to its end. The ends of all rings are given back to the fabric, which keeps what
+    /// each ring carried; what remains tells of each transaction and each memory. It is the fabric that the network was
+    /// built on. Takes no memory.
+    pub fn settle(self, fabric: &mut F) -> SettledNet
+        requires ran { (network : Network) × (journal : List Entry) × RanToTheEnd network self journal
+            × F.made fabric.old ≡ first_plans network (ring_count network)
+            × ((ring : ℕ) → ring < ring_count network → F.settled fabric.old ring ≡ false) }
+        ensures carried { (network : Network) (journal : List Entry) → RanToTheEnd network self journal
+            → (ring : ℕ) → ring < ring_count network → IsCarried network journal ring (F.carried fabric.new ring) }
+        ensures tells { (network : Network) (journal : List Entry) → RanToTheEnd network self journal → TellsRun network journal result }
+        ensures made { F.made fabric.new ≡ F.made fabric.old }
+    {
+        let Net {
+            mut groups,
+            joints,
+            count,
+            room,
+            ..
+        } = self;
+        settle_nodes(fabric, &mut groups, count, &joints, room)
     }
 }

@@ -1,12 +1,11 @@
 //! A network is taken apart, and its rings are given back.
 
-ghost use Rattle.std.specs.Prelude.{◌≡◌, ◌<◌, ℕ, List, false, flat_map, length, slice_index_or};
-ghost use Rattle.sb_packet.specs.Networks.{Network};
-ghost use Rattle.sb_packet.specs.Accesses.{Access};
+ghost use Rattle.std.specs.Prelude.{◌≡◌, ◌<◌, ℕ, List, Some, false, flat_map, length, slice_get};
+ghost use Rattle.sb_packet.specs.Answers.{final_memory};
+ghost use Rattle.sb_packet.specs.Networks.{NetHost, Network};
 ghost use Rattle.sb_packet.specs.Outcomes.{Outcome};
-ghost use Rattle.sb_host.specs.Outcomes.{outcomes_so_far};
-ghost use Rattle.sb_host.specs.Rows.{IsTable};
-ghost use Rattle.sb_net.specs.Settled.{memory_at, transactions_at};
+ghost use Rattle.sb_packet.specs.declared.entry.Entry.{Entry};
+ghost use Rattle.sb_net.specs.Settled.{TellsRun, memory_at, outcome_at, transactions_at};
 ghost use Rattle.sb_node.specs.Sides.{received_words};
 ghost use Rattle.sb_laws.specs.NetworkLayouts.{ring_count};
 ghost use Rattle.sb_member.specs.Groups.{IsDealt, dealt_nodes, grouped_nodes, node_total};
@@ -51,8 +50,8 @@ impl SettledNet {
     pub fn state(&self, host: u8, index: u32) -> TxnState
         requires host { host < length self.now.hosts }
         requires index { index < length (transactions_at self.now host).asked.lines }
-        ensures state { let t = transactions_at self.now host in (received : List Access) (none : Outcome) → IsTable t.asked received t.rows
-            → (slice_index_or (outcomes_so_far t.asked received t.next) index none).state ≡ result }
+        ensures state { (network : Network) (journal : List Entry) (whose : NetHost) (none : Outcome) → TellsRun network journal self.now
+            → slice_get network.hosts host ≡ Some whose → (outcome_at network journal whose index none).state ≡ result }
     {
         self.hosts[usize::from(host)].state(index)
     }
@@ -61,8 +60,8 @@ impl SettledNet {
     pub fn body(&self, host: u8, index: u32) -> &[u8]
         requires host { host < length self.now.hosts }
         requires index { index < length (transactions_at self.now host).asked.lines }
-        ensures body { let t = transactions_at self.now host in (received : List Access) (none : Outcome) → IsTable t.asked received t.rows
-            → (slice_index_or (outcomes_so_far t.asked received t.next) index none).body ≡ result.now }
+        ensures body { (network : Network) (journal : List Entry) (whose : NetHost) (none : Outcome) → TellsRun network journal self.now
+            → slice_get network.hosts host ≡ Some whose → (outcome_at network journal whose index none).body ≡ result.now }
     {
         self.hosts[usize::from(host)].body(index)
     }
@@ -70,7 +69,8 @@ impl SettledNet {
     /// The bytes of a device's memory, by its place in the bundle.
     pub fn image(&self, device: u8) -> &[u8]
         requires device { device < length self.now.memories }
-        ensures image { result.now ≡ (memory_at self.now device).bytes }
+        ensures image { (network : Network) (journal : List Entry) → TellsRun network journal self.now
+            → (final_memory network journal device).bytes ≡ result.now }
     {
         self.devices[usize::from(device)].memory.image()
     }

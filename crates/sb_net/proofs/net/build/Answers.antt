@@ -9,9 +9,12 @@ use Rattle.sb_flow.specs.NetworkOf.{network_of}
 use Rattle.sb_flow.proofs.Bundles.{accepted, device_count, host_count}
 use Rattle.sb_member.specs.Groups.{dealt_nodes, grouped_nodes}
 use Rattle.sb_member.specs.declared.member.Member.{Member}
+use Rattle.sb_member.proofs.Dealt.{total_of}
+use Rattle.sb_net.specs.Apart.{IsRoomFor}
 use Rattle.sb_net.specs.Recorded.{device_entries, entry_counts}
 use Rattle.sb_net.specs.Running.{IsBuilt}
 use Rattle.sb_net.proofs.NodeNumbers.{router_count}
+use Rattle.sb_net.proofs.Told.{room_there}
 use Rattle.sb_net.proofs.net.build.Goals as goal
 
 -- where no device has served anything, each has no entry
@@ -29,10 +32,10 @@ returns-clause-built g c =
     let network = network_of b in
     let made = c.in_ok-nodes.ensures in
     let parts = c.in_ok-nodes.field-0 in
-    let first : c.len-2.result + c.len-3.result ≡ length network.hosts + length network.routers = omega (arith, c.len-2.ensures, c.len-3.ensures, host_count b, router_count b) in
-    let many : c.len.result ≡ length network.devices = omega (arith, c.len.ensures, device_count b) in
+    let first : c.len-hosts.result + c.len.result ≡ length network.hosts + length network.routers = omega (arith, c.len-hosts.ensures, c.len.ensures, host_count b, router_count b) in
+    let many : c.len-devices.result ≡ length network.devices = omega (arith, c.len-devices.ensures, device_count b) in
     let nodes_are : dealt_nodes (grouped_nodes c.in_ok-groups.groups.items) ≡ parts.nodes.items = c.in_ok-groups.ensures.nodes in
-    subst (λ nodes. IsBuilt network (c.len-2.result + c.len-3.result) c.in_ok-collected.collected.items parts.joints.items nodes) (sym nodes_are) (record {
+    subst (λ nodes. IsBuilt network (c.len-hosts.result + c.len.result) c.in_ok-collected.collected.items parts.joints.items nodes) (sym nodes_are) (record {
       accepted = accepted b;
       stands = made.stands;
       met = made.met;
@@ -40,3 +43,27 @@ returns-clause-built g c =
       first_device = first;
       nothing_collected = c.in_ok-collected.ensures.zeros ∙ ap (λ n. replicate n 0) many ∙ none_counted network parts.nodes.items made.unserved;
     })
+
+pub invariant_of-result : goal.invariant_of-result
+invariant_of-result g c =
+    let b = c.args.bundle.now in
+    let network = network_of b in
+    let made = c.in_ok-nodes.ensures in
+    let parts = c.in_ok-nodes.field-0 in
+    let room = c.in_ok-room.room in
+    let room_is = c.in_ok-room.ensures in
+    let groups = grouped_nodes c.in_ok-groups.groups.items in
+    let nodes_are : dealt_nodes groups ≡ parts.nodes.items = c.in_ok-groups.ensures.nodes in
+    let long = ap (λ list. length list) nodes_are in
+    let total = total_of groups in
+    let ports : length room.ports.items ≡ length parts.joints.items = omega (arith, room_is.ports, c.len-2.ensures) in
+    let ends : length room.ends.items ≡ length parts.joints.items = omega (arith, room_is.ends, c.len-2.ensures) in
+    record {
+      dealt = c.in_ok-groups.ensures.dealt;
+      count_is = omega (arith, c.len-count.ensures, long, total);
+      room_is = subst (λ nodes. IsRoomFor nodes room) (sym nodes_are)
+          (room_there network parts.joints.items parts.nodes.items made.stands room ports ends room_is.no_hosts room_is.no_devices
+          (omega (arith, room_is.hosts, c.len-hosts.ensures, host_count b)) (omega (arith, room_is.devices, c.len-devices.ensures, device_count b)));
+      ports = ports;
+      ends = ends;
+    }
