@@ -46,6 +46,28 @@ impl Model for SettledNet {
 }
 
 impl SettledNet {
+    /// How many hosts there are.
+    pub fn host_count(&self) -> usize
+        ensures count { result ≡ length self.now.hosts }
+    {
+        self.hosts.len()
+    }
+
+    /// How many transactions a host's script has, by the host's place in the bundle.
+    pub fn transaction_count(&self, host: u8) -> usize
+        requires host { host < length self.now.hosts }
+        ensures count { result ≡ length (transactions_at self.now host).asked.lines }
+    {
+        self.hosts[usize::from(host)].count()
+    }
+
+    /// How many devices there are.
+    pub fn device_count(&self) -> usize
+        ensures count { result ≡ length self.now.memories }
+    {
+        self.devices.len()
+    }
+
     /// How far a transaction has come, by the place of its host in the bundle, and its own in the host's script.
     pub fn state(&self, host: u8, index: u32) -> TxnState
         requires host { host < length self.now.hosts }

@@ -1,11 +1,12 @@
 //! Whole networks, from the text of their bundles to the journals of their runs.
 
-ghost use Rattle.std.specs.Prelude.{◌≡◌, [], false, ℕ, IfOk};
+ghost use Rattle.std.specs.Prelude.{◌≡◌, ◌≤◌, ◌<◌, ◌+◌, true, length};
+ghost use Rattle.sb_net.specs.Settled.{transactions_at};
 
 use sb_flow::Bundle;
 use sb_link::SerialFabric;
-use sb_net::build;
-use sb_packet::Journal;
+use sb_net::{SettledNet, build};
+use sb_packet::{Code, Journal, TxnState};
 use sb_topology::load;
 use std::alloc::{AllocError, Global};
 use std::test::Fail;
@@ -14,26 +15,100 @@ use std::test::Fail;
 const EXAMPLE: &str =
     r#"{"version":1,"hosts":[{"name":"cpu0","id":0,"script":["wr 0x10000 3 000102030405060708090a0b0c0d0e0f101112131415161718191a1b1c1d1e1f","rd 0x10000 3 4","wp 0x20010 2 aabbccdd","rd 0x20010 2 1","add 0x30000 3 0100000000000000"]},{"name":"cpu1","id":1,"qos":3,"script":["swap 0x30008 2 78563412","wr 0x40000 0 ff","rd 0x40000 0 4","rd 0x50000 1 2","maxu 0x30008 2 00000080"]}],"routers":[{"name":"r0","routes":{"m0":"l2","m1":"l2","m2":"l3","rom":"l3"}},{"name":"r1","routes":{"m0":"l4","m1":"l5"}},{"name":"r2","side":1,"routes":{"m2":"l6","rom":"l7"}}],"devices":[{"name":"m0","base":"0x10000","pages":1},{"name":"m1","base":"0x20000","pages":1},{"name":"m2","base":"0x30000","pages":1},{"name":"rom","base":"0x40000","pages":1,"readonly":true,"image":"deadbeef"}],"links":[{"name":"l0","from":"cpu0","to":"r0","width":32,"capacity":8},{"name":"l1","from":"cpu1","to":"r0","width":32,"capacity":4},{"name":"l2","from":"r0","to":"r1","width":32,"capacity":4},{"name":"l3","from":"r0","to":"r2","width":32,"capacity":2},{"name":"l4","from":"r1","to":"m0","width":32,"capacity":8},{"name":"l5","from":"r1","to":"m1","width":32,"capacity":2},{"name":"l6","from":"r2","to":"m2","width":32,"capacity":1},{"name":"l7","from":"r2","to":"rom","width":32,"capacity":1}],"wire":"l3"}"#;
 
-// the journal of a run of a bundle, on one thread
-fn journal_of(alloc: Global, bundle: &Bundle, order: u32) -> Result<Journal, AllocError> {
+// a run of a bundle on one thread: its journal, and what remains
+fn run(alloc: Global, bundle: &Bundle, order: u32) -> Result<(Journal, SettledNet), AllocError> {
     let mut fabric = SerialFabric::new(alloc);
     let mut net = build(alloc, bundle, 1, &mut fabric)?;
     let mut journal = Journal::new(alloc);
     journal.reserve(262_144)?;
     net.replay(order, &mut journal);
-    Ok(journal)
+    let settled = net.settle(&mut fabric);
+    Ok((journal, settled))
+}
+
+// whether that host has five transactions
+fn has_five(settled: &SettledNet, host: u8) -> bool
+    ensures yes { result ≡ true → (host < length settled.now.hosts) × (length (transactions_at settled.now host).asked.lines ≡ 5) }
+{
+    usize::from(host) < settled.host_count() && settled.transaction_count(host) == 5
+}
+
+fn states(settled: &SettledNet, host: u8) -> [TxnState; 5]
+    requires host { host < length settled.now.hosts }
+    requires lines { length (transactions_at settled.now host).asked.lines ≡ 5 }
+{
+    [
+        settled.state(host, 0),
+        settled.state(host, 1),
+        settled.state(host, 2),
+        settled.state(host, 3),
+        settled.state(host, 4),
+    ]
+}
+
+fn bodies<'a>(settled: &'a SettledNet, host: u8) -> [&'a [u8]; 5]
+    requires host { host < length settled.now.hosts }
+    requires lines { length (transactions_at settled.now host).asked.lines ≡ 5 }
+{
+    [
+        settled.body(host, 0),
+        settled.body(host, 1),
+        settled.body(host, 2),
+        settled.body(host, 3),
+        settled.body(host, 4),
+    ]
+}
+
+// a page that has these bytes at that place, and is zero elsewhere
+fn page(alloc: Global, at: usize, bytes: &[u8]) -> Result<Vec<u8>, AllocError>
+    requires room { at + length bytes.now ≤ 4_096 }
+{
+    let mut page = Vec::from_array(alloc, [0u8; 4096])?;
+    page[at..at + bytes.len()].copy_from_slice(bytes);
+    Ok(page)
 }
 
 /// Whatever the order of turns, each transaction that is aimed at a device is served once, and all of these are of one
-/// packet: five of the first host's, and four of the second's five, one of which aims at no device.
+/// packet: five of the first host's, and four of the second's five, one of which aims at no device. The hosts share no
+/// byte, so that their answers, and what the memories have in the end, don't depend on who comes first.
 #[test]
 fn example_is_replayed(rt: HostRuntime) -> Result<(), Fail> {
     let Ok(bundle) = load(rt.alloc(), EXAMPLE.as_bytes()) else {
         return Err("the example is accepted")?;
     };
+    let ok = TxnState::Answered { code: Code::Ok };
+    let refused = TxnState::Answered { code: Code::DevErr };
+    let unreached = TxnState::Answered { code: Code::NetErr };
+    let counted: [u8; 32] = [
+        0, 1, 2, 3, 4, 5, 6, 7, 8, 9, 10, 11, 12, 13, 14, 15, 16, 17, 18, 19, 20, 21, 22, 23, 24,
+        25, 26, 27, 28, 29, 30, 31,
+    ];
+    let first: [&[u8]; 5] = [&[], &counted, &[], &[0xaa, 0xbb, 0xcc, 0xdd], &[0; 8]];
+    let second: [&[u8]; 5] = [
+        &[0; 4],
+        &[],
+        &[0xde, 0xad, 0xbe, 0xef],
+        &[0; 4],
+        &[0x78, 0x56, 0x34, 0x12],
+    ];
+    let m0 = page(rt.alloc(), 0, &counted)?;
+    let m1 = page(rt.alloc(), 16, &[0xaa, 0xbb, 0xcc, 0xdd])?;
+    let m2 = page(rt.alloc(), 0, &[1, 0, 0, 0, 0, 0, 0, 0, 0, 0, 0, 0x80])?;
+    let rom = page(rt.alloc(), 0, &[0xde, 0xad, 0xbe, 0xef])?;
     for order in 0..16 {
-        let journal = journal_of(rt.alloc(), &bundle, order)?;
+        let (journal, settled) = run(rt.alloc(), &bundle, order)?;
         assert_eq!(rt; journal.entries().len(), 9);
+        if !has_five(&settled, 0) || !has_five(&settled, 1) || settled.device_count() != 4 {
+            return Err("two hosts with five transactions each, and four devices")?;
+        }
+        assert_eq!(rt; states(&settled, 0), [ok, ok, TxnState::Posted, ok, ok]);
+        assert_eq!(rt; states(&settled, 1), [ok, refused, ok, unreached, ok]);
+        assert_eq!(rt; bodies(&settled, 0), first);
+        assert_eq!(rt; bodies(&settled, 1), second);
+        assert_eq!(rt; settled.image(0), m0.as_slice());
+        assert_eq!(rt; settled.image(1), m1.as_slice());
+        assert_eq!(rt; settled.image(2), m2.as_slice());
+        assert_eq!(rt; settled.image(3), rom.as_slice());
     }
     Ok(())
 }
