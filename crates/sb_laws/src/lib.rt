@@ -1,4 +1,4 @@
-//! Whole runs of a network: for now the laws on which they rest, over plain data.
+//! Whole runs of a network: the laws on which they rest, over plain data.
 #![tactic(auto)]
 
 pub mod device_laws;
