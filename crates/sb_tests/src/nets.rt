@@ -15,6 +15,18 @@ use std::test::Fail;
 const EXAMPLE: &str =
     r#"{"version":1,"hosts":[{"name":"cpu0","id":0,"script":["wr 0x10000 3 000102030405060708090a0b0c0d0e0f101112131415161718191a1b1c1d1e1f","rd 0x10000 3 4","wp 0x20010 2 aabbccdd","rd 0x20010 2 1","add 0x30000 3 0100000000000000"]},{"name":"cpu1","id":1,"qos":3,"script":["swap 0x30008 2 78563412","wr 0x40000 0 ff","rd 0x40000 0 4","rd 0x50000 1 2","maxu 0x30008 2 00000080"]}],"routers":[{"name":"r0","routes":{"m0":"l2","m1":"l2","m2":"l3","rom":"l3"}},{"name":"r1","routes":{"m0":"l4","m1":"l5"}},{"name":"r2","side":1,"routes":{"m2":"l6","rom":"l7"}}],"devices":[{"name":"m0","base":"0x10000","pages":1},{"name":"m1","base":"0x20000","pages":1},{"name":"m2","base":"0x30000","pages":1},{"name":"rom","base":"0x40000","pages":1,"readonly":true,"image":"deadbeef"}],"links":[{"name":"l0","from":"cpu0","to":"r0","width":32,"capacity":8},{"name":"l1","from":"cpu1","to":"r0","width":32,"capacity":4},{"name":"l2","from":"r0","to":"r1","width":32,"capacity":4},{"name":"l3","from":"r0","to":"r2","width":32,"capacity":2},{"name":"l4","from":"r1","to":"m0","width":32,"capacity":8},{"name":"l5","from":"r1","to":"m1","width":32,"capacity":2},{"name":"l6","from":"r2","to":"m2","width":32,"capacity":1},{"name":"l7","from":"r2","to":"rom","width":32,"capacity":1}],"wire":"l3"}"#;
 
+// one host and one memory, behind links with one place
+const NARROW: &str =
+    r#"{"version":1,"hosts":[{"name":"cpu","id":0,"script":["rd 0x10000 3 32"]}],"routers":[{"name":"hub","routes":{"ram":"down"}}],"devices":[{"name":"ram","base":"0x10000","pages":1}],"links":[{"name":"up","from":"cpu","to":"hub","width":32,"capacity":1},{"name":"down","from":"hub","to":"ram","width":32,"capacity":1}]}"#;
+
+// the beginning, the middle and the end of a bundle with two hosts at one memory
+const FIRST_HOST: &str = r#"{"version":1,"hosts":[{"name":"a","id":0,"script":["#;
+
+const SECOND_HOST: &str = r#"]},{"name":"b","id":1,"script":["#;
+
+const ONE_MEMORY: &str =
+    r#"]}],"routers":[{"name":"hub","routes":{"ram":"down"}}],"devices":[{"name":"ram","base":"0x10000","pages":1}],"links":[{"name":"a","from":"a","to":"hub","width":32,"capacity":2},{"name":"b","from":"b","to":"hub","width":32,"capacity":2},{"name":"down","from":"hub","to":"ram","width":32,"capacity":2}]}"#;
+
 // a run of a bundle on one thread: its journal, and what remains
 fn run(alloc: Global, bundle: &Bundle, order: u32) -> Result<(Journal, SettledNet), AllocError> {
     let mut fabric = SerialFabric::new(alloc);
@@ -110,5 +122,80 @@ fn example_is_replayed(rt: HostRuntime) -> Result<(), Fail> {
         assert_eq!(rt; settled.image(2), m2.as_slice());
         assert_eq!(rt; settled.image(3), rom.as_slice());
     }
+    Ok(())
+}
+
+/// A read of 256 bytes comes back whole over links of one place, as eight packets each way.
+#[test]
+fn narrow_links_are_enough(rt: HostRuntime) -> Result<(), Fail> {
+    let Ok(bundle) = load(rt.alloc(), NARROW.as_bytes()) else {
+        return Err("the bundle is accepted")?;
+    };
+    let (journal, settled) = run(rt.alloc(), &bundle, 0)?;
+    assert_eq!(rt; journal.entries().len(), 8);
+    if settled.host_count() != 1 || settled.transaction_count(0) != 1 {
+        return Err("one host with one transaction")?;
+    }
+    assert_eq!(rt; settled.state(0, 0), TxnState::Answered { code: Code::Ok });
+    assert_eq!(rt; settled.body(0, 0), [0u8; 256].as_slice());
+    Ok(())
+}
+
+// a thousand lines that add one to the same word
+fn add_lines(text: &mut String) -> Result<(), AllocError> {
+    text.push_str(r#""add 0x10000 2 01000000""#)?;
+    for _ in 1..1_000 {
+        text.push_str(r#","add 0x10000 2 01000000""#)?;
+    }
+    Ok(())
+}
+
+// marks what each of a host's thousand transactions found; says whether each is a place, and was not marked yet
+fn mark_found(settled: &SettledNet, host: u8, seen: &mut [bool]) -> bool
+    requires host { host < length settled.now.hosts }
+    requires lines { length (transactions_at settled.now host).asked.lines ≡ 1_000 }
+{
+    for index in 0..1_000 {
+        let [low, high, 0, 0] = settled.body(host, index) else {
+            return false;
+        };
+        let found = usize::from(*low) + 256 * usize::from(*high);
+        if found >= seen.len() || seen[found] {
+            return false;
+        }
+        seen[found] = true;
+    }
+    true
+}
+
+/// Two hosts add one to a word a thousand times each: it ends at 2,000, and what they found are the numbers before that,
+/// each once.
+#[test]
+fn two_hosts_count(rt: HostRuntime) -> Result<(), Fail> {
+    let mut text = String::new(rt.alloc());
+    text.push_str(FIRST_HOST)?;
+    add_lines(&mut text)?;
+    text.push_str(SECOND_HOST)?;
+    add_lines(&mut text)?;
+    text.push_str(ONE_MEMORY)?;
+    if text.len() > 67_108_864 {
+        return Err("no longer than a bundle may be")?;
+    }
+    let Ok(bundle) = load(rt.alloc(), text.as_bytes()) else {
+        return Err("the bundle is accepted")?;
+    };
+    let (journal, settled) = run(rt.alloc(), &bundle, 5)?;
+    assert_eq!(rt; journal.entries().len(), 2_000);
+    if settled.host_count() != 2 || settled.device_count() != 1 {
+        return Err("two hosts and a memory")?;
+    }
+    if settled.transaction_count(0) != 1_000 || settled.transaction_count(1) != 1_000 {
+        return Err("a thousand transactions each")?;
+    }
+    let mut seen = [false; 2_000];
+    assert!(rt; mark_found(&settled, 0, &mut seen));
+    assert!(rt; mark_found(&settled, 1, &mut seen));
+    let word = page(rt.alloc(), 0, &[0xd0, 0x07])?;
+    assert_eq!(rt; settled.image(0), word.as_slice());
     Ok(())
 }
