@@ -1,12 +1,13 @@
 //! Whole networks, from the text of their bundles to the journals of their runs.
 
-ghost use Rattle.std.specs.Prelude.{◌≡◌, ◌≤◌, ◌<◌, ◌+◌, true, length};
+ghost use Rattle.std.specs.Prelude.{◌≡◌, ◌≤◌, ◌<◌, ◌+◌, [], true, length};
 ghost use Rattle.sb_net.specs.Settled.{transactions_at};
 
 use sb_flow::Bundle;
-use sb_link::SerialFabric;
+use sb_link::{MeetFabric, SerialFabric};
 use sb_net::{SettledNet, build};
 use sb_packet::{Code, Journal, TxnState};
+use sb_ring::RingFabric;
 use sb_topology::load;
 use std::alloc::{AllocError, Global};
 use std::test::Fail;
@@ -27,15 +28,27 @@ const SECOND_HOST: &str = r#"]},{"name":"b","id":1,"script":["#;
 const ONE_MEMORY: &str =
     r#"]}],"routers":[{"name":"hub","routes":{"ram":"down"}}],"devices":[{"name":"ram","base":"0x10000","pages":1}],"links":[{"name":"a","from":"a","to":"hub","width":32,"capacity":2},{"name":"b","from":"b","to":"hub","width":32,"capacity":2},{"name":"down","from":"hub","to":"ram","width":32,"capacity":2}]}"#;
 
-// a run of a bundle on one thread: its journal, and what remains
-fn run(alloc: Global, bundle: &Bundle, order: u32) -> Result<(Journal, SettledNet), AllocError> {
-    let mut fabric = SerialFabric::new(alloc);
-    let mut net = build(alloc, bundle, 1, &mut fabric)?;
+// a run of a bundle on one thread, over the rings of a fabric: its journal, and what remains
+fn run_over<F: MeetFabric>(
+    alloc: Global,
+    fabric: &mut F,
+    bundle: &Bundle,
+    order: u32,
+) -> Result<(Journal, SettledNet), AllocError>
+    requires unused { F.made fabric.old ≡ [] }
+{
+    let mut net = build(alloc, bundle, 1, fabric)?;
     let mut journal = Journal::new(alloc);
     journal.reserve(262_144)?;
     net.replay(order, &mut journal);
-    let settled = net.settle(&mut fabric);
+    let settled = net.settle(fabric);
     Ok((journal, settled))
+}
+
+// the same over serial rings
+fn run(alloc: Global, bundle: &Bundle, order: u32) -> Result<(Journal, SettledNet), AllocError> {
+    let mut fabric = SerialFabric::new(alloc);
+    run_over(alloc, &mut fabric, bundle, order)
 }
 
 // whether that host has five transactions
@@ -121,6 +134,33 @@ fn example_is_replayed(rt: HostRuntime) -> Result<(), Fail> {
         assert_eq!(rt; settled.image(1), m1.as_slice());
         assert_eq!(rt; settled.image(2), m2.as_slice());
         assert_eq!(rt; settled.image(3), rom.as_slice());
+    }
+    Ok(())
+}
+
+/// Over the project's own rings the example has the same answers and memories as over serial ones. The ends of own rings
+/// learn of each other within a round, too, so that a packet may be served in an earlier round.
+#[test]
+fn own_rings_do_the_same(rt: HostRuntime) -> Result<(), Fail> {
+    let Ok(bundle) = load(rt.alloc(), EXAMPLE.as_bytes()) else {
+        return Err("the example is accepted")?;
+    };
+    let mut rings = RingFabric::new(rt.alloc());
+    let (journal, settled) = run_over(rt.alloc(), &mut rings, &bundle, 6)?;
+    let (serial_journal, serial) = run(rt.alloc(), &bundle, 6)?;
+    assert_eq!(rt; journal.entries().len(), serial_journal.entries().len());
+    for host in 0..2 {
+        if !has_five(&settled, host) || !has_five(&serial, host) {
+            return Err("two hosts with five transactions each")?;
+        }
+        assert_eq!(rt; states(&settled, host), states(&serial, host));
+        assert_eq!(rt; bodies(&settled, host), bodies(&serial, host));
+    }
+    if settled.device_count() != 4 || serial.device_count() != 4 {
+        return Err("four devices")?;
+    }
+    for device in 0..4 {
+        assert_eq!(rt; settled.image(device), serial.image(device));
     }
     Ok(())
 }
