@@ -72,9 +72,9 @@ class Spec:
 
 @functools.cache
 def crates():
-    """The crates' names, lowest first."""
+    """The crates' names, lowest first; what crates.txt says of a crate behind its name is no part of it."""
     lines = (built.ROOT / "crates.txt").read_text().splitlines()
-    return [line.split(":")[0] for line in lines if ":" in line and not line.startswith("#")]
+    return [line.split(":")[0].split()[0] for line in lines if ":" in line and not line.startswith("#")]
 
 
 @functools.cache

@@ -11,7 +11,7 @@ use Rattle.sb_link.specs.PlanOf.{plan_of}
 use Rattle.sb_link.specs.declared.plan.LinkPlan.{LinkPlan}
 use Rattle.sb_link.proofs.InTurn.{appended_in_turn, nothing_in_turn}
 use Rattle.sb_queue.specs.declared.log.Log.{Log}
-use Rattle.sb_queue.specs.Relay.{log_of, FollowsBy, InTurnBy, IsPort, IsRelayed}
+use Rattle.sb_queue.specs.Relay.{log_of, FollowsBy, InTurnBy, IsPass, IsRelayed}
 
 module _ {V : Type 0} where
   -- what stands in a list with one more item stood there before, or is that item
@@ -58,8 +58,8 @@ pub follows_by : (some_plan : Option LinkPlan) (plan : LinkPlan) (before : List 
 follows_by some_plan plan before item is may = subst (λ (p : Option LinkPlan). FollowsBy p before item) (sym is) may
 
 -- at the start one pass may do both
-first_port : (j : ℕ) (v : Log) → get_elem? (log_of true true None [] [] ∷ []) j ≡ some v → IsPort 0 0 None [] [] j v
-first_port zero v e = subst (λ (z : Log). IsPort 0 0 None [] [] 0 z) (some-injective (log_of true true None [] []) v e) record { one_writer = λ _. (refl, refl, refl); one_reader = λ _. (refl, refl, refl) }
+first_port : (j : ℕ) (v : Log) → get_elem? (log_of true true None [] [] ∷ []) j ≡ some v → IsPass 0 0 None [] [] j v
+first_port zero v e = subst (λ (z : Log). IsPass 0 0 None [] [] 0 z) (some-injective (log_of true true None [] []) v e) record { one_writer = λ _. (refl, refl, refl); one_reader = λ _. (refl, refl, refl) }
 first_port (suc j) v e = absurd (some-ne-none v (sym e))
 
 -- a new queue
@@ -78,7 +78,7 @@ puts n port v x may follows items views _ h at = let w : Log = log_of v.pushes v
     received = h.received;
     in_order = ap (λ l. l ++ x ∷ []) h.in_order ∙ append_assoc h.received items (x ∷ []);
     in_turn = appended_by h.plan h.sent x h.in_turn (subst (λ (p : Option LinkPlan). FollowsBy p h.sent x) mine.2 (subst (λ (l : List Item). FollowsBy v.plan l x) mine.1 follows));
-    ports = all_set (IsPort h.writer h.reader h.plan sent h.received) views port w
+    ports = all_set (IsPass h.writer h.reader h.plan sent h.received) views port w
         record { one_writer = λ _. (mine.0, ap (λ l. l ++ x ∷ []) mine.1, mine.2); one_reader = f.one_reader }
         (λ j u other e. let g = h.ports j u e in record { one_writer = λ p. absurd (other ((g.one_writer p).0 ∙ sym mine.0)); one_reader = g.one_reader });
   },
@@ -97,7 +97,7 @@ takes port v may x items views h at = let w : Log = log_of v.pushes v.pops v.pla
     received = received;
     in_order = h.in_order ∙ sym (append_assoc h.received (x ∷ []) items);
     in_turn = h.in_turn;
-    ports = all_set (IsPort h.writer h.reader h.plan h.sent received) views port w
+    ports = all_set (IsPass h.writer h.reader h.plan h.sent received) views port w
         record { one_writer = f.one_writer; one_reader = λ _. (mine.0, ap (λ l. l ++ x ∷ []) mine.1, mine.2) }
         (λ j u other e. let g = h.ports j u e in record { one_writer = g.one_writer; one_reader = λ p. absurd (other ((g.one_reader p).0 ∙ sym mine.0)) });
   },
@@ -119,8 +119,8 @@ forks plan port v a b none items views h at = let l : Log = log_of true false pl
       received = h.received;
       in_order = h.in_order;
       in_turn = subst (λ (m : List Item). InTurnBy plan m) (sym none ∙ s.1) (nothing_by plan);
-      ports = all_snoc (IsPort h.writer (length vs) plan h.sent h.received) vs r record { one_writer = λ p. absurd (true≢false (sym p)); one_reader = λ _. (refl, g.1, refl) }
-          (all_set (IsPort h.writer (length vs) plan h.sent h.received) views port l record { one_writer = λ _. (s.0, s.1, refl); one_reader = λ p. absurd (true≢false (sym p)) }
+      ports = all_snoc (IsPass h.writer (length vs) plan h.sent h.received) vs r record { one_writer = λ p. absurd (true≢false (sym p)); one_reader = λ _. (refl, g.1, refl) }
+          (all_set (IsPass h.writer (length vs) plan h.sent h.received) views port l record { one_writer = λ _. (s.0, s.1, refl); one_reader = λ p. absurd (true≢false (sym p)) }
           (λ j u other e. let q = h.ports j u e in record { one_writer = λ p. absurd (other ((q.one_writer p).0 ∙ sym s.0)); one_reader = λ p. absurd (other ((q.one_reader p).0 ∙ sym g.0)) }));
     }
 
@@ -128,7 +128,7 @@ forks plan port v a b none items views h at = let l : Log = log_of true false pl
 pub merges : (port : ℕ) (v : Log) (other : ℕ) (u : Log) → v.pops ≡ true → u.pushes ≡ true → Merges IsRelayed port v other u (log_of true true v.plan u.sent v.received) (log_of false false None [] [])
 merges port v other u a b items views h at two at' = let both : Log = log_of true true v.plan u.sent v.received in let mine = (h.ports port v at).one_reader a in let vs : List Log = set views port both in
     let was : get_elem? views other ≡ some u = ⊎_elim (λ x. absurd (two x.0)) (λ x. x.1) (at_set views port other both u at') in let theirs = (h.ports other u was).one_writer b in
-    let Now : ℕ → Log → Type 0 = λ j y. j ≢ other → IsPort port h.reader h.plan h.sent h.received j y in record {
+    let Now : ℕ → Log → Type 0 = λ j y. j ≢ other → IsPass port h.reader h.plan h.sent h.received j y in record {
       writer = port;
       reader = h.reader;
       plan = h.plan;
@@ -136,7 +136,7 @@ merges port v other u a b items views h at two at' = let both : Log = log_of tru
       received = h.received;
       in_order = h.in_order;
       in_turn = h.in_turn;
-      ports = all_set (IsPort port h.reader h.plan h.sent h.received) vs other (log_of false false None [] []) record { one_writer = λ p. absurd (true≢false (sym p)); one_reader = λ p. absurd (true≢false (sym p)) }
+      ports = all_set (IsPass port h.reader h.plan h.sent h.received) vs other (log_of false false None [] []) record { one_writer = λ p. absurd (true≢false (sym p)); one_reader = λ p. absurd (true≢false (sym p)) }
           (λ j y apart e. all_set Now views port both (λ _. record { one_writer = λ _. (refl, theirs.1, mine.2); one_reader = λ _. mine })
           (λ i z other' q ap'. let f = h.ports i z q in record { one_writer = λ p. absurd (ap' ((f.one_writer p).0 ∙ sym theirs.0)); one_reader = f.one_reader }) j y e apart);
     }

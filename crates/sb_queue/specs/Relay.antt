@@ -24,7 +24,7 @@ InTurnBy (Some plan) list = AreInTurn (plan_of plan) list
 
 -- What the log of pass number `port` has to be: only one pass may push, and it has what was sent; only one may pop, and it
 -- has what was received.
-pub record IsPort (writer reader : ℕ) (ring_plan : Option LinkPlan) (all_sent all_received : List Item) (port : ℕ) (log : Log) : Type 0 where
+pub record IsPass (writer reader : ℕ) (ring_plan : Option LinkPlan) (all_sent all_received : List Item) (port : ℕ) (log : Log) : Type 0 where
   pub one_writer : log.pushes ≡ true → (port ≡ writer) × (log.sent ≡ all_sent) × (log.plan ≡ ring_plan)
   pub one_reader : log.pops ≡ true → (port ≡ reader) × (log.received ≡ all_received) × (log.plan ≡ ring_plan)
 
@@ -37,4 +37,4 @@ pub record IsRelayed (items : List Item) (logs : List Log) : Type 0 where
   pub received : List Item
   pub in_order : sent ≡ received ++ items
   pub in_turn : InTurnBy plan sent
-  pub ports : (port : ℕ) (log : Log) → get_elem? logs port ≡ some log → IsPort writer reader plan sent received port log
+  pub ports : (port : ℕ) (log : Log) → get_elem? logs port ≡ some log → IsPass writer reader plan sent received port log
