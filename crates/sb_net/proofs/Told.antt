@@ -177,6 +177,7 @@ still_apart network joints before after count room was is dealt can =
     let hosts = can.room_is.hosts in let devices = can.room_is.devices in record {
       dealt = dealt;
       count_is = can.count_is ∙ sym (total_of before) ∙ was.nodes_count ∙ sym is.nodes_count ∙ total_of after;
+      few = can.few;
       room_is = room_there network joints (dealt_nodes after) is room can.ports can.ends can.room_is.no_hosts can.room_is.no_devices (omega (arith, many, hosts)) (omega (arith, much, devices));
       ports = can.ports;
       ends = can.ends;

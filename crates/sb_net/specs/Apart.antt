@@ -79,10 +79,11 @@ module _ {F T U : Type 0} where
     pub hosts : after.hosts.items ≡ flat_map member_transactions nodes
     pub memories : memories_of after.devices.items ≡ flat_map member_memories nodes
 
-  -- Nodes of groups can be taken apart by their numbers, and there is a place for each end of each ring, and for what they tell.
+  -- Nodes of groups can be taken apart by their numbers, of which a network has at most 32 for each kind; and there is a place for each end of each ring, and for what they tell.
   pub record CanBeTakenApart (groups : List (List (Member F T U))) (joints : List Joint) (count : ℕ) (room : Apart F T U) : Type 0 where
     pub dealt : IsDealt groups
     pub count_is : count ≡ node_total groups
+    pub few : count ≤ 96
     pub room_is : IsRoomFor (dealt_nodes groups) room
     pub ports : length room.ports.items ≡ length joints
     pub ends : length room.ends.items ≡ length joints

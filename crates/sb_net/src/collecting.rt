@@ -51,7 +51,8 @@ pub(crate) fn collect<F: Fabric>(
     requires within { (d : ℕ) → d < length collected.old → slice_index_or collected.old d 0
         ≤ length (member_entries (node_at (dealt_nodes (grouped_nodes groups.now)) (first + d))) }
     requires room { length (entries_from first collected.old (dealt_nodes (grouped_nodes groups.now))) ≤ journal.old.spare }
-    ensures entries { journal.new.entries ≡ journal.old.entries ++ entries_from first collected.old (dealt_nodes (grouped_nodes groups.now)) }
+    ensures entries { journal.new.entries
+        ≡ journal.old.entries ++ entries_from first collected.old (dealt_nodes (grouped_nodes groups.now)) }
     ensures spare { journal.new.spare + length (entries_from first collected.old (dealt_nodes (grouped_nodes groups.now)))
         ≡ journal.old.spare }
     ensures collected { collected.new ≡ counts_from first (length collected.old) (dealt_nodes (grouped_nodes groups.now)) }

@@ -33,13 +33,12 @@ pub struct Net<F: Fabric> {
     first_device: usize,
     // of each device, how many of its entries are in the journal
     collected: Vec<usize>,
-    // how many nodes there are
-    count: usize,
     // where the parts of the nodes go when these are taken apart
     room: Apart<F>,
 }
 
 impl<F: Fabric> Model for Net<F> {
+    ghost use Rattle.std.specs.Prelude.{◌+◌, vec_len};
     ghost use Rattle.sb_member.specs.Groups.{grouped_nodes};
     ghost use Rattle.sb_net.specs.Nets.{NetSide};
 
@@ -50,7 +49,7 @@ impl<F: Fabric> Model for Net<F> {
     ghost view = { λ net. record { groups = grouped_nodes net.groups.items; joints = net.joints.items; first = net.first_device; collected = net.collected.items } };
 
     // when it is settled, its nodes can be taken apart, and there is room for their parts
-    ghost invariant = { λ net. CanBeTakenApart (grouped_nodes net.groups.items) net.joints.items net.count net.room };
+    ghost invariant = { λ net. CanBeTakenApart (grouped_nodes net.groups.items) net.joints.items (net.first_device + vec_len net.collected) net.room };
 }
 
 // so many zeros
@@ -91,14 +90,12 @@ pub fn build<F: Fabric>(
     let Parts { nodes, joints } = parts_of(alloc, bundle, fabric)?;
     let collected = zeros(alloc, devices)?;
     let room = Apart::new(alloc, joints.len(), hosts, devices)?;
-    let count = nodes.len();
     let groups = deal(alloc, nodes, workers as usize)?;
     Ok(Net {
         groups,
         joints,
         first_device,
         collected,
-        count,
         room,
     })
 }
@@ -143,10 +140,11 @@ impl<F: Fabric> Net<F> {
         let Net {
             mut groups,
             joints,
-            count,
+            first_device,
+            collected,
             room,
-            ..
         } = self;
+        let count = first_device + collected.len();
         settle_nodes(fabric, &mut groups, count, &joints, room)
     }
 }

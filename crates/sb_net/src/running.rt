@@ -38,7 +38,8 @@ pub(crate) fn run_serial<F: MeetFabric>(
     journal: &mut Journal,
 )
     requires one { length groups.old ≡ 1 }
-    requires ready { (network : Network) × IsReady network first collected.old joints.now (dealt_nodes (grouped_nodes groups.old)) journal.old }
+    requires ready { (network : Network)
+        × IsReady network first collected.old joints.now (dealt_nodes (grouped_nodes groups.old)) journal.old }
     ensures run { (network : Network) → IsReady network first collected.old joints.now (dealt_nodes (grouped_nodes groups.old)) journal.old
         → HasRun network journal.new.entries joints.now (dealt_nodes (grouped_nodes groups.new)) }
     ensures one { length groups.new ≡ 1 }

@@ -2,7 +2,7 @@
 use Rattle.std.specs.Prelude.{ℕ, ◌≡◌, List, [], ◌∷◌, map, flat_map, All, Some, None, codes, false, if◌then◌else◌}
 use Rattle.std.specs.List.{enumerate_from}
 use Rattle.sb_packet.specs.Messages.{Message, message_of}
-use Rattle.sb_packet.specs.Networks.{Network, NetHost, NetDevice, has_address, at_host, at_router, at_device}
+use Rattle.sb_packet.specs.Networks.{Network, NetHost, NetRouter, NetDevice, NetLink, NetPlace, has_address, at_host, at_router, at_device}
 use Rattle.sb_packet.specs.Cuts.{transaction_packets}
 use Rattle.sb_packet.specs.declared.entry.Entry.{Entry}
 use Rattle.sb_packet.specs.declared.transaction.Txn.{Txn}
@@ -15,14 +15,21 @@ solo_device = record { name = codes "mem"; base = 0; pages = 16; readonly = fals
 abbrev pub solo_host : List Txn → NetHost
 solo_host script = record { name = codes "host"; id = 0; qos = 0; prot = 0; script = script }
 
+-- a router that leads on to the memory by the second link
+abbrev pub solo_router : NetRouter
+solo_router = record { name = codes "hub"; side = 0; routes = Some 1 ∷ [] }
+
+-- a link with room for one packet a ring
+abbrev pub solo_link : List ℕ → NetPlace → NetPlace → NetLink
+solo_link name from to = record { name = name; from = from; to = to; width = 32; capacity = 1 }
+
 -- the network of `solo`: the host, a router that leads on to the memory, and the memory
 abbrev pub solo_network : List Txn → Network
 solo_network script = record {
   hosts = solo_host script ∷ [];
-  routers = record { name = codes "hub"; side = 0; routes = Some 1 ∷ [] } ∷ [];
+  routers = solo_router ∷ [];
   devices = solo_device ∷ [];
-  links = record { name = codes "up"; from = at_host 0; to = at_router 0; width = 32; capacity = 1 }
-      ∷ record { name = codes "dn"; from = at_router 0; to = at_device 0; width = 32; capacity = 1 } ∷ [];
+  links = solo_link (codes "up") (at_host 0) (at_router 0) ∷ solo_link (codes "dn") (at_router 0) (at_device 0) ∷ [];
   wire = None;
 }
 

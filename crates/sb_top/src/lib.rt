@@ -11,6 +11,7 @@ mod output;
 mod refusal;
 mod report;
 mod solo;
+mod solo_bundle;
 mod status;
 
 pub use command::top;

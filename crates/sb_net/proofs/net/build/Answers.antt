@@ -6,14 +6,14 @@ use Rattle.std.proofs.lemmas.List.FromFn.{get_or-map-range_with_len, length-map-
 use Rattle.sb_packet.specs.Networks.{Network}
 use Rattle.sb_packet.specs.declared.entry.Entry.{Entry}
 use Rattle.sb_flow.specs.NetworkOf.{network_of}
-use Rattle.sb_flow.proofs.Bundles.{accepted, device_count, host_count}
+use Rattle.sb_flow.proofs.Bundles.{accepted, device_count, few_devices, host_count}
 use Rattle.sb_member.specs.Groups.{dealt_nodes, grouped_nodes}
 use Rattle.sb_member.specs.declared.member.Member.{Member}
 use Rattle.sb_member.proofs.Dealt.{total_of}
 use Rattle.sb_net.specs.Apart.{IsRoomFor}
 use Rattle.sb_net.specs.Recorded.{device_entries, entry_counts}
 use Rattle.sb_net.specs.Running.{IsBuilt}
-use Rattle.sb_net.proofs.NodeNumbers.{router_count}
+use Rattle.sb_net.proofs.NodeNumbers.{few_hosts, few_routers, router_count}
 use Rattle.sb_net.proofs.Told.{room_there}
 use Rattle.sb_net.proofs.net.build.Goals as goal
 
@@ -56,11 +56,17 @@ invariant_of-result g c =
     let nodes_are : dealt_nodes groups ≡ parts.nodes.items = c.in_ok-groups.ensures.nodes in
     let long = ap (λ list. length list) nodes_are in
     let total = total_of groups in
+    let nodes_all = made.stands.nodes_count in
+    let first : c.len-hosts.result + c.len.result ≡ length network.hosts + length network.routers = omega (arith, c.len-hosts.ensures, c.len.ensures, host_count b, router_count b) in
+    let many : c.len-devices.result ≡ length network.devices = omega (arith, c.len-devices.ensures, device_count b) in
+    let collected_long : length c.in_ok-collected.collected.items ≡ c.len-devices.result = ap (λ list. length list) c.in_ok-collected.ensures.zeros ∙ length-replicate {A = ℕ} c.len-devices.result 0 in
+    let collected_len = c.in_ok-collected.collected.ok.0 in
     let ports : length room.ports.items ≡ length parts.joints.items = omega (arith, room_is.ports, c.len-2.ensures) in
     let ends : length room.ends.items ≡ length parts.joints.items = omega (arith, room_is.ends, c.len-2.ensures) in
     record {
       dealt = c.in_ok-groups.ensures.dealt;
-      count_is = omega (arith, c.len-count.ensures, long, total);
+      count_is = omega (arith, long, total, nodes_all, first, many, collected_long, collected_len);
+      few = omega (arith, first, many, collected_long, collected_len, few_hosts b, few_routers b, few_devices b);
       room_is = subst (λ nodes. IsRoomFor nodes room) (sym nodes_are)
           (room_there network parts.joints.items parts.nodes.items made.stands room ports ends room_is.no_hosts room_is.no_devices
           (omega (arith, room_is.hosts, c.len-hosts.ensures, host_count b)) (omega (arith, room_is.devices, c.len-devices.ensures, device_count b)));
