@@ -6,3 +6,4 @@ pub mod Sentences
 pub mod Scripts
 pub mod TextLines
 pub mod Reports
+pub mod Told

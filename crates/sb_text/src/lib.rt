@@ -7,6 +7,7 @@ mod line;
 mod line_fault;
 mod lines;
 mod numerals;
+mod results;
 mod script;
 mod script_fault;
 #[cfg(test)]
@@ -18,5 +19,6 @@ mod words;
 pub use line::read_line;
 pub use line_fault::LineFault;
 pub use numerals::numeral;
+pub use results::Results;
 pub use script::read_script;
 pub use script_fault::ScriptFault;
