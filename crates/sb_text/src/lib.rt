@@ -17,6 +17,6 @@ mod words;
 
 pub use line::read_line;
 pub use line_fault::LineFault;
-pub use numerals::numeral;
+pub use numerals::{number, numeral};
 pub use script::read_script;
 pub use script_fault::ScriptFault;
