@@ -18,7 +18,7 @@ mod words;
 
 pub use line::read_line;
 pub use line_fault::LineFault;
-pub use numerals::numeral;
+pub use numerals::{number, numeral};
 pub use results::Results;
 pub use script::read_script;
 pub use script_fault::ScriptFault;

@@ -25,9 +25,9 @@ fn value(digits: &[u8], base: u8) -> Option<u64>
     Some(value)
 }
 
-/// The value of 1 to `most` digits, if it is below 2^64.
+/// The value of 1 to `most` digits of a base from 2 to 16; None where it is no such number, or 2^64 or more.
 #[inline(always)]
-fn number(digits: &[u8], base: u8, most: usize) -> Option<u64>
+pub fn number(digits: &[u8], base: u8, most: usize) -> Option<u64>
     requires { (2 ≤ base) × (base ≤ 16) }
     ensures { result ≡ digits_number base most digits.now }
 {

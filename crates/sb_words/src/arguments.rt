@@ -1,0 +1,48 @@
+//! The arguments behind a command, as they were matched.
+
+ghost use Rattle.std.specs.Prelude.{◌≡◌};
+ghost use Rattle.clap.specs.Words.{found_of, rows_of};
+ghost use Rattle.sb_words.specs.Arguments.{is_flag_given as flag_given_by, number_between as number_between_by, number_given as number_given_by};
+
+use clap::ArgMatches;
+use sb_text::number;
+
+/// The value of one to ten decimal digits, if it is from `least` to `most`.
+fn number_between(word: &str, least: u32, most: u32) -> Option<u32>
+    ensures { result ≡ number_between_by least most word.now }
+{
+    let value = number(word.as_bytes(), 10, 10)?;
+    if value < least as u64 || value > most as u64 {
+        return None;
+    }
+    Some(value as u32)
+}
+
+/// The number of an option, or `default` where the option isn't given; None where the word that is given is no number
+/// from `least` to `most`.
+#[tactic(auto, using(crate::proofs::Matched::first_text))]
+pub fn number_given(
+    found: &ArgMatches<'_>,
+    name: &str,
+    least: u32,
+    most: u32,
+    default: u32,
+) -> Option<u32>
+    ensures { result ≡ number_given_by name.now least most default (rows_of (found_of found.now)) }
+{
+    match found.get_str(name) {
+        None => Some(default),
+        Some(word) => number_between(word, least, most),
+    }
+}
+
+/// Whether a flag is given: its value is then `true`.
+#[tactic(auto, using(crate::proofs::Matched::first_text))]
+pub fn is_flag_given(found: &ArgMatches<'_>, name: &str) -> bool
+    ensures { result ≡ flag_given_by name.now (rows_of (found_of found.now)) }
+{
+    match found.get_str(name) {
+        None => false,
+        Some(value) => value == "true",
+    }
+}

@@ -1,0 +1,13 @@
+//! The commands of `sb`.
+
+/// What the words of the command line ask for.
+#[derive(Clone, Copy, Debug, PartialEq, Eq)]
+pub enum Command {
+    /// Run a script against one memory: the word `solo`.
+    Solo,
+    /// Run a bundle on one thread: `replay [--order N] [--history]`.
+    ///
+    /// `order` is the number of the order in which nodes take turns, 0 to 4,294,967,295; it is 0 where the words
+    /// don't give it. `history` says whether the report has the journal.
+    Replay { order: u32, history: bool },
+}

@@ -1,0 +1,62 @@
+//! The commands as `clap` is told of them.
+
+ghost use Rattle.std.specs.Prelude.{◌≡◌, IfOk, false, codes};
+ghost use Rattle.clap.specs.Words.{app_of, new_app, rule_of};
+ghost use Rattle.sb_words.specs.Arguments.{flag_rule, option_rule};
+ghost use Rattle.sb_words.specs.Commands.{form_app, program_app, replay_form, solo_form, words_alone};
+
+use clap::{Arg, ArgAction, Command};
+use std::alloc::{AllocError, Global};
+
+/// An option `--NAME VALUE`.
+fn option<'a>(alloc: Global, name: &'a str) -> Arg<'a>
+    ensures rule { rule_of result ≡ option_rule name.entry.now }
+    ensures local { result.global ≡ false }
+{
+    Arg::new(alloc, name).long(name)
+}
+
+/// A flag `--NAME`.
+fn flag<'a>(alloc: Global, name: &'a str) -> Arg<'a>
+    ensures rule { rule_of result ≡ flag_rule name.entry.now }
+    ensures local { result.global ≡ false }
+{
+    Arg::new(alloc, name).long(name).action(ArgAction::SetTrue)
+}
+
+/// `solo`
+fn solo<'a>(alloc: Global) -> Command<'a>
+    ensures { app_of result ≡ form_app solo_form }
+{
+    Command::new(alloc, "solo")
+}
+
+/// `replay [--order N] [--history]`
+fn replay<'a>(alloc: Global) -> Result<Command<'a>, AllocError>
+    ensures { IfOk result (λ command. app_of command ≡ form_app replay_form) }
+{
+    Command::new(alloc, "replay")
+        .arg(option(alloc, "order"))?
+        .arg(flag(alloc, "history"))
+}
+
+/// The program before it has commands.
+fn bare<'a>(alloc: Global) -> Command<'a>
+    ensures { app_of result ≡ words_alone (new_app (codes "sb")) }
+{
+    Command::new(alloc, "sb")
+        .no_binary_name(true)
+        .disable_help_flag(true)
+        .disable_help_subcommand(true)
+        .disable_version_flag(true)
+        .subcommand_required(true)
+}
+
+/// The program with all its commands.
+pub fn program<'a>(alloc: Global) -> Result<Command<'a>, AllocError>
+    ensures { IfOk result (λ command. app_of command ≡ program_app) }
+{
+    bare(alloc)
+        .subcommand(solo(alloc))?
+        .subcommand(replay(alloc)?)
+}

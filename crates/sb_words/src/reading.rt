@@ -1,0 +1,67 @@
+//! Words, read.
+
+ghost use Rattle.std.specs.Prelude.{◌≡◌, ◌≢◌, map, string_bytes, true, false, Some, None, IfOk, IfErr};
+ghost use Rattle.clap.specs.Words.{found_of, rows_of, subcommand_of, subcommand_rows_of};
+ghost use Rattle.sb_words.specs.Commands.{command_in, clap_takes, named_command, program_app, replay_form};
+ghost use Rattle.sb_words.specs.declared.words_fault.WordsFault.TheVariants as faults;
+
+use crate::arguments::{is_flag_given, number_given};
+use crate::command::Command;
+use crate::forms::program;
+use crate::words_fault::WordsFault;
+use clap::ArgMatches;
+use clap::error::ErrorKind;
+use std::alloc::Global;
+
+/// What is asked for behind the word `replay`.
+fn replay(found: &ArgMatches<'_>) -> Option<Command>
+    ensures { result ≡ replay_form.command (rows_of (found_of found.now)) }
+{
+    let order = number_given(found, "order", 0, u32::MAX, 0)?;
+    let history = is_flag_given(found, "history");
+    Some(Command::Replay { order, history })
+}
+
+/// What the command that was matched asks for; None where a number isn't in its range.
+fn named(found: &ArgMatches<'_>) -> Option<Command>
+    ensures { result ≡ named_command (subcommand_rows_of found.now) }
+{
+    let (name, inner) = found.subcommand()?;
+    if name == "solo" {
+        Some(Command::Solo)
+    } else if name == "replay" {
+        replay(inner)
+    } else {
+        None
+    }
+}
+
+/// The words, matched.
+fn matches<'a>(alloc: Global, words: &'a [String]) -> Result<ArgMatches<'a>, WordsFault>
+    ensures taken { IfOk result (λ _. clap_takes (map string_bytes words.now) ≡ true) }
+    ensures rows { IfOk result (λ found. subcommand_rows_of found ≡ subcommand_of program_app (map string_bytes words.now)) }
+    ensures refused { IfErr result (λ fault. fault ≢ faults.Memory → (clap_takes (map string_bytes words.now) ≡ false)) }
+{
+    match program(alloc)?.try_get_matches_from(words) {
+        Ok(found) => Ok(found),
+        Err(error) => {
+            if error.kind() == ErrorKind::OutOfMemory {
+                Err(WordsFault::Memory)
+            } else {
+                Err(WordsFault::Usage)
+            }
+        }
+    }
+}
+
+/// What the words of the command line ask for: this project's own. The words don't hold the program's name.
+///
+/// An error is `WordsFault::Usage` only where the words are not taken or a number isn't in its range, and
+/// `WordsFault::Memory` where memory was missing.
+pub fn command_of(alloc: Global, words: &[String]) -> Result<Command, WordsFault>
+    ensures ok { IfOk result (λ command. command_in (map string_bytes words.now) ≡ Some command) }
+    ensures usage { IfErr result (λ fault. fault ≢ faults.Memory → (command_in (map string_bytes words.now) ≡ None)) }
+{
+    let found = matches(alloc, words)?;
+    named(&found).ok_or(WordsFault::Usage)
+}
