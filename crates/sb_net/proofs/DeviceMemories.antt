@@ -63,6 +63,16 @@ device_got b k row lt at = slice_get-get_or (map device_of b.devices.items) k (d
 pub opening_is : (network : Network) (d : ℕ) (dev : NetDevice) → slice_get network.devices d ≡ Some dev → opening_memory network d ≡ opening_of dev
 opening_is network d dev got = ap (λ (o : Option NetDevice). option_map_or opening_of o (record { base = 0; bytes = []; readonly = true })) got
 
+-- a device's memory has all its bytes from the beginning
+opening_sized : (network : Network) (d : ℕ) (dev : NetDevice) → IsAccepted network → d < length network.devices → slice_get network.devices d ≡ Some dev → held_bytes (opening_of dev) ≡ device_size dev
+opening_sized network d dev good lt got =
+    let fits = (limited_device network d dev good lt got).fits in
+    let long : length dev.image + (device_size dev - length dev.image) ≡ device_size dev = omega (arith, fits) in
+    length-append dev.image (replicate (device_size dev - length dev.image) 0) ∙ ap (λ n. length dev.image + n) (length-replicate (device_size dev - length dev.image) 0) ∙ long
+
+pub opening_held : (network : Network) (d : ℕ) (dev : NetDevice) → IsAccepted network → d < length network.devices → slice_get network.devices d ≡ Some dev → held_bytes (opening_memory network d) ≡ device_size dev
+opening_held network d dev good lt got = ap held_bytes (opening_is network d dev got) ∙ opening_sized network d dev good lt got
+
 -- a device's memory lies where the plan of a ring says
 pub opening_range : (network : Network) (ring d : ℕ) (dev : NetDevice) → IsAccepted network → d < length network.devices → slice_get network.devices d ≡ Some dev
     → slice_get (device_ranges (ring_flows network ring)) d ≡ Some (record { base = (opening_memory network d).base; bytes = held_bytes (opening_memory network d) })
@@ -73,9 +83,7 @@ opening_range network ring d dev good lt got =
     let there : d < length (map range (range_with_len 0 count)) = omega (arith, lt, length-map-range_with_len range 0 count) in
     let none : AddressRange = record { base = 0; bytes = 0 } in
     let zero_d : 0 + d ≡ d = omega arith in
-    let fits = (limited_device network d dev good lt got).fits in
-    let long : length dev.image + (device_size dev - length dev.image) ≡ device_size dev = omega (arith, fits) in
-    let held : held_bytes (opening_of dev) ≡ device_size dev = length-append dev.image (replicate (device_size dev - length dev.image) 0) ∙ ap (λ n. length dev.image + n) (length-replicate (device_size dev - length dev.image) 0) ∙ long in
+    let held = opening_sized network d dev good lt got in
     ap (λ list. slice_get list d) shown ∙ slice_get-get_or (map range (range_with_len 0 count)) d none there
     ∙ ap (λ x. Some x) (get_or-map-range_with_len range 0 count d d none lt zero_d ∙ ap (λ (o : Option NetDevice). option_map_or range_of o (record { base = 0; bytes = 0 })) got
     ∙ ap (λ (n : ℕ). record { base = dev.base; bytes = n }) (sym held) ∙ ap (λ (m : MemoryState). record { base = m.base; bytes = held_bytes m }) (sym (opening_is network d dev got)))

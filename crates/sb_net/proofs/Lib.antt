@@ -57,3 +57,4 @@ pub mod TakenPlaces
 pub mod RingsBack
 pub mod OneEach
 pub mod Told
+pub mod ResultsTold

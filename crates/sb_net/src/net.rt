@@ -2,9 +2,12 @@
 
 ghost use Rattle.std.specs.Prelude.{◌≡◌, ◌<◌, ℕ, List, [], false, length, replicate, IfOk};
 ghost use Rattle.sb_packet.specs.Networks.{Network};
+ghost use Rattle.sb_packet.specs.Outcomes.{run_results};
 ghost use Rattle.sb_packet.specs.declared.entry.Entry.{Entry};
+ghost use Rattle.sb_flow.specs.Accepted.{IsAccepted};
 ghost use Rattle.sb_flow.specs.NetworkOf.{network_of};
 ghost use Rattle.sb_flow.specs.Rings.{IsCarried};
+ghost use Rattle.sb_text.specs.Told.{FitsNetwork};
 ghost use Rattle.sb_laws.specs.NetworkLayouts.{ring_count};
 ghost use Rattle.sb_member.specs.Groups.{IsDealt};
 ghost use Rattle.sb_net.specs.Legs.{first_plans};
@@ -136,6 +139,8 @@ impl<F: Fabric> Net<F> {
             → (ring : ℕ) → ring < ring_count network → IsCarried network journal ring (F.carried fabric.new ring) }
         ensures tells { (network : Network) (journal : List Entry) → RanToTheEnd network self journal → TellsRun network journal result }
         ensures made { F.made fabric.new ≡ F.made fabric.old }
+        ensures fits { (network : Network) (journal : List Entry) → RanToTheEnd network self journal → IsAccepted network
+            → FitsNetwork network (run_results network journal) }
     {
         let Net {
             mut groups,

@@ -27,6 +27,7 @@ use sb_host::Transactions;
 use sb_link::Fabric;
 use sb_member::{Joint, Member};
 use sb_packet::TxnState;
+use sb_text::Results;
 use std::marker::Model;
 
 /// What remains of a network that has run and was settled: what hosts and devices tell.
@@ -95,6 +96,30 @@ impl SettledNet {
             → (final_memory network journal device).bytes ≡ result.now }
     {
         self.devices[usize::from(device)].memory.image()
+    }
+}
+
+impl Results for SettledNet {
+    ghost use Rattle.std.specs.Prelude.{◌≡◌, List};
+    ghost use Rattle.sb_packet.specs.Networks.{Network};
+    ghost use Rattle.sb_packet.specs.Outcomes.{run_results};
+    ghost use Rattle.sb_packet.specs.declared.entry.Entry.{Entry};
+    ghost use Rattle.sb_net.specs.Settled.{TellsRun};
+
+    // It tells what a network's journal comes to.
+    ghost tells = { λ settled results. (network : Network) × (journal : List Entry) × TellsRun network journal settled
+        × results ≡ run_results network journal };
+
+    fn state(&self, host: u8, index: u32) -> TxnState {
+        SettledNet::state(self, host, index)
+    }
+
+    fn body(&self, host: u8, index: u32) -> &[u8] {
+        SettledNet::body(self, host, index)
+    }
+
+    fn image(&self, device: u8) -> &[u8] {
+        SettledNet::image(self, device)
     }
 }
 

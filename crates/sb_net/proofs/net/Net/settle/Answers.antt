@@ -5,6 +5,7 @@ use Rattle.sb_member.specs.Groups.{dealt_nodes, grouped_nodes}
 use Rattle.sb_net.specs.Nets.{RanToTheEnd}
 use Rattle.sb_net.specs.Running.{HasRun}
 use Rattle.sb_net.specs.Standing.{StandsFor}
+use Rattle.sb_net.proofs.ResultsTold.{results_fit}
 use Rattle.sb_net.proofs.Told.{of_both, run_told}
 use Rattle.sb_net.proofs.net.Net.settle.Goals as goal
 
@@ -35,3 +36,8 @@ returns-clause-tells g c = λ network journal ran.
     of_both (λ joints groups. HasRun network journal joints (dealt_nodes (grouped_nodes groups))) inside.joints.items c.deref.result.now inside.groups.items c.deref_mut.result.now c.deref.ensures.value c.deref_mut.ensures.value
     (subst (λ net. RanToTheEnd network net journal) (sym c.self.view_is) ran) in
     run_told network journal c.deref.result.now (dealt_nodes (grouped_nodes c.deref_mut.result.now)) c.settle_nodes.result run c.settle_nodes.ensures.hosts c.settle_nodes.ensures.memories
+
+pub returns-clause-fits : goal.returns-clause-fits
+returns-clause-fits g c = λ network journal ran good.
+    let inside = c.self.inside in
+    results_fit network journal inside.joints.items (dealt_nodes (grouped_nodes inside.groups.items)) good (subst (λ net. RanToTheEnd network net journal) (sym c.self.view_is) ran)
