@@ -10,6 +10,7 @@ pub mod Pages
 pub mod Apart
 pub mod FlowWords
 pub mod Bundles
+pub mod HostLimits
 pub mod Tabled
 pub mod FlowWays
 pub mod TableReads

@@ -23,6 +23,7 @@ mod tests;
 #[cfg(test)]
 mod twin_tests;
 mod walk;
+mod words;
 
 pub use addresses::target;
 pub use bundle::Bundle;
@@ -32,3 +33,4 @@ pub use link_row::LinkRow;
 pub use paths::Paths;
 pub use place::Place;
 pub use router_plan::RouterPlan;
+pub use words::{all_words, bundle_words};

@@ -19,11 +19,12 @@ use Rattle.sb_packet.proofs.CutWords.{words_of_cut}
 use Rattle.sb_port.specs.Ports.{PortSide, PortState, port_accesses}
 use Rattle.sb_port.specs.Waiting.{nothing_waits}
 use Rattle.sb_node.specs.Sides.{RingSide, has_ended}
-use Rattle.sb_flow.specs.Limits.{is_limited, is_limited_host}
+use Rattle.sb_flow.specs.Limits.{is_limited_host}
 use Rattle.sb_flow.specs.NetworkOf.{network_of}
 use Rattle.sb_flow.specs.Rows.{host_of}
 use Rattle.sb_flow.specs.declared.bundle.Bundle.{Bundle}
 use Rattle.sb_flow.specs.declared.host_plan.HostPlan.{HostPlan}
+use Rattle.sb_flow.proofs.HostLimits.{host_limits, limits_of, passes_at}
 use Rattle.sb_host.specs.declared.transaction_plan.TransactionPlan.{TransactionPlan}
 use Rattle.sb_host.specs.declared.script_plan.ScriptPlan.{ScriptPlan}
 use Rattle.sb_host.specs.Asked.{Asked, accesses_from, line_accesses, line_in, line_message, packets_from, sent_accesses, sent_packets}
@@ -70,33 +71,6 @@ begins_in_order t port ring new issuable made state received table =
       ends = sym (ap (λ (list : List Item). has_ended (record ring { received = list })) received);
     } in
     subst (λ (x : TransactionsSide). IsHostInOrder x port ring) (sym new) begins
-
--- what all pass one passes
-pub passes_at : {X : Type 0} (test : X → Bool) (xs : List X) (i : ℕ) (d : X) → list_all test xs ≡ true → i < length xs → test (get_or xs i d) ≡ true
-passes_at test [] i d all below = absurd (omega arith)
-passes_at test (x ∷ xs) zero d all below = (and_parts (test x) (list_all test xs) all).0
-passes_at test (x ∷ xs) (suc i) d all below = passes_at test xs i d (and_parts (test x) (list_all test xs) all).1 (omega arith)
-
-pub host_limits : (network : Network) → is_limited network ≡ true → list_all is_limited_host network.hosts ≡ true
-host_limits network h = grind (arith, h)
-
--- the limits of a host of a bundle
-pub record HasLimits (h : NetHost) : Type 0 where
-  pub id : h.id ≤ 31
-  pub qos : h.qos ≤ 15
-  pub prot : h.prot ≤ 3
-  pub few : length h.script ≤ 65536
-
-pub limits_of : (h : NetHost) → is_limited_host h ≡ true → HasLimits h
-limits_of h e =
-    let three = and_parts (nat_le h.id 31 && nat_le h.qos 15 && nat_le h.prot 3) (nat_le (length h.script) 65536) e in
-    let two = and_parts (nat_le h.id 31 && nat_le h.qos 15) (nat_le h.prot 3) three.0 in
-    let one = and_parts (nat_le h.id 31) (nat_le h.qos 15) two.0 in
-    let a = one.0 in
-    let b = one.1 in
-    let c = two.1 in
-    let d = three.1 in
-    record { id = grind (arith, nat_tests); qos = grind (arith, nat_tests); prot = grind (arith, nat_tests); few = grind (arith, nat_tests) }
 
 lines_issuable : (network : Network) (script : List Txn) → All IsTransaction script → AreTransactions (map (line_in network) script)
 lines_issuable network [] all = All-nil (λ l. IsTransaction l.txn)

@@ -21,7 +21,7 @@ use Rattle.sb_flow.proofs.AcceptedLinks.{got_below}
 use Rattle.sb_flow.proofs.Clashes.{all_pass}
 use Rattle.sb_host.specs.Asked.{asked_by}
 use Rattle.sb_host.specs.Issuing.{IsMadeFor}
-use Rattle.sb_host.proofs.Beginning.{host_limits, limits_of, passes_at}
+use Rattle.sb_flow.proofs.HostLimits.{host_limits, limits_of, passes_at}
 use Rattle.sb_host.proofs.MadeRings.{place_below, planned_host}
 use Rattle.sb_host.proofs.OwnBudget.{words_within}
 

@@ -22,7 +22,7 @@ use Rattle.sb_flow.specs.declared.bundle.Bundle.{Bundle}
 use Rattle.sb_flow.specs.declared.device_plan.DevicePlan.{DevicePlan}
 use Rattle.sb_flow.proofs.AcceptedLinks.{at_got}
 use Rattle.sb_flow.proofs.Clashes.{all_pass, position_from-None}
-use Rattle.sb_host.proofs.Beginning.{passes_at}
+use Rattle.sb_flow.proofs.HostLimits.{passes_at}
 
 -- the limits of a device
 pub record IsLimitedDevice (d : NetDevice) : Type 0 where

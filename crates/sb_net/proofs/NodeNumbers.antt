@@ -51,12 +51,9 @@ pub row_got : (b : Bundle) (k : ℕ) (row : LinkRow) → k < length b.links.item
 row_got b k row lt at = slice_get-get_or (map link_of b.links.items) k (link_of row) (omega (arith, lt, length-map b.links.items link_of))
     ∙ ap (λ l. Some l) (get_or-map link_of b.links.items k row (link_of row) lt ∙ ap link_of (sym at))
 
--- the limits of a bundle's routers and hosts, and how many routers there are
+-- the limits of a bundle's routers, and how many there are
 pub few_routers : (b : Bundle) → length (network_of b).routers ≤ 32
 few_routers b = grind (arith, b.limits)
-
-pub few_hosts : (b : Bundle) → length (network_of b).hosts ≤ 32
-few_hosts b = grind (arith, b.limits)
 
 pub router_count : (b : Bundle) → length (network_of b).routers ≡ vec_len b.routers
 router_count b = length-map b.routers.items (net_router_of (length b.devices.items)) ∙ sym b.routers.ok.0

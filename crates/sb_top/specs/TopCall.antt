@@ -1,62 +1,118 @@
 -- What the top call did, by the status with which it ended.
-use Rattle.std.specs.Prelude.{ℕ, ◌≡◌, ◌⊎◌, ◌≤◌, ◌<◌, ◌+◌, ◌^◌, Bool, true, false, List, [], ◌∷◌, length, drop, codes, bytes_eq, Option, None, IfSome, option_map, Ok, Err}
+use Rattle.std.specs.Prelude.{ℕ, ◌≡◌, ◌⊎◌, ◌≤◌, ◌<◌, ◌+◌, ◌^◌, Bool, false, List, [], All, length, drop, codes, Option, Some, None, IfSome, option_map, Ok, Err}
+use Rattle.sb_packet.specs.Accesses.{Access}
 use Rattle.sb_packet.specs.Journals.{IsLawful}
-use Rattle.sb_text.specs.Reports.{run_report}
-use Rattle.sb_top.specs.Solo.{solo_network, IsSoloJournal}
+use Rattle.sb_packet.specs.Networks.{Network}
 use Rattle.sb_packet.specs.declared.entry.Entry.{Entry}
 use Rattle.sb_packet.specs.declared.transaction.Txn.{Txn}
+use Rattle.sb_io.specs.Written.{Gains, GainsPart}
+use Rattle.sb_link.specs.RingPlans.{RingPlan}
+use Rattle.sb_link.specs.declared.fabric.Fabric as fabrics
+use Rattle.sb_flow.specs.Rings.{IsCarried}
+use Rattle.sb_laws.specs.NetworkLayouts.{ring_count}
+use Rattle.sb_net.specs.Legs.{first_plans}
+use Rattle.sb_net.specs.Spent.{network_moves}
+use Rattle.sb_text.specs.Reports.{run_report}
 use Rattle.sb_text.specs.Scripts.{script_of_text}
 use Rattle.sb_text.specs.declared.script_fault.ScriptFault.{ScriptFault}
+use Rattle.sb_topology.specs.Bundles.{bundle_of}
+use Rattle.sb_fields.specs.declared.fault.LoadFault.{LoadFault}
+use Rattle.sb_words.specs.Commands.{command_in}
+use Rattle.sb_words.specs.declared.command.Command.{Command}
+use Rattle.sb_words.specs.declared.command.Command.TheVariants as commands
 use Rattle.sb_top.specs.Inputs.{IsWholeInput}
-use Rattle.sb_top.specs.Outputs.{Gains, GainsPart}
-use Rattle.sb_top.specs.Refusals.{refusal_text}
+use Rattle.sb_top.specs.Refusals.{load_fault_words, refusal_text, script_fault_words}
+use Rattle.sb_top.specs.Solo.{solo_network, IsSoloJournal}
 
--- the one list of words that is taken
-abbrev pub asks_solo : List (List ℕ) → Bool
-asks_solo (word ∷ []) = bytes_eq word (codes "solo")
-asks_solo _ = false
+-- what a call leaves beside its text: the journal, the plans of the rings that the fabric made, and the words that each of these carried
+pub record Effects : Type 0 where
+  pub journal : List Entry
+  pub made : List RingPlan
+  pub carried : ℕ → List Access
 
--- The input spells a script; the journal is one legal history of it, packet by packet; and the text is that journal's report.
-pub record Ran (input : List ℕ) (journal : List Entry) (text : List ℕ) : Type 0 where
+-- what it leaves in a journal and a fabric
+abbrev pub effects_in : {F : Type 0} → fabrics.Ghosts F → F → List Entry → Effects
+effects_in fabric f journal = record { journal = journal; made = fabric.made f; carried = fabric.carried f }
+
+-- nothing was run: the journal is empty, and no ring was made
+pub record IsUntouched (effects : Effects) : Type 0 where
+  pub no_entry : effects.journal ≡ []
+  pub no_ring : effects.made ≡ []
+
+-- A script was run: the input spells it; the journal is one legal history of it, packet by packet; no ring was made; and the text is that journal's report.
+pub record RanScript (input : List ℕ) (effects : Effects) (text : List ℕ) : Type 0 where
   pub script : List Txn
   pub spelled : script_of_text input ≡ Ok script
-  pub packets : IsSoloJournal script journal
-  pub lawful : IsLawful (solo_network script) journal
-  pub printed : text ≡ run_report (solo_network script) journal false None
+  pub packets : IsSoloJournal script effects.journal
+  pub lawful : IsLawful (solo_network script) effects.journal
+  pub no_ring : effects.made ≡ []
+  pub printed : text ≡ run_report (solo_network script) effects.journal false None
+
+-- A bundle was run: the input spells it, and it is accepted; the journal is one legal history of a byte memory per device, with each word of the scripts that is aimed at a device once, those of one host at one device in order; each ring of the bundle was made by its plan, and carried just the words of its flows; and the text is that journal's report.
+pub record RanBundle (history : Bool) (input : List ℕ) (effects : Effects) (text : List ℕ) : Type 0 where
+  pub network : Network
+  pub spelled : bundle_of input ≡ Ok network
+  pub lawful : IsLawful network effects.journal
+  pub rings : effects.made ≡ first_plans network (ring_count network)
+  pub carried : (ring : ℕ) → ring < ring_count network → IsCarried network effects.journal ring (effects.carried ring)
+  pub rounds : All (λ e. e.round < network_moves network) effects.journal
+  pub printed : text ≡ run_report network effects.journal history None
+
+-- A command was done with an input.
+abbrev pub Ran : Command → List ℕ → Effects → List ℕ → Type 0
+Ran commands.Solo input effects text = RanScript input effects text
+Ran (commands.Replay order history) input effects text = RanBundle history input effects text
 
 -- The input is no script, and the text names its first fault.
-pub record Refused (input : List ℕ) (journal : List Entry) (text : List ℕ) : Type 0 where
+pub record RefusedScript (input text : List ℕ) : Type 0 where
   pub fault : ScriptFault
   pub found : script_of_text input ≡ Err fault
-  pub no_run : journal ≡ []
-  pub printed : text ≡ refusal_text fault
+  pub printed : text ≡ refusal_text (script_fault_words fault)
 
--- The input was read to its end, and run.
-pub record IsSoloRun (before after : Option (List ℕ)) (journal : List Entry) (text : List ℕ) : Type 0 where
+-- The input is no bundle that is accepted, and the text names its first fault.
+pub record RefusedBundle (input text : List ℕ) : Type 0 where
+  pub fault : LoadFault
+  pub found : bundle_of input ≡ Err fault
+  pub printed : text ≡ refusal_text (load_fault_words fault)
+
+-- A command refused an input.
+abbrev pub Refused : Command → List ℕ → List ℕ → Type 0
+Refused commands.Solo input text = RefusedScript input text
+Refused (commands.Replay order history) input text = RefusedBundle input text
+
+-- The words ask for a command, the input was read to its end, and the command was done.
+pub record IsRun (words : List (List ℕ)) (before after : Option (List ℕ)) (effects : Effects) (text : List ℕ) : Type 0 where
+  pub command : Command
+  pub asked : command_in words ≡ Some command
   pub input : List ℕ
   pub read : IsWholeInput before after input
   pub short : length input ≤ 2 ^ 26
-  pub ran : Ran input journal text
+  pub ran : Ran command input effects text
 
--- The input was read to its end, and refused.
-pub record IsRefusal (before after : Option (List ℕ)) (journal : List Entry) (text : List ℕ) : Type 0 where
+-- The words ask for a command, the input was read to its end, and the command refused it.
+pub record IsRefusal (words : List (List ℕ)) (before after : Option (List ℕ)) (effects : Effects) (text : List ℕ) : Type 0 where
+  pub command : Command
+  pub asked : command_in words ≡ Some command
   pub input : List ℕ
   pub read : IsWholeInput before after input
   pub short : length input ≤ 2 ^ 26
-  pub refused : Refused input journal text
+  pub refused : Refused command input text
+  pub untouched : IsUntouched effects
 
--- The words are not taken, and nothing was read.
-pub record IsUsage (words : List (List ℕ)) (before after : Option (List ℕ)) (journal : List Entry) (text : List ℕ) : Type 0 where
-  pub asked : asks_solo words ≡ false
+-- The words ask for no command, and nothing was read.
+pub record IsUsage (words : List (List ℕ)) (before after : Option (List ℕ)) (effects : Effects) (text : List ℕ) : Type 0 where
+  pub asked : command_in words ≡ None
   pub unread : after ≡ before
-  pub no_run : journal ≡ []
+  pub untouched : IsUntouched effects
   pub printed : text ≡ codes "usage\n"
 
--- The input has more than 2^26 bytes, and one more than these was read.
-pub record IsTooLong (before after : Option (List ℕ)) (journal : List Entry) (text : List ℕ) : Type 0 where
+-- The words ask for a command, the input has more than 2^26 bytes, and one more than these was read.
+pub record IsTooLong (words : List (List ℕ)) (before after : Option (List ℕ)) (effects : Effects) (text : List ℕ) : Type 0 where
+  pub command : Command
+  pub asked : command_in words ≡ Some command
   pub long : IfSome before (λ left. 2 ^ 26 < length left)
   pub taken : after ≡ option_map (drop (2 ^ 26 + 1)) before
-  pub no_run : journal ≡ []
+  pub untouched : IsUntouched effects
   pub printed : text ≡ codes "too long\n"
 
 -- a text of that kind was written
@@ -71,8 +127,13 @@ pub record WrotePart (IsText : List ℕ → Type 0) (before after : Option (List
   pub is : IsText text
   pub part : GainsPart before after text
 
--- a text that the call writes, whatever its status: words that are not taken have one alone
-abbrev pub IsAnyText : List (List ℕ) → Option (List ℕ) → Option (List ℕ) → List Entry → List ℕ → Type 0
-IsAnyText words before after journal text =
-    IsUsage words before after journal text
-    ⊎ ((asks_solo words ≡ true) × (IsSoloRun before after journal text ⊎ (IsRefusal before after journal text ⊎ IsTooLong before after journal text)))
+-- a text that the call writes, whatever its status
+abbrev pub IsAnyText : List (List ℕ) → Option (List ℕ) → Option (List ℕ) → Effects → List ℕ → Type 0
+IsAnyText words before after effects text =
+    IsUsage words before after effects text ⊎ (IsRun words before after effects text
+    ⊎ (IsRefusal words before after effects text ⊎ IsTooLong words before after effects text))
+
+-- An input has no fault: it spells a script, or a bundle that is accepted.
+abbrev pub IsFaultless : Command → List ℕ → Type 0
+IsFaultless commands.Solo input = (script : List Txn) × script_of_text input ≡ Ok script
+IsFaultless (commands.Replay order history) input = (network : Network) × bundle_of input ≡ Ok network

@@ -24,7 +24,6 @@ mod scripts;
 mod stray;
 mod ways;
 mod widths;
-mod words;
 
 pub use loader::load;
 pub use sb_fields::LoadFault;

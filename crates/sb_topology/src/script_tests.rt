@@ -8,8 +8,8 @@ ghost use Rattle.sb_topology.specs.Tests.{scripts_tested as scripts_tested_by};
 use crate::plan::Rows;
 use crate::routes::stray_route;
 use crate::ways::lost_flow;
-use crate::words::all_words;
 use sb_fields::LoadFault;
+use sb_flow::all_words;
 
 /// The most words that all scripts may have.
 const MOST_WORDS: u32 = 262144;

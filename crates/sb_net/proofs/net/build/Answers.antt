@@ -7,13 +7,14 @@ use Rattle.sb_packet.specs.Networks.{Network}
 use Rattle.sb_packet.specs.declared.entry.Entry.{Entry}
 use Rattle.sb_flow.specs.NetworkOf.{network_of}
 use Rattle.sb_flow.proofs.Bundles.{accepted, device_count, few_devices, host_count}
+use Rattle.sb_flow.proofs.HostLimits.{few_hosts}
 use Rattle.sb_member.specs.Groups.{dealt_nodes, grouped_nodes}
 use Rattle.sb_member.specs.declared.member.Member.{Member}
 use Rattle.sb_member.proofs.Dealt.{total_of}
 use Rattle.sb_net.specs.Apart.{IsRoomFor}
 use Rattle.sb_net.specs.Recorded.{device_entries, entry_counts}
 use Rattle.sb_net.specs.Running.{IsBuilt}
-use Rattle.sb_net.proofs.NodeNumbers.{few_hosts, few_routers, router_count}
+use Rattle.sb_net.proofs.NodeNumbers.{few_routers, router_count}
 use Rattle.sb_net.proofs.Told.{room_there}
 use Rattle.sb_net.proofs.net.build.Goals as goal
 

@@ -2,9 +2,12 @@
 
 ghost use Rattle.std.specs.Prelude.{◌≡◌, ◌≤◌, ◌*◌, All, length, map, sum_by};
 ghost use Rattle.sb_packet.specs.Scripts.{IsTransaction};
+ghost use Rattle.sb_flow.specs.Limits.{word_count};
+ghost use Rattle.sb_flow.specs.NetworkOf.{network_of};
 ghost use Rattle.sb_flow.specs.Rows.{host_of};
 
-use sb_flow::HostPlan;
+use crate::bundle::Bundle;
+use crate::host_plan::HostPlan;
 use sb_packet::Txn;
 
 /// The words of a script.
@@ -41,4 +44,11 @@ pub fn all_words(hosts: &[HostPlan]) -> u32
         words += host_words(host);
     }
     words
+}
+
+/// The words of all scripts of a bundle: 262,144 at most.
+pub fn bundle_words(bundle: &Bundle) -> u32
+    ensures { result ≡ word_count (network_of bundle.now) }
+{
+    all_words(bundle.hosts.as_slice())
 }

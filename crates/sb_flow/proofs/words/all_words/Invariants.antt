@@ -2,7 +2,7 @@
 use Rattle.std.proofs.Common.{◌≡◌, ◌≤◌, ◌*◌, map, take}
 use Rattle.std.specs.Prelude.{sum_by}
 use Rattle.sb_flow.specs.Rows.{host_of}
-use Rattle.sb_topology.proofs.words.all_words.Given as goal
+use Rattle.sb_flow.proofs.words.all_words.Given as goal
 
 abbrev pub invariant-loop-host : goal.invariant-loop-host
 invariant-loop-host l = record {
