@@ -25,3 +25,11 @@ number_between least most word =
 -- The number of an option, or what counts where the option isn't given; None where its value is no number of the range.
 abbrev pub number_given : List ℕ → ℕ → ℕ → ℕ → List Row → Option ℕ
 number_given name least most default rows = option_map_or (number_between least most) (first_of name rows) (Some default)
+
+-- `[--order N]`: 0 to 4,294,967,295, and 0 where it isn't given
+abbrev pub order_given : List Row → Option ℕ
+order_given rows = number_given (codes "order") 0 4294967295 0 rows
+
+-- `[--history]`
+abbrev pub is_history_given : List Row → Bool
+is_history_given rows = is_flag_given (codes "history") rows

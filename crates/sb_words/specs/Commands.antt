@@ -1,7 +1,7 @@
 -- What the words of the command line ask for. They don't hold the program's name. This project's own.
 use Rattle.std.specs.Prelude.{ℕ, ◌==◌, Bool, true, List, [], ◌∷◌, fold, find, length, codes, bytes_eq, Option, Some, None, option_map, option_and_then, if◌then◌else◌}
 use Rattle.clap.specs.Words.{App, Row, Rule, fault_of, new_app, subcommand_of, with_rule, with_subcommand}
-use Rattle.sb_words.specs.Arguments.{flag_rule, is_flag_given, number_given, option_rule}
+use Rattle.sb_words.specs.Arguments.{flag_rule, is_history_given, option_rule, order_given}
 use Rattle.sb_words.specs.declared.command.Command.{Command}
 use Rattle.sb_words.specs.declared.command.Command.TheVariants.{Replay, Solo}
 
@@ -16,12 +16,12 @@ pub record CommandForm : Type 0 where
 abbrev pub solo_form : CommandForm
 solo_form = record { name = codes "solo"; rules = []; command = λ rows. Some Solo }
 
--- `replay [--order N] [--history]`, where N is 0 to 4,294,967,295, and 0 where it isn't given
+-- `replay [--order N] [--history]`
 abbrev pub replay_form : CommandForm
 replay_form = record {
   name = codes "replay";
   rules = option_rule (codes "order") ∷ flag_rule (codes "history") ∷ [];
-  command = λ rows. option_map (λ order. Replay order (is_flag_given (codes "history") rows)) (number_given (codes "order") 0 4294967295 0 rows);
+  command = λ rows. option_map (λ order. Replay order (is_history_given rows)) (order_given rows);
 }
 
 -- all commands

@@ -2,7 +2,8 @@
 
 ghost use Rattle.std.specs.Prelude.{◌≡◌};
 ghost use Rattle.clap.specs.Words.{found_of, rows_of};
-ghost use Rattle.sb_words.specs.Arguments.{is_flag_given as flag_given_by, number_between as number_between_by, number_given as number_given_by};
+ghost use Rattle.sb_words.specs.Arguments.{is_flag_given as flag_given_by, is_history_given as history_given_by};
+ghost use Rattle.sb_words.specs.Arguments.{number_between as number_between_by, number_given as number_given_by, order_given as order_given_by};
 
 use clap::ArgMatches;
 use sb_text::number;
@@ -21,7 +22,7 @@ fn number_between(word: &str, least: u32, most: u32) -> Option<u32>
 /// The number of an option, or `default` where the option isn't given; None where the word that is given is no number
 /// from `least` to `most`.
 #[tactic(auto, using(crate::proofs::Matched::first_text))]
-pub fn number_given(
+fn number_given(
     found: &ArgMatches<'_>,
     name: &str,
     least: u32,
@@ -38,11 +39,25 @@ pub fn number_given(
 
 /// Whether a flag is given: its value is then `true`.
 #[tactic(auto, using(crate::proofs::Matched::first_text))]
-pub fn is_flag_given(found: &ArgMatches<'_>, name: &str) -> bool
+fn is_flag_given(found: &ArgMatches<'_>, name: &str) -> bool
     ensures { result ≡ flag_given_by name.now (rows_of (found_of found.now)) }
 {
     match found.get_str(name) {
         None => false,
         Some(value) => value == "true",
     }
+}
+
+/// `[--order N]`: 0 to 4,294,967,295, and 0 where it isn't given; None where N is no such number.
+pub fn order_given(found: &ArgMatches<'_>) -> Option<u32>
+    ensures { result ≡ order_given_by (rows_of (found_of found.now)) }
+{
+    number_given(found, "order", 0, u32::MAX, 0)
+}
+
+/// `[--history]`
+pub fn is_history_given(found: &ArgMatches<'_>) -> bool
+    ensures { result ≡ history_given_by (rows_of (found_of found.now)) }
+{
+    is_flag_given(found, "history")
 }

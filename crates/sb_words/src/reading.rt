@@ -5,7 +5,7 @@ ghost use Rattle.clap.specs.Words.{found_of, rows_of, subcommand_of, subcommand_
 ghost use Rattle.sb_words.specs.Commands.{command_in, clap_takes, named_command, program_app, replay_form};
 ghost use Rattle.sb_words.specs.declared.words_fault.WordsFault.TheVariants as faults;
 
-use crate::arguments::{is_flag_given, number_given};
+use crate::arguments::{is_history_given, order_given};
 use crate::command::Command;
 use crate::forms::program;
 use crate::words_fault::WordsFault;
@@ -17,8 +17,8 @@ use std::alloc::Global;
 fn replay(found: &ArgMatches<'_>) -> Option<Command>
     ensures { result ≡ replay_form.command (rows_of (found_of found.now)) }
 {
-    let order = number_given(found, "order", 0, u32::MAX, 0)?;
-    let history = is_flag_given(found, "history");
+    let order = order_given(found)?;
+    let history = is_history_given(found);
     Some(Command::Replay { order, history })
 }
 
