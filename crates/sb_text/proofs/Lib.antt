@@ -6,3 +6,9 @@ pub mod TextLemmas
 pub mod ScriptLemmas
 pub mod Examples
 pub mod ReportExamples
+pub mod HexLemmas
+pub mod PrintLemmas
+pub mod IndexedLemmas
+pub mod LineLemmas
+pub mod SideLemmas
+pub mod ToldLemmas

@@ -7,3 +7,7 @@ pub mod Scripts
 pub mod TextLines
 pub mod Reports
 pub mod Told
+pub mod Printing
+pub mod LineWords
+pub mod ReportParts
+pub mod Telling

@@ -1,0 +1,10 @@
+//! The report of a run, printed through a buffer. Printing takes no memory.
+
+mod hosts;
+mod line_buffer;
+mod pieces;
+mod printing;
+mod sides;
+mod words;
+
+pub use words::print_line;
