@@ -7,6 +7,7 @@ use Rattle.sb_packet.specs.Scripts.{transaction_accesses}
 use Rattle.sb_packet.specs.Answers.{unreached_by}
 use Rattle.sb_packet.specs.Outcomes.{Outcome, RunResults, outcome_of}
 use Rattle.sb_top.specs.Solo.{solo_device, solo_host}
+use Rattle.sb_top.specs.declared.solo.Run.{Run}
 use Rattle.sb_packet.specs.declared.transaction.Txn.{Txn}
 
 -- the memory before the first transaction
@@ -39,3 +40,7 @@ solo_results script = record {
   outcomes = solo_outcomes_from script 0 solo_opening script ∷ [];
   images = (solo_memory_from script 0 solo_opening script).bytes ∷ [];
 }
+
+-- The run of a script tells what came of its one host, and of its one memory.
+abbrev pub TellsAlone : Run → RunResults → Type 0
+TellsAlone run told = told ≡ record { outcomes = run.outcomes.outcomes ∷ []; images = run.memory.bytes ∷ [] }

@@ -8,6 +8,7 @@ use Rattle.sb_packet.specs.declared.transaction.Txn.{Txn}
 use Rattle.sb_io.specs.Written.{Gains, GainsPart}
 use Rattle.sb_link.specs.RingPlans.{RingPlan}
 use Rattle.sb_link.specs.declared.fabric.Fabric as fabrics
+use Rattle.sb_flow.specs.Accepted.{IsAccepted}
 use Rattle.sb_flow.specs.Rings.{IsCarried}
 use Rattle.sb_laws.specs.NetworkLayouts.{ring_count}
 use Rattle.sb_net.specs.Legs.{first_plans}
@@ -39,28 +40,32 @@ pub record IsUntouched (effects : Effects) : Type 0 where
   pub no_entry : effects.journal ≡ []
   pub no_ring : effects.made ≡ []
 
--- A script was run: the input spells it; the journal is one legal history of it, packet by packet; no ring was made; and the text is that journal's report.
-pub record RanScript (input : List ℕ) (effects : Effects) (text : List ℕ) : Type 0 where
+-- A script was run: the input spells it; the journal is one legal history of it, packet by packet; and the text is that journal's report.
+pub record RanScript (input : List ℕ) (journal : List Entry) (text : List ℕ) : Type 0 where
   pub script : List Txn
   pub spelled : script_of_text input ≡ Ok script
-  pub packets : IsSoloJournal script effects.journal
-  pub lawful : IsLawful (solo_network script) effects.journal
-  pub no_ring : effects.made ≡ []
-  pub printed : text ≡ run_report (solo_network script) effects.journal false None
+  pub packets : IsSoloJournal script journal
+  pub lawful : IsLawful (solo_network script) journal
+  pub printed : text ≡ run_report (solo_network script) journal false None
 
--- A bundle was run: the input spells it, and it is accepted; the journal is one legal history of a byte memory per device, with each word of the scripts that is aimed at a device once, those of one host at one device in order; each ring of the bundle was made by its plan, and carried just the words of its flows; and the text is that journal's report.
-pub record RanBundle (history : Bool) (input : List ℕ) (effects : Effects) (text : List ℕ) : Type 0 where
-  pub network : Network
-  pub spelled : bundle_of input ≡ Ok network
+-- A network was run. The journal is one legal history of a byte memory per device: it has each word of the scripts that is aimed at a device once, and those of one host at one device in order. Each ring of the network was made by its plan, and carried just the words of its flows. The rounds were no more than the rings' budgets allow. And the text is that journal's report.
+pub record RanNetwork (network : Network) (history : Bool) (effects : Effects) (text : List ℕ) : Type 0 where
   pub lawful : IsLawful network effects.journal
   pub rings : effects.made ≡ first_plans network (ring_count network)
   pub carried : (ring : ℕ) → ring < ring_count network → IsCarried network effects.journal ring (effects.carried ring)
   pub rounds : All (λ e. e.round < network_moves network) effects.journal
   pub printed : text ≡ run_report network effects.journal history None
 
--- A command was done with an input.
+-- A bundle was run: the input spells an accepted one, and its network was run.
+pub record RanBundle (history : Bool) (input : List ℕ) (effects : Effects) (text : List ℕ) : Type 0 where
+  pub network : Network
+  pub spelled : bundle_of input ≡ Ok network
+  pub accepted : IsAccepted network
+  pub ran : RanNetwork network history effects text
+
+-- A command was done with an input; without links, no ring is made.
 abbrev pub Ran : Command → List ℕ → Effects → List ℕ → Type 0
-Ran commands.Solo input effects text = RanScript input effects text
+Ran commands.Solo input effects text = RanScript input effects.journal text × (effects.made ≡ [])
 Ran (commands.Replay order history) input effects text = RanBundle history input effects text
 
 -- The input is no script, and the text names its first fault.

@@ -11,11 +11,10 @@ ghost use Rattle.sb_net.specs.Legs.{first_plans};
 ghost use Rattle.sb_net.specs.Settled.{TellsRun};
 ghost use Rattle.sb_net.specs.Spent.{network_moves};
 
-use sb_flow::Bundle;
+use sb_flow::{Bundle, bundle_words};
 use sb_link::MeetFabric;
 use sb_net::{SettledNet, build};
 use sb_packet::Journal;
-use sb_topology::all_words;
 use std::alloc::{AllocError, Global};
 
 /// Runs a bundle to its end on one thread, over rings of the fabric, and fills the journal. All memory is taken before the
@@ -43,7 +42,7 @@ pub fn replay_bundle<F: MeetFabric>(
     ensures no_run { OnErr result (journal.new.entries ≡ []) }
 {
     let mut net = build(alloc, bundle, 1, fabric)?;
-    journal.reserve(all_words(bundle.hosts.as_slice()))?;
+    journal.reserve(bundle_words(bundle))?;
     net.replay(order, journal);
     Ok(net.settle(fabric))
 }

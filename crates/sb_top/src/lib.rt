@@ -1,17 +1,16 @@
 //! The top call of `sb`.
 #![tactic(auto)]
 
+mod bundle_run;
 mod command;
 mod input;
 mod laws;
-mod line_buffer;
-mod lines;
 mod outcomes;
-mod output;
 mod refusal;
-mod report;
+mod replay_command;
 mod solo;
 mod solo_bundle;
+mod solo_command;
 mod status;
 
 pub use command::top;
@@ -20,5 +19,6 @@ pub use laws::{
     solo_results_are_the_journals,
 };
 pub use sb_io::{ReaderSource, WriterSink};
+pub use sb_link::SerialFabric;
 pub use sb_packet::Journal;
 pub use status::{DONE, OUT_OF_MEMORY, READ_FAILED, REFUSED, TOO_LONG, USAGE, WRITE_FAILED};

@@ -15,15 +15,14 @@ ghost use Rattle.sb_mem.specs.AnswerPackets.{IsInRange};
 ghost use Rattle.sb_top.specs.Steps.{answer_room_in, answer_room_of, entries_in, entries_of, lost_outcome, packet_answers, state_by, IsFirstRound};
 
 use crate::outcomes::Outcomes;
+use crate::solo_bundle::PAGES;
 use sb_mem::{Memory, serve};
 use sb_packet::{
     BODY_BYTES, Code, Entry, Journal, Kind, PAGE_BYTES, Packet, Txn, TxnState, carried, packet_of,
     packets, words_span,
 };
+use sb_text::Results;
 use std::alloc::{AllocError, Global};
-
-/// The pages of the memory, which begins at address 0.
-const PAGES: u32 = 16;
 
 const MEMORY_BYTES: u64 = PAGES as u64 * PAGE_BYTES;
 
@@ -263,4 +262,22 @@ pub fn run_script(alloc: Global, script: &[Txn], journal: &mut Journal) -> Resul
         perform(&mut memory, journal, &mut outcomes, index as u32, txn);
     }
     Ok(Run { outcomes, memory })
+}
+
+impl Results for Run {
+    ghost use Rattle.sb_top.specs.SoloRuns.{TellsAlone};
+
+    ghost tells = { λ run told. TellsAlone run told };
+
+    fn state(&self, _host: u8, index: u32) -> TxnState {
+        self.outcomes.state(index as usize)
+    }
+
+    fn body(&self, _host: u8, index: u32) -> &[u8] {
+        self.outcomes.body(index as usize)
+    }
+
+    fn image(&self, _device: u8) -> &[u8] {
+        self.memory.image()
+    }
 }

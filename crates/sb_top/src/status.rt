@@ -1,5 +1,10 @@
 //! The statuses with which the program ends: this project's own.
 
+ghost use Rattle.std.specs.Prelude.{◌≡◌};
+ghost use Rattle.sb_text.specs.declared.report.Printed.TheVariants as printed;
+
+use sb_text::Printed;
+
 /// The command was done, and its text was written.
 pub const DONE: u8 = 0;
 
@@ -20,3 +25,14 @@ pub const OUT_OF_MEMORY: u8 = 6;
 
 /// The input is too long: `too long` was written.
 pub const TOO_LONG: u8 = 7;
+
+/// The status of a text that was to be written.
+pub fn status_of(written: Printed, status: u8) -> u8
+    ensures done { written ≡ printed.Done → result ≡ status }
+    ensures failed { written ≡ printed.Failed → result ≡ WRITE_FAILED }
+{
+    match written {
+        Printed::Done => status,
+        Printed::Failed => WRITE_FAILED,
+    }
+}

@@ -1,6 +1,0 @@
-//! Scratch.
-#![tactic(auto)]
-
-mod bundle_run;
-
-pub use bundle_run::replay_bundle;
