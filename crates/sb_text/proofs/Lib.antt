@@ -12,3 +12,4 @@ pub mod IndexedLemmas
 pub mod LineLemmas
 pub mod SideLemmas
 pub mod ToldLemmas
+pub mod EntryLemmas

@@ -1,8 +1,9 @@
 -- What is told of a bundle's hosts and devices, by their places.
-use Rattle.std.proofs.Common.{◌≡◌, ◌≤◌, ◌<◌, ◌*◌, ℕ, zero, suc, Bool, true, List, [], ◌∷◌, ap, sym, ◌∙◌, subst, arith, length, map, get_or}
+use Rattle.std.proofs.Common.{◌≡◌, ◌≤◌, ◌<◌, ◌*◌, ℕ, zero, suc, Bool, true, false, List, [], ◌∷◌, ap, sym, ◌∙◌, subst, arith, length, map, get_or}
 use Rattle.std.specs.Prelude.{nat_le, ◌&&◌}
 use Rattle.std.specs.List.{list_all}
 use Rattle.std.proofs.lemmas.Bool.{and_parts, leb-true}
+use Rattle.std.proofs.Math.ListN.{get_or-map as get_or-map-both}
 use Rattle.std.proofs.lemmas.List.{get_or-map, length-map}
 use Rattle.sb_packet.specs.Networks.{NetDevice, NetHost, Network, device_size}
 use Rattle.sb_packet.specs.Outcomes.{Outcome, RunResults}
@@ -64,3 +65,17 @@ pub script_told : (b : Bundle) (told : RunResults) (h : ℕ) (plan : HostPlan) �
 script_told b told h plan fits there at =
     let row : get_or (network_of b).hosts h (host_of plan) ≡ host_of plan = host_of_network b h plan ∙ ap host_of (sym at) in
     ap (λ (x : NetHost). length x.script) (sym row) ∙ host_told (network_of b) told h (host_of plan) fits (omega (arith, there, length-map b.hosts.items host_of))
+
+-- a device without a page, where one is wanted for what is missing
+pub no_plan : DevicePlan
+no_plan = record { name = []; base = 0; pages = 0; readonly = false; image = [] }
+
+-- a device of the bundle is that of its network
+pub device_of_network : (b : Bundle) (k : ℕ) (d : DevicePlan) → get_or (network_of b).devices k (device_of d) ≡ device_of (get_or b.devices.items k d)
+device_of_network b k d = get_or-map-both device_of b.devices.items k d
+
+-- as many bytes as may be, of the device that was read there
+pub image_few : (b : Bundle) (told : RunResults) (k : ℕ) (row : DevicePlan) → FitsNetwork (network_of b) told → k < length b.devices.items → row ≡ get_or b.devices.items k row → length (get_or told.images k []) ≤ 1048576
+image_few b told k row fits there at =
+    let size : length (get_or told.images k []) ≡ row.pages * 4096 = image_told (network_of b) told k (device_of row) fits (omega (arith, there, length-map b.devices.items device_of)) ∙ ap device_size (device_there b k row (device_of row) there at) in
+    omega (arith, size, few_pages b k row there at)

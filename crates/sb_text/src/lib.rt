@@ -24,7 +24,7 @@ pub use line_fault::LineFault;
 pub use line_word::LineWord;
 pub use numerals::{number, numeral};
 pub use printed::Printed;
-pub use report::print_line;
+pub use report::{print, print_line};
 pub use results::Results;
 pub use script::read_script;
 pub use script_fault::ScriptFault;
