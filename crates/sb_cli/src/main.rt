@@ -1,7 +1,7 @@
 //! The program `sb`: it hands its words, its standard input and its standard output to the top call.
 #![tactic(auto)]
 
-use sb_top::{Journal, OUT_OF_MEMORY, ReaderSource, WriterSink, top};
+use sb_top::{Journal, OUT_OF_MEMORY, ReaderSource, SerialFabric, WriterSink, top};
 use std::io::ErrorKind;
 use std::process::ExitCode;
 use std::{env, io};
@@ -23,12 +23,14 @@ fn main(rt: HostRuntime) -> ExitCode {
     }
     let mut source = ReaderSource::new(rt.reader());
     let mut sink = WriterSink::new(io::writer(&rt));
+    let mut fabric = SerialFabric::new(alloc);
     let mut journal = Journal::new(alloc);
     ExitCode::from(top(
         alloc,
         words.as_slice(),
         &mut source,
         &mut sink,
+        &mut fabric,
         &mut journal,
     ))
 }

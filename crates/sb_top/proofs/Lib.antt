@@ -2,14 +2,11 @@ pub mod SoloWords
 pub mod SoloLawful
 pub mod SoloResults
 pub mod SoloCounts
+pub mod SoloReports
+pub mod StatusLemmas
 pub mod SoloExamples
-pub mod HexLemmas
-pub mod IndexedLemmas
 pub mod IssueLemmas
 pub mod InputLemmas
-pub mod OutputLemmas
-pub mod PrintLemmas
-pub mod ReportLemmas
 pub mod RowLemmas
 pub mod StepLemmas
 pub mod UnreachedLemmas

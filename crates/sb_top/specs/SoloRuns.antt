@@ -1,5 +1,5 @@
 -- The run of `solo`, transaction by transaction: what its memory answers, and what it becomes.
-use Rattle.std.specs.Prelude.{ℕ, ◌+◌, List, [], ◌∷◌, filter_map, if◌then◌else◌}
+use Rattle.std.specs.Prelude.{ℕ, ◌≡◌, ◌+◌, List, [], ◌∷◌, filter_map, if◌then◌else◌}
 use Rattle.sb_packet.specs.Accesses.{Access}
 use Rattle.sb_packet.specs.Memories.{MemoryState, memory_after, answers_in}
 use Rattle.sb_packet.specs.Networks.{has_address, opening_of}
@@ -7,7 +7,7 @@ use Rattle.sb_packet.specs.Scripts.{transaction_accesses}
 use Rattle.sb_packet.specs.Answers.{unreached_by}
 use Rattle.sb_packet.specs.Outcomes.{Outcome, RunResults, outcome_of}
 use Rattle.sb_top.specs.Solo.{solo_device, solo_host}
-use Rattle.sb_top.specs.declared.solo.Run.{Run}
+use Rattle.sb_top.specs.declared.solo.ScriptRun.{ScriptRun}
 use Rattle.sb_packet.specs.declared.transaction.Txn.{Txn}
 
 -- the memory before the first transaction
@@ -42,5 +42,5 @@ solo_results script = record {
 }
 
 -- The run of a script tells what came of its one host, and of its one memory.
-abbrev pub TellsAlone : Run → RunResults → Type 0
+abbrev pub TellsAlone : ScriptRun → RunResults → Type 0
 TellsAlone run told = told ≡ record { outcomes = run.outcomes.outcomes ∷ []; images = run.memory.bytes ∷ [] }

@@ -32,7 +32,7 @@ pub record Effects : Type 0 where
   pub carried : ℕ → List Access
 
 -- what it leaves in a journal and a fabric
-abbrev pub effects_in : {F : Type 0} → fabrics.Ghosts F → F → List Entry → Effects
+abbrev pub effects_in : {F T U : Type 0} → fabrics.Ghosts F T U → F → List Entry → Effects
 effects_in fabric f journal = record { journal = journal; made = fabric.made f; carried = fabric.carried f }
 
 -- nothing was run: the journal is empty, and no ring was made

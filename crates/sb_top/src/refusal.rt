@@ -5,7 +5,7 @@ ghost use Rattle.sb_io.specs.Counts.{FaultsIncreased};
 ghost use Rattle.sb_io.specs.Written.{Gains, GainsPart};
 ghost use Rattle.sb_text.specs.LineWords.{word_text};
 ghost use Rattle.sb_text.specs.TextLines.{text_line};
-ghost use Rattle.sb_text.specs.declared.report.Printed.TheVariants as printed;
+ghost use Rattle.sb_text.specs.declared.printed.Printed.TheVariants as printed;
 ghost use Rattle.sb_top.specs.Refusals.{line_fault_text, load_fault_words, place_words, refusal_text, script_fault_words};
 
 use sb_flow::Place;
@@ -68,7 +68,10 @@ pub fn refuse_script<K: Sink>(sink: &mut K, fault: ScriptFault) -> Printed
     match fault {
         ScriptFault::Lines { count: n } => print_line(sink, &[refused, text("lines"), count(n)]),
         ScriptFault::Line { line, fault } => {
-            print_line(sink, &[refused, text("line"), count(line), line_fault(fault)])
+            print_line(
+                sink,
+                &[refused, text("line"), count(line), line_fault(fault)],
+            )
         }
         ScriptFault::Words { words } => print_line(sink, &[refused, text("words"), count(words)]),
         ScriptFault::Memory => print_line(sink, &[refused, text("memory")]),
@@ -109,21 +112,39 @@ pub fn refuse_bundle<K: Sink>(sink: &mut K, fault: &LoadFault) -> Printed
         LoadFault::HostId { host } => print_line(sink, &[refused, text("hostid"), number(*host)]),
         LoadFault::Range { device } => print_line(sink, &[refused, text("range"), number(*device)]),
         LoadFault::Overlap { device, other } => {
-            print_line(sink, &[refused, text("overlap"), number(*device), number(*other)])
+            print_line(
+                sink,
+                &[refused, text("overlap"), number(*device), number(*other)],
+            )
         }
         LoadFault::Image { device, bytes } => {
-            print_line(sink, &[refused, text("image"), number(*device), count(*bytes)])
+            print_line(
+                sink,
+                &[refused, text("image"), number(*device), count(*bytes)],
+            )
         }
         LoadFault::Width { link } => print_line(sink, &[refused, text("width"), number(*link)]),
         LoadFault::End { link } => print_line(sink, &[refused, text("end"), number(*link)]),
-        LoadFault::Backward { link } => print_line(sink, &[refused, text("backward"), number(*link)]),
+        LoadFault::Backward { link } => print_line(
+            sink,
+            &[refused, text("backward"), number(*link)],
+        ),
         LoadFault::Unlinked { place } => refuse_place(sink, *place),
         LoadFault::Script { host, line, fault } => {
-            let words = [refused, text("script"), number(*host), count(*line), line_fault(*fault)];
+            let words = [
+                refused,
+                text("script"),
+                number(*host),
+                count(*line),
+                line_fault(*fault),
+            ];
             print_line(sink, &words)
         }
         LoadFault::Route { router, device } => {
-            print_line(sink, &[refused, text("route"), number(*router), number(*device)])
+            print_line(
+                sink,
+                &[refused, text("route"), number(*router), number(*device)],
+            )
         }
         LoadFault::Budget { words } => print_line(sink, &[refused, text("budget"), count(*words)]),
         LoadFault::Memory => print_line(sink, &[refused, text("memory")]),

@@ -2,7 +2,10 @@
 
 ghost use Rattle.std.specs.Prelude.{◌≡◌, ◌≢◌, ◌≤◌, ◌^◌, ◌⊎◌, [], length};
 ghost use Rattle.sb_io.specs.Counts.{FaultsIncreased};
+ghost use Rattle.sb_io.specs.Written.{Gains, GainsPart};
+ghost use Rattle.sb_fields.specs.declared.fault.LoadFault.TheVariants as faults;
 ghost use Rattle.sb_flow.specs.NetworkOf.{network_of};
+ghost use Rattle.sb_top.specs.Refusals.{load_fault_words, refusal_text};
 ghost use Rattle.sb_top.specs.TopCall.{IsUntouched, RanBundle, RanNetwork, RefusedBundle, Wrote, WrotePart, effects_in};
 
 use crate::bundle_run::replay_bundle;
@@ -45,6 +48,23 @@ fn report<K: Sink, F: MeetFabric>(
     }
 }
 
+/// Says why an input is refused, unless memory was missing. It gives the status.
+fn refuse<K: Sink>(sink: &mut K, fault: &LoadFault) -> u8
+    ensures refused { result ≡ REFUSED → (fault.now ≢ faults.Memory)
+        × Gains (K.held sink.old) (K.held sink.new) (refusal_text (load_fault_words fault.now)) }
+    ensures part { result ≡ WRITE_FAILED → (fault.now ≢ faults.Memory)
+        × GainsPart (K.held sink.old) (K.held sink.new) (refusal_text (load_fault_words fault.now)) }
+    ensures silent { result ≡ OUT_OF_MEMORY → K.held sink.new ≡ K.held sink.old }
+    ensures cause { result ≡ WRITE_FAILED → FaultsIncreased (K.faults sink.old) (K.faults sink.new) }
+    ensures clean { result ≢ WRITE_FAILED → K.faults sink.new ≡ K.faults sink.old }
+    ensures others { (result ≡ REFUSED) ⊎ (result ≡ WRITE_FAILED) ⊎ (result ≡ OUT_OF_MEMORY) }
+{
+    if let LoadFault::Memory = fault {
+        return OUT_OF_MEMORY;
+    }
+    status_of(refuse_bundle(sink, fault), REFUSED)
+}
+
 /// Runs the bundle that an input spells, and prints its report; or says why the input is refused. It gives the status.
 pub fn replay<K: Sink, F: MeetFabric>(
     alloc: Global,
@@ -74,7 +94,6 @@ pub fn replay<K: Sink, F: MeetFabric>(
 {
     match load(alloc, input) {
         Ok(bundle) => report(alloc, &bundle, order, history, sink, fabric, journal),
-        Err(LoadFault::Memory) => OUT_OF_MEMORY,
-        Err(fault) => status_of(refuse_bundle(sink, &fault), REFUSED),
+        Err(fault) => refuse(sink, &fault),
     }
 }

@@ -228,7 +228,7 @@ fn room_in(script: &[Txn]) -> Room
 
 /// What the run of a script comes to.
 #[derive(Drop)]
-pub struct Run {
+pub struct ScriptRun {
     pub outcomes: Outcomes,
     pub memory: Memory,
 }
@@ -244,7 +244,11 @@ fn new_memory(alloc: Global) -> Result<Memory, AllocError>
 
 /// Runs a script against a new memory. It takes all its memory before the first step; where some is missing, the journal
 /// has no entry.
-pub fn run_script(alloc: Global, script: &[Txn], journal: &mut Journal) -> Result<Run, AllocError>
+pub fn run_script(
+    alloc: Global,
+    script: &[Txn],
+    journal: &mut Journal,
+) -> Result<ScriptRun, AllocError>
     requires transactions { All IsTransaction script.now }
     requires few { length script.now ≤ 65536 }
     requires empty { journal.old.entries ≡ [] }
@@ -261,10 +265,10 @@ pub fn run_script(alloc: Global, script: &[Txn], journal: &mut Journal) -> Resul
     for (index, txn) in script.iter().enumerate() {
         perform(&mut memory, journal, &mut outcomes, index as u32, txn);
     }
-    Ok(Run { outcomes, memory })
+    Ok(ScriptRun { outcomes, memory })
 }
 
-impl Results for Run {
+impl Results for ScriptRun {
     ghost use Rattle.sb_top.specs.SoloRuns.{TellsAlone};
 
     ghost tells = { λ run told. TellsAlone run told };

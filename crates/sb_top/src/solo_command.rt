@@ -13,7 +13,7 @@ ghost use Rattle.sb_top.specs.SoloRuns.{TellsAlone};
 ghost use Rattle.sb_top.specs.TopCall.{RanScript, RefusedScript, Wrote, WrotePart};
 
 use crate::refusal::refuse_script;
-use crate::solo::{Run, run_script};
+use crate::solo::{ScriptRun, run_script};
 use crate::solo_bundle::solo_bundle;
 use crate::status::{DONE, OUT_OF_MEMORY, REFUSED, WRITE_FAILED, status_of};
 use sb_flow::Bundle;
@@ -23,7 +23,11 @@ use sb_text::{ScriptFault, print, read_script};
 use std::alloc::{AllocError, Global};
 
 /// Runs a script against one memory. It gives the bundle that has the script, and what the run came to.
-fn run(alloc: Global, script: Script, journal: &mut Journal) -> Result<(Bundle, Run), AllocError>
+fn run(
+    alloc: Global,
+    script: Script,
+    journal: &mut Journal,
+) -> Result<(Bundle, ScriptRun), AllocError>
     requires transactions { All IsTransaction script }
     requires few { length script ≤ 65536 }
     requires words { sum_by (λ t. t.count) script ≤ 262144 }

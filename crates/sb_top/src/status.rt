@@ -1,7 +1,7 @@
 //! The statuses with which the program ends: this project's own.
 
 ghost use Rattle.std.specs.Prelude.{◌≡◌};
-ghost use Rattle.sb_text.specs.declared.report.Printed.TheVariants as printed;
+ghost use Rattle.sb_text.specs.declared.printed.Printed.TheVariants as printed;
 
 use sb_text::Printed;
 
