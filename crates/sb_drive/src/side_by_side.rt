@@ -10,8 +10,8 @@ use crate::sweep::turn_group;
 use std::thread;
 use std::thread::Threads;
 
-/// A long round: turns each group in a thread of its own, and says whether a node of them moved. Of one group alone no
-/// thread is started. Takes no memory.
+/// A long round: turns each group on a thread of its own, where so many can be started, and says whether a node of them
+/// moved. Of one group alone no thread is started. Takes no memory but the threads' stacks.
 ///
 /// A group enters the gate, with its place, and then sweeps: each of its nodes takes one turn, in order. It makes one
 /// sweep at least, and leaves the round when all its nodes answered Done in one sweep, when `patience` sweeps in a row
@@ -36,7 +36,7 @@ pub fn round<R: Threads + Sync, N: Node + Send, G: Gate + Sync>(
     any_moved(groups)
 }
 
-// turns each group in a thread of its own
+// turns each group on a thread of its own
 fn turn_groups<R: Threads + Sync, N: Node + Send, G: Gate + Sync>(
     rt: &R,
     groups: &mut [Group<N>],

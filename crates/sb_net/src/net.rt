@@ -16,8 +16,9 @@ ghost use Rattle.sb_net.specs.Settled.{TellsRun};
 
 use crate::groups::deal;
 use crate::making::{Parts, parts_of};
-use crate::running::{run_serial, run_side_by_side};
+use crate::running::run_serial;
 use crate::settling::{Apart, SettledNet, settle_nodes};
+use crate::side_by_side::run_side_by_side;
 use sb_drive::{Gate, Group};
 use sb_flow::Bundle;
 use sb_link::{Fabric, MeetFabric};

@@ -4,7 +4,7 @@ use Rattle.sb_member.specs.Groups.{grouped_nodes}
 use Rattle.sb_member.proofs.Dealt.{total_of}
 use Rattle.sb_net.proofs.LaterNets.{stands_turned}
 use Rattle.sb_net.proofs.UnderWay.{device_range, gone_by, has_room, never_so_late, nodes_fit, none_fewer, round_ends, round_goes_on}
-use Rattle.sb_net.proofs.running.run_side_by_side.Goals as goal
+use Rattle.sb_net.proofs.side_by_side.run_side_by_side.Goals as goal
 
 pub turn_groups-requires-clause-whole : goal.turn_groups-requires-clause-whole
 turn_groups-requires-clause-whole g c κs within = (c.loop-number.invariant.2 c.requires.ready.0 c.requires.ready.1).stands.joined.whole

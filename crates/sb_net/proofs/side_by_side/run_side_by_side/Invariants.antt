@@ -4,7 +4,7 @@ use Rattle.sb_packet.specs.Networks.{Network}
 use Rattle.sb_member.specs.Groups.{IsDealt, dealt_nodes, grouped_nodes}
 use Rattle.sb_net.specs.Running.{IsReady}
 use Rattle.sb_net.proofs.UnderWay.{IsUnderWay}
-use Rattle.sb_net.proofs.running.run_side_by_side.Given as goal
+use Rattle.sb_net.proofs.side_by_side.run_side_by_side.Given as goal
 
 abbrev pub invariant-loop-number : goal.invariant-loop-number
 invariant-loop-number g l =

@@ -2,7 +2,7 @@
 use Rattle.sb_member.specs.Members.{IsWholeMember}
 use Rattle.sb_net.proofs.NumberedNodes.{whole_groups, whole_nodes}
 use Rattle.sb_net.proofs.RoundsDealt.{answers, dealt_then, round_of_all}
-use Rattle.sb_net.proofs.running.turn_groups.Goals as goal
+use Rattle.sb_net.proofs.side_by_side.turn_groups.Goals as goal
 
 pub round-requires-clause-whole : goal.round-requires-clause-whole
 round-requires-clause-whole g c κs within = whole_groups c.args.groups.now c.requires.dealt IsWholeMember c.requires.whole
