@@ -3,3 +3,4 @@ pub mod Turned
 pub mod Ended
 pub mod OrderExamples
 pub mod Sweeps
+pub mod GroupsMoved

@@ -11,6 +11,8 @@ pub mod LaterNodes
 pub mod LaterNets
 pub mod Collected
 pub mod RoundsRecorded
+pub mod NumberedNodes
+pub mod RoundsDealt
 pub mod NodeKinds
 pub mod RingMoments
 pub mod RouterMoments
@@ -57,4 +59,5 @@ pub mod TakenPlaces
 pub mod RingsBack
 pub mod OneEach
 pub mod Told
+pub mod RunsLent
 pub mod ResultsTold

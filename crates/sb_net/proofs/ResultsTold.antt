@@ -97,7 +97,7 @@ module _ {F T U : Type 0} where
       let ring = x.requests.plan.ring in
       let range : slice_get (device_ranges (ring_flows network ring)) d ≡ Some (record { base = x.memory.base; bytes = held_bytes x.memory }) =
       ap (λ n. slice_get (device_ranges (ring_flows network ring)) n) (sym is.number)
-          ∙ ap (λ (p : RingPlan). slice_get (device_ranges p.flows) x.number) (sym planned) ∙ whole.in_order.planned.range in
+      ∙ ap (λ (p : RingPlan). slice_get (device_ranges p.flows) x.number) (sym planned) ∙ whole.in_order.planned.range in
       let same : held_bytes x.memory ≡ held_bytes (opening_memory network d) = of_ranges range (opening_range network ring d dev good lt got) in
       ap (λ (m : MemoryState). length m.bytes) (sym final) ∙ same ∙ opening_held network d dev good lt got
     where

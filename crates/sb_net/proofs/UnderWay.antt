@@ -1,5 +1,5 @@
 -- A run under way: what holds before each round, and what follows of a round.
-use Rattle.std.proofs.Common.{◌≡◌, ◌≤◌, ◌<◌, ◌+◌, ◌-◌, ◌++◌, ℕ, true, false, List, [], length, refl, sym, ap, subst, ◌∙◌, arith}
+use Rattle.std.proofs.Common.{◌≡◌, ◌≤◌, ◌<◌, ◌+◌, ◌-◌, ◌++◌, ℕ, Bool, true, false, List, [], length, refl, sym, ap, subst, ◌∙◌, arith}
 use Rattle.std.specs.Prelude.{◌^◌, ◌==◌, All, IsTrue, filter, flat_map, slice_index_or}
 use Rattle.std.specs.List.{range_with_len}
 use Rattle.std.proofs.lemmas.List.{length-append}
@@ -30,6 +30,10 @@ use Rattle.sb_net.proofs.SpendingBounds.{moves_are_small, nodes_are_few, spent_w
 use Rattle.sb_net.proofs.SpendingMeetings.{meetings_do_nothing}
 use Rattle.sb_net.proofs.SpendingRounds.{round_adds}
 use Rattle.sb_net.proofs.JournalRoom.{journal_within}
+
+-- a round with the answer that a test found
+pub gone_by : {F T U : Type 0} {number : ℕ} {before after : List (Member F T U)} {answer found : Bool} → answer ≡ found → HasGone number before after answer → HasGone number before after found
+gone_by {number = number} {before = before} {after = after} is gone = subst (λ moved. HasGone number before after moved) is gone
 
 -- Before the round of a number: the nodes stand, the journal has what the devices served, and no more rounds were made than what was spent.
 pub record IsUnderWay {F T U : Type 0} (network : Network) (first start number : ℕ) (collected : List ℕ) (joints : List Joint) (nodes : List (Member F T U)) (journal : Ledger) : Type 0 where

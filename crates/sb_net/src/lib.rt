@@ -8,6 +8,7 @@ mod making;
 mod net;
 mod running;
 mod settling;
+mod side_by_side;
 pub mod spending_laws;
 pub mod standing_laws;
 pub mod standstill_laws;

@@ -18,13 +18,15 @@ use crate::groups::deal;
 use crate::making::{Parts, parts_of};
 use crate::running::run_serial;
 use crate::settling::{Apart, SettledNet, settle_nodes};
-use sb_drive::Group;
+use crate::side_by_side::run_side_by_side;
+use sb_drive::{Gate, Group};
 use sb_flow::Bundle;
 use sb_link::{Fabric, MeetFabric};
 use sb_member::{Joint, Member};
 use sb_packet::Journal;
 use std::alloc::{AllocError, Global};
 use std::marker::Model;
+use std::thread::Threads;
 
 /// A network that can be run: its nodes, dealt to groups, and where each of its rings stands. It has all memory that a
 /// run needs, but for the journal.
@@ -122,6 +124,34 @@ impl<F: MeetFabric> Net<F> {
             self.first_device,
             &mut self.collected,
             order,
+            journal,
+        );
+    }
+
+    /// Runs the network to its end with its groups side by side, each on a thread of its own, and fills the journal; with
+    /// one group no thread is started. In each round each group goes through the gate and sweeps over its nodes, as
+    /// `sb_drive::round` says; then the ends of each ring meet, and what devices served goes behind the journal, in the
+    /// order of devices. The end is the first round in which no node moved: then all is done, however the threads went.
+    /// The network hasn't run; the journal is empty, and has room for all words of the scripts. Takes no memory but what
+    /// the threads take.
+    pub fn run<R: Threads + Sync, G: Gate + Sync>(
+        &mut self,
+        rt: &R,
+        gate: &G,
+        journal: &mut Journal,
+    )
+        requires ready { (network : Network) × CanRun network self.old journal.old }
+        ensures run { (network : Network) → CanRun network self.old journal.old → RanToTheEnd network self.new journal.new.entries }
+        ensures groups { length self.new.groups ≡ length self.old.groups }
+        ensures dealt { IsDealt self.new.groups }
+    {
+        run_side_by_side(
+            rt,
+            &mut self.groups,
+            &self.joints,
+            self.first_device,
+            &mut self.collected,
+            gate,
             journal,
         );
     }

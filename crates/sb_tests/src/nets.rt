@@ -3,6 +3,7 @@
 ghost use Rattle.std.specs.Prelude.{◌≡◌, ◌≤◌, ◌<◌, ◌+◌, [], true, length};
 ghost use Rattle.sb_net.specs.Settled.{transactions_at};
 
+use sb_drive::FreeGate;
 use sb_flow::Bundle;
 use sb_link::{MeetFabric, SerialFabric};
 use sb_net::{SettledNet, build};
@@ -11,6 +12,7 @@ use sb_ring::RingFabric;
 use sb_topology::load;
 use std::alloc::{AllocError, Global};
 use std::test::Fail;
+use std::thread::Threads;
 
 // two hosts, three routers and four devices, one of which can't be written
 const EXAMPLE: &str =
@@ -138,6 +140,29 @@ fn example_is_replayed(rt: HostRuntime) -> Result<(), Fail> {
     Ok(())
 }
 
+// whether two settled networks tell the same states, bodies and images of the example
+fn tell_the_same(settled: &SettledNet, other: &SettledNet) -> bool {
+    if settled.device_count() != 4 || other.device_count() != 4 {
+        return false;
+    }
+    for host in 0..2 {
+        if !has_five(settled, host) || !has_five(other, host) {
+            return false;
+        }
+        if states(settled, host) != states(other, host)
+            || bodies(settled, host) != bodies(other, host)
+        {
+            return false;
+        }
+    }
+    for device in 0..4 {
+        if settled.image(device) != other.image(device) {
+            return false;
+        }
+    }
+    true
+}
+
 /// Over the project's own rings the example has the same answers and memories as over serial ones. The ends of own rings
 /// learn of each other within a round, too, so that a packet may be served in an earlier round.
 #[test]
@@ -149,18 +174,44 @@ fn own_rings_do_the_same(rt: HostRuntime) -> Result<(), Fail> {
     let (journal, settled) = run_over(rt.alloc(), &mut rings, &bundle, 6)?;
     let (serial_journal, serial) = run(rt.alloc(), &bundle, 6)?;
     assert_eq!(rt; journal.entries().len(), serial_journal.entries().len());
-    for host in 0..2 {
-        if !has_five(&settled, host) || !has_five(&serial, host) {
-            return Err("two hosts with five transactions each")?;
-        }
-        assert_eq!(rt; states(&settled, host), states(&serial, host));
-        assert_eq!(rt; bodies(&settled, host), bodies(&serial, host));
-    }
-    if settled.device_count() != 4 || serial.device_count() != 4 {
-        return Err("four devices")?;
-    }
-    for device in 0..4 {
-        assert_eq!(rt; settled.image(device), serial.image(device));
+    assert!(rt; tell_the_same(&settled, &serial));
+    Ok(())
+}
+
+// a run of a bundle on so many threads, over own rings: its journal, and what remains
+fn run_on_threads<R: Threads + Sync>(
+    rt: &R,
+    alloc: Global,
+    bundle: &Bundle,
+    workers: u32,
+) -> Result<(Journal, SettledNet), AllocError>
+    requires workers { 0 < workers }
+{
+    let mut fabric = RingFabric::new(alloc);
+    let mut net = build(alloc, bundle, workers, &mut fabric)?;
+    let mut journal = Journal::new(alloc);
+    journal.reserve(262_144)?;
+    net.run(rt, &FreeGate, &mut journal);
+    let settled = net.settle(&mut fabric);
+    Ok((journal, settled))
+}
+
+/// The example's nine nodes on one thread, on two and on four, and on sixteen, of which seven have no node: however the
+/// threads go, the answers and the memories are those of a run on one thread.
+#[test]
+fn example_runs_on_threads(rt: HostRuntime) -> Result<(), Fail> {
+    let Ok(bundle) = load(rt.alloc(), EXAMPLE.as_bytes()) else {
+        return Err("the example is accepted")?;
+    };
+    let (serial_journal, serial) = run(rt.alloc(), &bundle, 0)?;
+    for workers in [1, 2, 4, 16] {
+        let (journal, settled) = run_on_threads(&rt, rt.alloc(), &bundle, workers)?;
+        assert_eq!(rt;
+            journal.entries().len(),
+            serial_journal.entries().len(),
+            "{workers} workers"
+        );
+        assert!(rt; tell_the_same(&settled, &serial), "{workers} workers");
     }
     Ok(())
 }

@@ -1,23 +1,13 @@
 -- The run is that of the nodes in the one group, which can be taken apart afterwards as before.
-use Rattle.std.proofs.Common.{◌≡◌, ◌+◌, ◌++◌, ℕ, List, length, take, drop, sym, ap, subst, arith}
-use Rattle.sb_packet.specs.Journals.{Ledger}
-use Rattle.sb_packet.specs.Networks.{Network}
+use Rattle.std.proofs.Common.{◌+◌, ◌++◌, length, take, drop, sym, ap, subst, arith}
 use Rattle.sb_member.specs.Groups.{IsDealt, dealt_nodes, grouped_nodes}
-use Rattle.sb_member.specs.declared.joint.Joint.{Joint}
-use Rattle.sb_member.specs.declared.member.Member.{Member}
 use Rattle.sb_member.proofs.Dealt.{taken_whole}
 use Rattle.sb_net.specs.Apart.{CanBeTakenApart}
-use Rattle.sb_net.specs.Nets.{CanRun, NetSide}
-use Rattle.sb_net.specs.Running.{HasRun, IsReady}
+use Rattle.sb_net.specs.Nets.{CanRun}
+use Rattle.sb_net.specs.Running.{HasRun}
+use Rattle.sb_net.proofs.RunsLent.{ready_lent}
 use Rattle.sb_net.proofs.Told.{of_both, still_apart}
 use Rattle.sb_net.proofs.net.Net.replay.Goals as goal
-
--- a net that can run is ready in the parts that it lends to its run
-ready_lent : {F T U : Type 0} {net parts : NetSide F T U} (network : Network) (joints : List Joint) (groups : List (List (Member F T U))) (collected : List ℕ) (journal : Ledger)
-    → net ≡ parts → joints ≡ parts.joints → groups ≡ parts.groups → collected ≡ parts.collected → CanRun network net journal → IsReady network parts.first collected joints (dealt_nodes groups) journal
-ready_lent {parts = parts} network joints groups collected journal same at among kept can =
-    subst (λ list. IsReady network parts.first list joints (dealt_nodes groups) journal) (sym kept)
-    (of_both (λ j g. IsReady network parts.first parts.collected j (dealt_nodes g) journal) parts.joints joints parts.groups groups at among (subst (λ n. CanRun network n journal) same can))
 
 pub run_serial-requires-clause-ready : goal.run_serial-requires-clause-ready
 run_serial-requires-clause-ready g c κs within =
@@ -35,7 +25,7 @@ invariant_of-self g c =
     let one = c.run_serial.ensures.one in
     let can = subst (λ net. CanRun network net c.args.journal.now) (sym c.self.view_is) c.requires.ready.1 in
     let ready = ready_lent network c.deref.result.now (grouped_nodes c.deref_mut.result.now) c.deref_mut-2.result.now c.args.journal.now
-        (sym c.self.view_is) c.deref.ensures.value (ap grouped_nodes c.deref_mut.ensures.value) c.deref_mut-2.ensures.value c.requires.ready.1 in
+    (sym c.self.view_is) c.deref.ensures.value (ap grouped_nodes c.deref_mut.ensures.value) c.deref_mut-2.ensures.value c.requires.ready.1 in
     let run = subst (λ joints. HasRun network c.run_serial.new.journal.entries joints (dealt_nodes (grouped_nodes new))) c.deref.ensures.value (c.run_serial.ensures.run network ready) in
     subst (λ groups. CanBeTakenApart (grouped_nodes groups) inside.joints.items (inside.first_device + inside.collected.len) inside.room)
     (sym (taken_whole new (drop (length new) inside.groups.items) inside.groups.len (omega (arith, inside.groups.ok.0, c.deref_mut.ensures.len, one))))
@@ -47,7 +37,7 @@ returns-clause-run g c = λ network can.
     let new = c.run_serial.new.groups in
     let one = c.run_serial.ensures.one in
     let ready = ready_lent network c.deref.result.now (grouped_nodes c.deref_mut.result.now) c.deref_mut-2.result.now c.args.journal.now
-        (sym c.self.view_is) c.deref.ensures.value (ap grouped_nodes c.deref_mut.ensures.value) c.deref_mut-2.ensures.value can in
+    (sym c.self.view_is) c.deref.ensures.value (ap grouped_nodes c.deref_mut.ensures.value) c.deref_mut-2.ensures.value can in
     of_both (λ joints groups. HasRun network c.run_serial.new.journal.entries joints (dealt_nodes (grouped_nodes groups)))
     c.deref.result.now inside.joints.items new (take inside.groups.len (new ++ drop (length new) inside.groups.items)) (sym c.deref.ensures.value)
     (taken_whole new (drop (length new) inside.groups.items) inside.groups.len (omega (arith, inside.groups.ok.0, c.deref_mut.ensures.len, one)))
