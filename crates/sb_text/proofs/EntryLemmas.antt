@@ -28,7 +28,7 @@ entry_parts b e row there at =
     let p = e.packet in
     let line : List ℕ → List ℕ = λ name. text_line (codes "e" ∷ decimal e.round ∷ name ∷ hex_number 8 (word_of p.cmd) ∷ hex_number 14 p.dst ∷ hex_number 14 p.src ∷ body_text (message_of p).bytes ∷ []) in
     let name : get_or (map (λ (x : NetDevice). x.name) (network_of b).devices) e.device [] ≡ row.name =
-        get_or-map (λ (x : NetDevice). x.name) (network_of b).devices e.device (device_of row) [] (omega (arith, there, length-map b.devices.items device_of)) ∙ ap (λ (x : NetDevice). x.name) (device_there b e.device row (device_of row) there at) in
+    get_or-map (λ (x : NetDevice). x.name) (network_of b).devices e.device (device_of row) [] (omega (arith, there, length-map b.devices.items device_of)) ∙ ap (λ (x : NetDevice). x.name) (device_there b e.device row (device_of row) there at) in
     in_seven (codes "e") (decimal e.round) row.name (hex_number 8 (word_of p.cmd)) (hex_number 14 p.dst) (hex_number 14 p.src) (body_text (message_of p).bytes) ∙ ap line (sym name)
 
 -- the entries that are printed, by the table of the devices

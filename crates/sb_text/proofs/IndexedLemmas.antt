@@ -1,6 +1,6 @@
 -- Lines of a list's items, each with its place.
 use Rattle.std.proofs.Common.{◌≡◌, ◌≤◌, ◌<◌, ℕ, zero, suc, ◌+◌, ◌*◌, List, [], ◌∷◌, ◌++◌, ap, sym, ◌∙◌, refl, arith, append_assoc, add-zero, take, drop, length, get_or, subst}
-use Rattle.std.specs.Prelude.{flat_map, decimal, Option, Result, Ok, Err, IsErr}
+use Rattle.std.specs.Prelude.{flat_map, decimal, Result, Ok, Err, IsErr}
 use Rattle.std.specs.List.{enumerate_from}
 use Rattle.std.proofs.lemmas.List.{append-nil, take_more, take_all, take-append-drop, length-take, drop-drop}
 use Rattle.sb_packet.specs.Outcomes.{Outcome}
@@ -15,7 +15,7 @@ use Rattle.sb_text.proofs.PrintLemmas.{printed_as, printed_before, printed_then,
 abbrev pub indexed : {A : Type 0} → (ℕ → A → List ℕ) → ℕ → List A → List ℕ
 indexed f i xs = flat_map (λ p. f p.0 p.1) (enumerate_from i xs)
 
-pub indexed-append : {A : Type 0} (f : ℕ → A → List ℕ) (i : ℕ) (xs ys : List A) → indexed f i (xs ++ ys) ≡ indexed f i xs ++ indexed f (i + length xs) ys
+indexed-append : {A : Type 0} (f : ℕ → A → List ℕ) (i : ℕ) (xs ys : List A) → indexed f i (xs ++ ys) ≡ indexed f i xs ++ indexed f (i + length xs) ys
 indexed-append f i [] ys = ap (λ (k : ℕ). indexed f k ys) (sym (add-zero i))
 indexed-append f i (x ∷ xs) ys =
     let next : i + 1 + length xs ≡ i + suc (length xs) = omega arith in
@@ -28,14 +28,14 @@ indexed_plain f i [] = refl
 indexed_plain f i (x ∷ xs) = ap (λ (r : List ℕ). f x ++ r) (indexed_plain f (i + 1) xs)
 
 -- one line more
-pub indexed_more : {A : Type 0} (f : ℕ → A → List ℕ) (xs : List A) (i : ℕ) (d : A) → i < length xs → indexed f 0 (take i xs) ++ f i (get_or xs i d) ≡ indexed f 0 (take (i + 1) xs)
+indexed_more : {A : Type 0} (f : ℕ → A → List ℕ) (xs : List A) (i : ℕ) (d : A) → i < length xs → indexed f 0 (take i xs) ++ f i (get_or xs i d) ≡ indexed f 0 (take (i + 1) xs)
 indexed_more f xs i d below =
     let long : 0 + length (take i xs) ≡ i = simp length-take (omega arith) in
     let one : indexed f (0 + length (take i xs)) (get_or xs i d ∷ []) ≡ f i (get_or xs i d) = rw long (append-nil (f i (get_or xs i d))) in
     sym (ap (indexed f 0) (take_more xs i d below) ∙ indexed-append f 0 (take i xs) (get_or xs i d ∷ []) ∙ ap (λ (r : List ℕ). indexed f 0 (take i xs) ++ r) one)
 
 -- the lines up to a place, and the rest
-pub indexed_split : {A : Type 0} (f : ℕ → A → List ℕ) (xs : List A) (i : ℕ) → indexed f 0 (take i xs) ++ indexed f (0 + length (take i xs)) (drop i xs) ≡ indexed f 0 xs
+indexed_split : {A : Type 0} (f : ℕ → A → List ℕ) (xs : List A) (i : ℕ) → indexed f 0 (take i xs) ++ indexed f (0 + length (take i xs)) (drop i xs) ≡ indexed f 0 xs
 indexed_split f xs i = sym (indexed-append f 0 (take i xs) (drop i xs)) ∙ ap (indexed f 0) (take-append-drop i xs)
 
 -- one line is printed more

@@ -13,3 +13,4 @@ pub mod LineLemmas
 pub mod SideLemmas
 pub mod ToldLemmas
 pub mod EntryLemmas
+pub mod SampleNetworks

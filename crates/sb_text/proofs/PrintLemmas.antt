@@ -3,7 +3,7 @@ use Rattle.std.proofs.Common.{◌≡◌, ◌≤◌, List, ℕ, ◌+◌, ◌-◌,
 use Rattle.std.specs.Prelude.{Option, Result, Ok, Err, IsErr, OnErr, OnOk}
 use Rattle.std.proofs.lemmas.List.{append-nil, take-append-drop, take_all, take-append-le, drop-append-le, length-append, length-drop, drop-drop}
 use Rattle.std.proofs.lemmas.Bool.{false≢true}
-use Rattle.std.proofs.Math.Seq.{take-add, take-length, drop-length}
+use Rattle.std.proofs.Math.Seq.{take-add}
 use Rattle.hex.specs.Hex.{encode_lower, encode_with}
 use Rattle.sb_io.specs.Written.{Gains, GainsPart}
 use Rattle.sb_io.specs.Counts.{FaultsIncreased}
@@ -13,20 +13,11 @@ use Rattle.sb_text.proofs.HexLemmas.{encode_lower-more, encode_lower-split}
 use Rattle.sb_io.proofs.GainLemmas.{gains_nothing, gains_more, part_first}
 
 -- all of it waits
-pub splits_nothing : (a : Option (List ℕ)) (s : List ℕ) → Splits a a s s
+splits_nothing : (a : Option (List ℕ)) (s : List ℕ) → Splits a a s s
 splits_nothing a s = record { taken = 0; within = omega arith; written = gains_nothing a; waiting = refl }
 
--- nothing waits
-pub splits_whole : (a b : Option (List ℕ)) (s : List ℕ) → Gains a b s → Splits a b [] s
-splits_whole a b s h = record {
-  taken = length s;
-  within = omega arith;
-  written = rw take-length h;
-  waiting = sym (drop-length s);
-}
-
 -- more waits
-pub splits_push : (a b : Option (List ℕ)) (x s more : List ℕ) → Splits a b x s → Splits a b (x ++ more) (s ++ more)
+splits_push : (a b : Option (List ℕ)) (x s more : List ℕ) → Splits a b x s → Splits a b (x ++ more) (s ++ more)
 splits_push a b x s more h = record {
   taken = h.taken;
   within = rw length-append (omega (arith, h.within));
@@ -39,7 +30,7 @@ taken_more : (s t : List ℕ) (k n : ℕ) → k ≤ length s → take k s ++ tak
 taken_more s t k n h = rw (take-add k n (s ++ t), take-append-le k s t h, drop-append-le k s t h) refl
 
 -- one text after another
-pub splits_then : (a b c : Option (List ℕ)) (x y s t : List ℕ) → Splits a b x s → Splits b c y (x ++ t) → Splits a c y (s ++ t)
+splits_then : (a b c : Option (List ℕ)) (x y s t : List ℕ) → Splits a b x s → Splits b c y (x ++ t) → Splits a c y (s ++ t)
 splits_then a b c x y s t h k =
     let P : List ℕ → Type 0 = λ r. Gains a c r in
     let rest : x ++ t ≡ drop h.taken s ++ t = ap (λ (r : List ℕ). r ++ t) h.waiting in
@@ -55,7 +46,7 @@ splits_then a b c x y s t h k =
     }
 
 -- a part of what comes behind one text is a part of both
-pub part_behind : (a b c : Option (List ℕ)) (x s t : List ℕ) → Splits a b x s → GainsPart b c (x ++ t) → GainsPart a c (s ++ t)
+part_behind : (a b c : Option (List ℕ)) (x s t : List ℕ) → Splits a b x s → GainsPart b c (x ++ t) → GainsPart a c (s ++ t)
 part_behind a b c x s t h k =
     let P : List ℕ → Type 0 = λ r. Gains a c r in
     let wrote : Gains a c (take h.taken s ++ take k.kept (x ++ t)) = gains_more a b c (take h.taken s) (take k.kept (x ++ t)) h.written k.gained in
@@ -121,7 +112,7 @@ part_flush a b c w x s h k =
     subst P (append-nil s) (prints_part a b c w x s [] h (subst Q (sym (append-nil x)) k))
 
 -- where nothing waited and nothing waits, all was written
-pub all_written : (a b : Option (List ℕ)) (w x s : List ℕ) → w ≡ [] → x ≡ [] → Prints a w b x s → Gains a b s
+all_written : (a b : Option (List ℕ)) (w x s : List ℕ) → w ≡ [] → x ≡ [] → Prints a w b x s → Gains a b s
 all_written a b w x s none nothing h =
     let P : List ℕ → Type 0 = λ r. Prints a r b x s in
     let all : Prints a [] b x s = subst P none h in

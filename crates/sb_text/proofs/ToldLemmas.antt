@@ -6,18 +6,22 @@ use Rattle.std.proofs.lemmas.Bool.{and_parts, leb-true}
 use Rattle.std.proofs.Math.ListN.{get_or-map as get_or-map-both}
 use Rattle.std.proofs.lemmas.List.{get_or-map, length-map}
 use Rattle.sb_packet.specs.Networks.{NetDevice, NetHost, Network, device_size}
-use Rattle.sb_packet.specs.Outcomes.{Outcome, RunResults}
+use Rattle.sb_packet.specs.Outcomes.{RunResults}
 use Rattle.sb_flow.specs.Limits.{is_limited, is_limited_device, is_limited_host}
 use Rattle.sb_flow.specs.NetworkOf.{network_of}
 use Rattle.sb_flow.specs.Rows.{device_of, host_of}
 use Rattle.sb_flow.specs.declared.bundle.Bundle.{Bundle}
 use Rattle.sb_flow.specs.declared.host_plan.HostPlan.{HostPlan}
 use Rattle.sb_flow.specs.declared.device_plan.DevicePlan.{DevicePlan}
-use Rattle.sb_flow.proofs.Bundles.{device_there, host_of_network, host_there}
+use Rattle.sb_flow.proofs.Bundles.{device_there, host_of_network}
 use Rattle.sb_text.specs.Told.{FitsNetwork}
 
+-- an item was read at a place, by another name of the place
+pub read_at : {A : Type 0} (xs : List A) (n k : ℕ) (x : A) → x ≡ get_or xs n x → n ≡ k → x ≡ get_or xs k x
+read_at xs n k x at same = at ∙ ap (λ (m : ℕ). get_or xs m x) same
+
 -- as many outcomes as the script of the host at that place has transactions
-pub host_told : (network : Network) (told : RunResults) (h : ℕ) (d : NetHost) → FitsNetwork network told → h < length network.hosts → length (get_or network.hosts h d).script ≡ length (get_or told.outcomes h [])
+host_told : (network : Network) (told : RunResults) (h : ℕ) (d : NetHost) → FitsNetwork network told → h < length network.hosts → length (get_or network.hosts h d).script ≡ length (get_or told.outcomes h [])
 host_told network told h d fits there =
     let counts : List NetHost → List ℕ = map (λ (x : NetHost). length x.script) in
     let many : h < length told.outcomes = omega (arith, length-map told.outcomes length, ap length fits.outcomes, length-map network.hosts (λ (x : NetHost). length x.script)) in
@@ -28,7 +32,7 @@ pub images_told : (network : Network) (told : RunResults) → FitsNetwork networ
 images_told network told fits = omega (arith, length-map told.images length, ap length fits.images, length-map network.devices device_size)
 
 -- as many bytes as the device at that place has
-pub image_told : (network : Network) (told : RunResults) (k : ℕ) (d : NetDevice) → FitsNetwork network told → k < length network.devices → length (get_or told.images k []) ≡ device_size (get_or network.devices k d)
+image_told : (network : Network) (told : RunResults) (k : ℕ) (d : NetDevice) → FitsNetwork network told → k < length network.devices → length (get_or told.images k []) ≡ device_size (get_or network.devices k d)
 image_told network told k d fits there =
     let many : k < length told.images = omega (arith, images_told network told fits) in
     sym (get_or-map length told.images k [] 0 many) ∙ ap (λ (xs : List ℕ). get_or xs k 0) fits.images ∙ get_or-map device_size network.devices k d 0 there
@@ -54,7 +58,7 @@ few_lines b h plan there at =
     leb-true (length plan.script) 65536 last.1
 
 -- no device has more pages than may be
-pub few_pages : (b : Bundle) (k : ℕ) (row : DevicePlan) → k < length b.devices.items → row ≡ get_or b.devices.items k row → row.pages ≤ 256
+few_pages : (b : Bundle) (k : ℕ) (row : DevicePlan) → k < length b.devices.items → row ≡ get_or b.devices.items k row → row.pages ≤ 256
 few_pages b k row there at =
     let limited : is_limited_device (get_or (network_of b).devices k (device_of row)) ≡ true = passes_there is_limited_device (network_of b).devices k (device_of row) (device_limits (network_of b) b.limits) (omega (arith, length-map b.devices.items device_of)) in
     let here : is_limited_device (device_of row) ≡ true = subst (λ (x : NetDevice). is_limited_device x ≡ true) (device_there b k row (device_of row) there at) limited in

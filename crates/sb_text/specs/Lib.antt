@@ -11,3 +11,4 @@ pub mod Printing
 pub mod LineWords
 pub mod ReportParts
 pub mod Telling
+pub mod Samples

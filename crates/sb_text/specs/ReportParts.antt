@@ -8,6 +8,7 @@ use Rattle.sb_packet.specs.Outcomes.{RunResults}
 use Rattle.sb_packet.specs.Sides.{device_side, host_side}
 use Rattle.sb_text.specs.TextLines.{body_text, hex_number}
 use Rattle.sb_text.specs.Reports.{device_lines, entry_line, host_lines, is_printed, state_text}
+use Rattle.sb_text.specs.Told.{told_image, told_outcomes}
 use Rattle.sb_packet.specs.declared.entry.Entry.{Entry}
 use Rattle.sb_packet.specs.declared.packet.Packet.{Packet}
 use Rattle.sb_packet.specs.declared.transaction.TxnState.{TxnState}
@@ -38,11 +39,11 @@ entry_part network shown e = if is_shown shown e then entry_line network e else 
 
 -- the lines of the host at a place, where it is printed
 abbrev pub host_part : Network → RunResults → Option ℕ → ℕ → NetHost → List ℕ
-host_part network told side h host = if is_printed side (host_side network h) then host_lines host (slice_index_or told.outcomes h []) else []
+host_part network told side h host = if is_printed side (host_side network h) then host_lines host (told_outcomes told h) else []
 
 -- those of the device at a place
 abbrev pub device_part : Network → RunResults → Option ℕ → ℕ → NetDevice → List ℕ
-device_part network told side d device = if is_printed side (device_side network d) then device_lines device (slice_index_or told.images d []) else []
+device_part network told side d device = if is_printed side (device_side network d) then device_lines device (told_image told d) else []
 
 -- the lines of all hosts
 abbrev pub hosts_text : Network → RunResults → Option ℕ → List ℕ

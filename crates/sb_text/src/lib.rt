@@ -10,6 +10,8 @@ mod lines;
 mod numerals;
 mod printed;
 mod report;
+#[cfg(test)]
+mod report_tests;
 mod results;
 mod script;
 mod script_fault;

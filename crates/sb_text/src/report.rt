@@ -30,9 +30,8 @@ use line_buffer::LineBuffer;
 use sb_flow::Bundle;
 use sb_io::{Sink, WriteFailed};
 use sb_packet::{Entry, Journal};
-use words::{print_last, print_words};
-
 pub use words::print_line;
+use words::{print_last, print_words};
 
 /// Prints the first line.
 fn print_first<K: Sink>(
@@ -160,12 +159,5 @@ pub fn print<K: Sink, R: Results>(
     ensures cause { result ≡ Printed.Failed → FaultsIncreased (K.faults sink.old) (K.faults sink.new) }
     ensures clean { result ≡ Printed.Done → K.faults sink.new ≡ K.faults sink.old }
 {
-    came_to(write_report(
-        sink,
-        bundle,
-        results,
-        journal.entries(),
-        history,
-        side,
-    ))
+    came_to(write_report(sink, bundle, results, journal.entries(), history, side))
 }

@@ -1,8 +1,8 @@
 //! What a run came to, for those who print it.
 
-ghost use Rattle.std.specs.Prelude.{◌≡◌, ◌<◌, [], length, slice_index_or};
+ghost use Rattle.std.specs.Prelude.{◌≡◌, ◌<◌, length};
 ghost use Rattle.sb_packet.specs.Outcomes.{Outcome, RunResults};
-ghost use Rattle.sb_text.specs.Told.{told_outcome, HasOutcome};
+ghost use Rattle.sb_text.specs.Told.{told_image, told_outcome, HasOutcome};
 
 use sb_packet::TxnState;
 
@@ -29,5 +29,5 @@ pub trait Results {
     fn image(&self, device: u8) -> &[u8]
         requires there { (told : RunResults) × tells self.now told × device < length told.images }
         ensures image { (told : RunResults) → tells self.now told → device < length told.images
-            → slice_index_or told.images device [] ≡ result.now };
+            → told_image told device ≡ result.now };
 }

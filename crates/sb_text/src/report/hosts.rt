@@ -9,6 +9,7 @@ ghost use Rattle.sb_text.specs.TextLines.{body_text};
 ghost use Rattle.sb_text.specs.Reports.{host_lines, outcome_lines};
 ghost use Rattle.sb_text.specs.ReportParts.{host_part, hosts_text, state_front};
 ghost use Rattle.sb_text.specs.Printing.{IsPrinted};
+ghost use Rattle.sb_text.specs.Told.{told_outcomes};
 ghost use Rattle.sb_text.specs.Telling.{Tells};
 
 use crate::line_word::LineWord;
@@ -74,9 +75,9 @@ fn print_outcomes<K: Sink, R: Results>(
     host: u8,
     count: u32,
 ) -> Result<(), WriteFailed>
-    requires told { (told : RunResults) × R.tells results.now told × count ≡ length (slice_index_or told.outcomes host []) }
-    ensures printed { (told : RunResults) → R.tells results.now told → count ≡ length (slice_index_or told.outcomes host [])
-        → IsPrinted K.Sink result sink.old sink.new buffer.old buffer.new (outcome_lines (slice_index_or told.outcomes host [])) }
+    requires told { (told : RunResults) × R.tells results.now told × count ≡ length (told_outcomes told host) }
+    ensures printed { (told : RunResults) → R.tells results.now told → count ≡ length (told_outcomes told host)
+        → IsPrinted K.Sink result sink.old sink.new buffer.old buffer.new (outcome_lines (told_outcomes told host)) }
 {
     for index in 0..count {
         print_outcome(
@@ -99,9 +100,10 @@ fn print_host<K: Sink, R: Results>(
     plan: &HostPlan,
 ) -> Result<(), WriteFailed>
     requires few { length plan.now.script ≤ 65536 }
-    requires told { (told : RunResults) × R.tells results.now told × length plan.now.script ≡ length (slice_index_or told.outcomes host []) }
-    ensures printed { (told : RunResults) → R.tells results.now told → length plan.now.script ≡ length (slice_index_or told.outcomes host [])
-        → IsPrinted K.Sink result sink.old sink.new buffer.old buffer.new (host_lines (host_of plan.now) (slice_index_or told.outcomes host [])) }
+    requires told { (told : RunResults) × R.tells results.now told × length plan.now.script ≡ length (told_outcomes told host) }
+    ensures printed { (told : RunResults) → R.tells results.now told → length plan.now.script ≡ length (told_outcomes told host)
+        → IsPrinted K.Sink result sink.old sink.new buffer.old buffer.new
+        (host_lines (host_of plan.now) (told_outcomes told host)) }
 {
     let count = plan.script.as_slice().len() as u32;
     print_words(

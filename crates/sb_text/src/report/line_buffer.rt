@@ -6,7 +6,6 @@ ghost use Rattle.sb_io.specs.Counts.{FaultsIncreased};
 ghost use Rattle.sb_io.specs.Written.{GainsPart};
 ghost use Rattle.sb_text.specs.Printing.{Prints};
 
-
 use sb_io::{Sink, WriteFailed, write_all};
 use std::marker::Model;
 

@@ -19,11 +19,7 @@ use sb_io::{Sink, WriteFailed};
 const NUMBER_ROOM: usize = 40;
 
 /// Prints a number in decimal digits.
-fn print_number<K: Sink>(
-    sink: &mut K,
-    buffer: &mut LineBuffer,
-    n: u64,
-) -> Result<(), WriteFailed>
+fn print_number<K: Sink>(sink: &mut K, buffer: &mut LineBuffer, n: u64) -> Result<(), WriteFailed>
     ensures printed { IsPrinted K.Sink result sink.old sink.new buffer.old buffer.new (decimal n) }
 {
     make_room(sink, buffer, NUMBER_ROOM)?;

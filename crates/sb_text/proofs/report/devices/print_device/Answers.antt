@@ -13,8 +13,10 @@ pub returns-in_err-print_words : goal.returns-in_err-print_words
 returns-in_err-print_words g c =
     let plan = c.args.plan.now in
     let same : heading c.as_slice.result.now c.from.result ≡ heading plan.name plan.pages = ap (heading c.as_slice.result.now) c.from.ensures ∙ ap (λ (name : List ℕ). heading name plan.pages) c.as_slice.ensures in
-    record { printed = printed_before g.K.Sink c.from_residual.result c.in_err-print_words.field-0.0 _ _ _ _ (heading plan.name plan.pages) (image_lines c.args.bytes.now) c.from_residual.ensures.0
-        (printed_as g.K.Sink (Err c.in_err-print_words.field-0.0) _ _ _ _ _ _ same c.in_err-print_words.ensures.printed) }
+    record {
+      printed = printed_before g.K.Sink c.from_residual.result c.in_err-print_words.field-0.0 _ _ _ _ (heading plan.name plan.pages) (image_lines c.args.bytes.now) c.from_residual.ensures.0
+          (printed_as g.K.Sink (Err c.in_err-print_words.field-0.0) _ _ _ _ _ _ same c.in_err-print_words.ensures.printed);
+    }
 
 pub returns : goal.returns
 returns g c =

@@ -1,7 +1,6 @@
 -- One host more adds its lines; where the sink fails, a first part of all was written.
-use Rattle.std.proofs.Common.{◌≡◌, ◌≤◌, ◌<◌, ◌∙◌, [], ℕ, List, ap, sym, length, arith}
+use Rattle.std.proofs.Common.{◌≤◌, ◌<◌, ap, sym, length, arith}
 use Rattle.std.proofs.lemmas.List.{length-map}
-use Rattle.sb_packet.specs.Networks.{NetHost}
 use Rattle.sb_flow.specs.NetworkOf.{network_of}
 use Rattle.sb_flow.specs.Rows.{host_of}
 use Rattle.sb_flow.proofs.Bundles.{host_of_network, idle_plan}
@@ -14,10 +13,12 @@ returns-in_err-print_host_part g c =
     let b = c.args.bundle.now in
     let i = c.loop-host.host in
     let below : i < length (network_of b).hosts = omega (arith, length-map b.hosts.items host_of) in
-    record { printed = λ told tells.
-        lines_failed (host_part (network_of b) told c.args.side) g.K.Sink tt c.in_err-print_host_part.field-0.0 c.from_residual.result _ _ _ _ _ _ _ (network_of b).hosts i (host_of idle_plan) c.from_residual.ensures.0 below
-        (ap (host_part (network_of b) told c.args.side i) (sym (host_of_network b i idle_plan)))
-        (c.loop-host.invariant told tells) (c.in_err-print_host_part.ensures.printed told idle_plan tells) }
+    record {
+      printed = λ told tells.
+          lines_failed (host_part (network_of b) told c.args.side) g.K.Sink tt c.in_err-print_host_part.field-0.0 c.from_residual.result _ _ _ _ _ _ _ (network_of b).hosts i (host_of idle_plan) c.from_residual.ensures.0 below
+          (ap (host_part (network_of b) told c.args.side i) (sym (host_of_network b i idle_plan)))
+          (c.loop-host.invariant told tells) (c.in_err-print_host_part.ensures.printed told idle_plan tells);
+    }
 
 pub loop-host-preserved : goal.loop-host-preserved
 loop-host-preserved g c = λ told tells.

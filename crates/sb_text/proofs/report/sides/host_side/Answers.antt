@@ -1,6 +1,5 @@
 -- The side is that of the row's link.
 use Rattle.std.proofs.Common.{◌∙◌}
-use Rattle.sb_packet.specs.Networks.{leads_to}
 use Rattle.sb_packet.specs.Sides.{leaves_from, side_at}
 use Rattle.sb_flow.specs.NetworkOf.{network_of}
 use Rattle.sb_flow.specs.Rows.{link_of}

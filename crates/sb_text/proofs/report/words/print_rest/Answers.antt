@@ -4,7 +4,7 @@ use Rattle.sb_text.specs.LineWords.{word_text}
 use Rattle.sb_text.specs.declared.line_word.LineWord.{LineWord}
 use Rattle.sb_text.specs.declared.line_word.LineWord.TheVariants.{Text}
 use Rattle.sb_text.proofs.PrintLemmas.{printed_as, printed_nothing}
-use Rattle.sb_text.proofs.IndexedLemmas.{indexed, indexed_plain, lines_all, lines_failed, lines_more}
+use Rattle.sb_text.proofs.IndexedLemmas.{indexed_plain, lines_all, lines_failed, lines_more}
 use Rattle.sb_text.proofs.report.words.print_rest.Goals as goal
 
 abbrev none : LineWord
@@ -21,8 +21,10 @@ returns-in_err-print_next g c =
     let words = c.args.words.now in
     let i = c.loop-index.index in
     let below : i < length words = omega arith in
-    record { printed = printed_as g.K.Sink c.from_residual.result _ _ _ _ _ _ (indexed_plain (λ (w : LineWord). 32 ∷ word_text w) 0 words)
-        (lines_failed behind g.K.Sink tt c.in_err-print_next.field-0.0 c.from_residual.result _ _ _ _ _ _ _ words i none c.from_residual.ensures.0 below refl c.loop-index.invariant c.in_err-print_next.ensures.printed) }
+    record {
+      printed = printed_as g.K.Sink c.from_residual.result _ _ _ _ _ _ (indexed_plain (λ (w : LineWord). 32 ∷ word_text w) 0 words)
+          (lines_failed behind g.K.Sink tt c.in_err-print_next.field-0.0 c.from_residual.result _ _ _ _ _ _ _ words i none c.from_residual.ensures.0 below refl c.loop-index.invariant c.in_err-print_next.ensures.printed);
+    }
 
 pub loop-index-preserved : goal.loop-index-preserved
 loop-index-preserved g c =
@@ -35,5 +37,7 @@ pub returns : goal.returns
 returns g c =
     let words = c.args.words.now in
     let all : length words ≤ c.loop-index.index = omega arith in
-    record { printed = printed_as g.K.Sink _ _ _ _ _ _ _ (indexed_plain (λ (w : LineWord). 32 ∷ word_text w) 0 words)
-        (lines_all behind g.K.Sink tt tt _ _ _ _ words c.loop-index.index all c.loop-index.invariant) }
+    record {
+      printed = printed_as g.K.Sink _ _ _ _ _ _ _ (indexed_plain (λ (w : LineWord). 32 ∷ word_text w) 0 words)
+          (lines_all behind g.K.Sink tt tt _ _ _ _ words c.loop-index.index all c.loop-index.invariant);
+    }
