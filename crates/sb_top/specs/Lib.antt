@@ -5,4 +5,7 @@ pub mod Collected
 pub mod Rows
 pub mod Steps
 pub mod Refusals
+pub mod Effects
+pub mod BundleRuns
+pub mod Schedules
 pub mod TopCall

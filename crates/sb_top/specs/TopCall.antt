@@ -1,18 +1,11 @@
 -- What the top call did, by the status with which it ended.
-use Rattle.std.specs.Prelude.{ℕ, ◌≡◌, ◌⊎◌, ◌≤◌, ◌<◌, ◌+◌, ◌^◌, Bool, false, List, [], All, length, drop, codes, Option, Some, None, IfSome, option_map, Ok, Err}
-use Rattle.sb_packet.specs.Accesses.{Access}
+use Rattle.std.specs.Prelude.{ℕ, ◌≡◌, ◌⊎◌, ◌≤◌, ◌<◌, ◌+◌, ◌^◌, Bool, false, List, [], length, drop, codes, Option, Some, None, IfSome, option_map, Ok, Err}
 use Rattle.sb_packet.specs.Journals.{IsLawful}
 use Rattle.sb_packet.specs.Networks.{Network}
 use Rattle.sb_packet.specs.declared.entry.Entry.{Entry}
 use Rattle.sb_packet.specs.declared.transaction.Txn.{Txn}
 use Rattle.sb_io.specs.Written.{Gains, GainsPart}
-use Rattle.sb_link.specs.RingPlans.{RingPlan}
-use Rattle.sb_link.specs.declared.fabric.Fabric as fabrics
 use Rattle.sb_flow.specs.Accepted.{IsAccepted}
-use Rattle.sb_flow.specs.Rings.{IsCarried}
-use Rattle.sb_laws.specs.NetworkLayouts.{ring_count}
-use Rattle.sb_net.specs.Legs.{first_plans}
-use Rattle.sb_net.specs.Spent.{network_moves}
 use Rattle.sb_text.specs.Reports.{run_report}
 use Rattle.sb_text.specs.Scripts.{script_of_text}
 use Rattle.sb_text.specs.declared.script_fault.ScriptFault.{ScriptFault}
@@ -21,24 +14,11 @@ use Rattle.sb_fields.specs.declared.fault.LoadFault.{LoadFault}
 use Rattle.sb_words.specs.Commands.{command_in}
 use Rattle.sb_words.specs.declared.command.Command.{Command}
 use Rattle.sb_words.specs.declared.command.Command.TheVariants as commands
+use Rattle.sb_top.specs.BundleRuns.{RanNetwork}
+use Rattle.sb_top.specs.Effects.{Effects, IsUntouched}
 use Rattle.sb_top.specs.Inputs.{IsWholeInput}
 use Rattle.sb_top.specs.Refusals.{load_fault_words, refusal_text, script_fault_words}
 use Rattle.sb_top.specs.Solo.{solo_network, IsSoloJournal}
-
--- what a call leaves beside its text: the journal, the plans of the rings that the fabric made, and the words that each of these carried
-pub record Effects : Type 0 where
-  pub journal : List Entry
-  pub made : List RingPlan
-  pub carried : ℕ → List Access
-
--- what it leaves in a journal and a fabric
-abbrev pub effects_in : {F T U : Type 0} → fabrics.Ghosts F T U → F → List Entry → Effects
-effects_in fabric f journal = record { journal = journal; made = fabric.made f; carried = fabric.carried f }
-
--- nothing was run: the journal is empty, and no ring was made
-pub record IsUntouched (effects : Effects) : Type 0 where
-  pub no_entry : effects.journal ≡ []
-  pub no_ring : effects.made ≡ []
 
 -- A script was run: the input spells it; the journal is one legal history of it, packet by packet; and the text is that journal's report.
 pub record RanScript (input : List ℕ) (journal : List Entry) (text : List ℕ) : Type 0 where
@@ -48,25 +28,19 @@ pub record RanScript (input : List ℕ) (journal : List Entry) (text : List ℕ)
   pub lawful : IsLawful (solo_network script) journal
   pub printed : text ≡ run_report (solo_network script) journal false None
 
--- A network was run. The journal is one legal history of a byte memory per device: it has each word of the scripts that is aimed at a device once, and those of one host at one device in order. Each ring of the network was made by its plan, and carried just the words of its flows. The rounds were no more than the rings' budgets allow. And the text is that journal's report.
-pub record RanNetwork (network : Network) (history : Bool) (effects : Effects) (text : List ℕ) : Type 0 where
-  pub lawful : IsLawful network effects.journal
-  pub rings : effects.made ≡ first_plans network (ring_count network)
-  pub carried : (ring : ℕ) → ring < ring_count network → IsCarried network effects.journal ring (effects.carried ring)
-  pub rounds : All (λ e. e.round < network_moves network) effects.journal
-  pub printed : text ≡ run_report network effects.journal history None
-
--- A bundle was run: the input spells an accepted one, and its network was run.
+-- A bundle was run: the input spells one that is accepted, its network was run, and the text is the report of that run's journal.
 pub record RanBundle (history : Bool) (input : List ℕ) (effects : Effects) (text : List ℕ) : Type 0 where
   pub network : Network
   pub spelled : bundle_of input ≡ Ok network
   pub accepted : IsAccepted network
-  pub ran : RanNetwork network history effects text
+  pub ran : RanNetwork network effects
+  pub printed : text ≡ run_report network effects.journal history None
 
 -- A command was done with an input; without links, no ring is made.
 abbrev pub Ran : Command → List ℕ → Effects → List ℕ → Type 0
 Ran commands.Solo input effects text = RanScript input effects.journal text × (effects.made ≡ [])
 Ran (commands.Replay order history) input effects text = RanBundle history input effects text
+Ran (commands.Run workers history) input effects text = RanBundle history input effects text
 
 -- The input is no script, and the text names its first fault.
 pub record RefusedScript (input text : List ℕ) : Type 0 where
@@ -84,6 +58,7 @@ pub record RefusedBundle (input text : List ℕ) : Type 0 where
 abbrev pub Refused : Command → List ℕ → List ℕ → Type 0
 Refused commands.Solo input text = RefusedScript input text
 Refused (commands.Replay order history) input text = RefusedBundle input text
+Refused (commands.Run workers history) input text = RefusedBundle input text
 
 -- The words ask for a command, the input was read to its end, and the command was done.
 pub record IsRun (words : List (List ℕ)) (before after : Option (List ℕ)) (effects : Effects) (text : List ℕ) : Type 0 where
@@ -142,3 +117,4 @@ IsAnyText words before after effects text =
 abbrev pub IsFaultless : Command → List ℕ → Type 0
 IsFaultless commands.Solo input = (script : List Txn) × script_of_text input ≡ Ok script
 IsFaultless (commands.Replay order history) input = (network : Network) × bundle_of input ≡ Ok network
+IsFaultless (commands.Run workers history) input = (network : Network) × bundle_of input ≡ Ok network

@@ -1,48 +1,63 @@
 //! The run of a bundle.
 
-ghost use Rattle.std.specs.Prelude.{◌≡◌, ◌<◌, ℕ, [], All, IfOk, OnErr, OnOk};
-ghost use Rattle.sb_packet.specs.Journals.{IsLawful};
-ghost use Rattle.sb_packet.specs.Outcomes.{run_results};
+ghost use Rattle.std.specs.Prelude.{◌≡◌, ◌<◌, ℕ, [], List, IfOk, OnErr, length};
+ghost use Rattle.sb_packet.specs.Networks.{Network};
 ghost use Rattle.sb_flow.specs.NetworkOf.{network_of};
-ghost use Rattle.sb_flow.specs.Rings.{IsCarried};
-ghost use Rattle.sb_text.specs.Told.{FitsNetwork};
-ghost use Rattle.sb_laws.specs.NetworkLayouts.{ring_count};
-ghost use Rattle.sb_net.specs.Legs.{first_plans};
-ghost use Rattle.sb_net.specs.Settled.{TellsRun};
-ghost use Rattle.sb_net.specs.Spent.{network_moves};
+ghost use Rattle.sb_net.specs.Nets.{CanRun, RanToTheEnd};
+ghost use Rattle.sb_top.specs.Schedules.{HasWorkers, groups_by};
+ghost use Rattle.sb_top.specs.BundleRuns.{HasRunAs};
+ghost use Rattle.sb_top.specs.Effects.{effects_in};
 
+use crate::schedule::Schedule;
+use sb_drive::Gate;
 use sb_flow::{Bundle, bundle_words};
 use sb_link::MeetFabric;
-use sb_net::{SettledNet, build};
+use sb_net::{Net, SettledNet, build};
 use sb_packet::Journal;
 use std::alloc::{AllocError, Global};
+use std::thread::Threads;
 
-/// Runs a bundle to its end on one thread, over rings of the fabric, and fills the journal. All memory is taken before the
-/// first round.
+/// Runs a network to its end by a schedule, and fills the journal.
+fn run_net<R: Threads + Sync, F: MeetFabric, G: Gate + Sync>(
+    rt: &R,
+    net: &mut Net<F>,
+    schedule: Schedule,
+    gate: &G,
+    journal: &mut Journal,
+)
+    requires groups { length net.old.groups ≡ groups_by schedule }
+    requires ready { (network : Network) × CanRun network net.old journal.old }
+    ensures run { (network : Network) → CanRun network net.old journal.old → RanToTheEnd network net.new journal.new.entries }
+{
+    match schedule {
+        Schedule::InTurn { order } => net.replay(order, journal),
+        Schedule::SideBySide { .. } => net.run(rt, gate, journal),
+    }
+}
+
+/// Runs a bundle to its end over rings of the fabric, by a schedule, and fills the journal. All memory is taken before
+/// the first round, but for what the threads take.
 ///
 /// # Errors
 ///
 /// `AllocError` where there isn't enough memory; then the journal has no entry.
-pub fn replay_bundle<F: MeetFabric>(
+pub fn run_bundle<R: Threads + Sync, F: MeetFabric, G: Gate + Sync>(
+    rt: &R,
     alloc: Global,
     bundle: &Bundle,
-    order: u32,
+    schedule: Schedule,
     fabric: &mut F,
+    gate: &G,
     journal: &mut Journal,
 ) -> Result<SettledNet, AllocError>
+    requires workers { HasWorkers schedule }
     requires empty { journal.old.entries ≡ [] }
     requires unused { F.made fabric.old ≡ [] }
-    ensures lawful { OnOk result (IsLawful (network_of bundle.now) journal.new.entries) }
-    ensures made { OnOk result (F.made fabric.new ≡ first_plans (network_of bundle.now) (ring_count (network_of bundle.now))) }
-    ensures carried { OnOk result ((ring : ℕ) → ring < ring_count (network_of bundle.now)
-        → IsCarried (network_of bundle.now) journal.new.entries ring (F.carried fabric.new ring)) }
-    ensures rounds { OnOk result (All (λ e. e.round < network_moves (network_of bundle.now)) journal.new.entries) }
-    ensures tells { IfOk result (λ settled. TellsRun (network_of bundle.now) journal.new.entries settled) }
-    ensures fits { OnOk result (FitsNetwork (network_of bundle.now) (run_results (network_of bundle.now) journal.new.entries)) }
+    ensures run { IfOk result (HasRunAs (network_of bundle.now) (effects_in F.Fabric fabric.new journal.new.entries)) }
     ensures no_run { OnErr result (journal.new.entries ≡ []) }
 {
-    let mut net = build(alloc, bundle, 1, fabric)?;
+    let mut net = build(alloc, bundle, schedule.groups(), fabric)?;
     journal.reserve(bundle_words(bundle))?;
-    net.replay(order, journal);
+    run_net(rt, &mut net, schedule, gate, journal);
     Ok(net.settle(fabric))
 }

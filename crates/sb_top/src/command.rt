@@ -2,32 +2,39 @@
 
 ghost use Rattle.std.specs.Prelude.{◌≡◌, ◌≢◌, ◌≤◌, ◌⊎◌, ◌^◌, [], List, ℕ, None, Some, length, map, string_bytes};
 ghost use Rattle.sb_io.specs.Counts.{FaultsIncreased};
-ghost use Rattle.sb_words.specs.Commands.{command_in};
+ghost use Rattle.sb_words.specs.Commands.{IsInRange, command_in};
 ghost use Rattle.sb_words.specs.declared.command.Command.{Command as AnyCommand};
-ghost use Rattle.sb_top.specs.TopCall.{IsAnyText, IsFaultless, IsRefusal, IsRun, IsTooLong, IsUntouched, IsUsage, Ran, Refused, Wrote, WrotePart, effects_in};
+ghost use Rattle.sb_top.specs.Effects.{IsUntouched, effects_in};
+ghost use Rattle.sb_top.specs.TopCall.{IsAnyText, IsFaultless, IsRefusal, IsRun, IsTooLong, IsUsage, Ran, Refused, Wrote, WrotePart};
 
+use crate::bundle_command::run_input;
 use crate::input::{ReadFault, read_all};
-use crate::replay_command::replay;
+use crate::schedule::Schedule;
 use crate::solo_command::solo;
 use crate::status::{
     DONE, OUT_OF_MEMORY, READ_FAILED, REFUSED, TOO_LONG, USAGE, WRITE_FAILED, status_of,
 };
+use sb_drive::Gate;
 use sb_io::{Sink, Source};
 use sb_link::MeetFabric;
 use sb_packet::Journal;
 use sb_text::{LineWord, print_line};
 use sb_words::{Command, WordsFault, command_of};
 use std::alloc::Global;
+use std::thread::Threads;
 
 /// Does a command with the input that was read. It gives the status.
-fn perform<K: Sink, F: MeetFabric>(
+fn perform<R: Threads + Sync, K: Sink, F: MeetFabric, G: Gate + Sync>(
+    rt: &R,
     alloc: Global,
     command: Command,
     input: &[u8],
     sink: &mut K,
     fabric: &mut F,
+    gate: &G,
     journal: &mut Journal,
 ) -> u8
+    requires range { IsInRange command }
     requires short { length input.now ≤ 2 ^ 26 }
     requires empty { journal.old.entries ≡ [] }
     requires unused { F.made fabric.old ≡ [] }
@@ -48,20 +55,28 @@ fn perform<K: Sink, F: MeetFabric>(
     match command {
         Command::Solo => solo(alloc, input, sink, journal),
         Command::Replay { order, history } => {
-            replay(alloc, input, order, history, sink, fabric, journal)
+            let schedule = Schedule::InTurn { order };
+            run_input(rt, alloc, input, schedule, history, sink, fabric, gate, journal)
+        }
+        Command::Run { workers, history } => {
+            let schedule = Schedule::SideBySide { workers };
+            run_input(rt, alloc, input, schedule, history, sink, fabric, gate, journal)
         }
     }
 }
 
 /// Reads the source, and does a command with what it had. It gives the status.
-fn carry_out<S: Source, K: Sink, F: MeetFabric>(
+fn carry_out<R: Threads + Sync, S: Source, K: Sink, F: MeetFabric, G: Gate + Sync>(
+    rt: &R,
     alloc: Global,
     command: Command,
     source: &mut S,
     sink: &mut K,
     fabric: &mut F,
+    gate: &G,
     journal: &mut Journal,
 ) -> u8
+    requires range { IsInRange command }
     requires empty { journal.old.entries ≡ [] }
     requires unused { F.made fabric.old ≡ [] }
     ensures done { result ≡ DONE → (words : List (List ℕ)) → command_in words ≡ Some command
@@ -86,7 +101,7 @@ fn carry_out<S: Source, K: Sink, F: MeetFabric>(
         ⊎ (result ≡ OUT_OF_MEMORY) ⊎ (result ≡ TOO_LONG) }
 {
     match read_all(alloc, source) {
-        Ok(input) => perform(alloc, command, input.as_slice(), sink, fabric, journal),
+        Ok(input) => perform(rt, alloc, command, input.as_slice(), sink, fabric, gate, journal),
         Err(ReadFault::Failed) => READ_FAILED,
         Err(ReadFault::TooLong) => {
             let words = [LineWord::Text(b"too"), LineWord::Text(b"long")];
@@ -97,12 +112,14 @@ fn carry_out<S: Source, K: Sink, F: MeetFabric>(
 }
 
 /// Does what the words of the command line ask for, but for the promise that what has no fault is done.
-fn answer<S: Source, K: Sink, F: MeetFabric>(
+fn answer<R: Threads + Sync, S: Source, K: Sink, F: MeetFabric, G: Gate + Sync>(
+    rt: &R,
     alloc: Global,
     words: &[String],
     source: &mut S,
     sink: &mut K,
     fabric: &mut F,
+    gate: &G,
     journal: &mut Journal,
 ) -> u8
     requires empty { journal.old.entries ≡ [] }
@@ -133,7 +150,7 @@ fn answer<S: Source, K: Sink, F: MeetFabric>(
         ⊎ (result ≡ WRITE_FAILED) ⊎ (result ≡ OUT_OF_MEMORY) ⊎ (result ≡ TOO_LONG) }
 {
     match command_of(alloc, words) {
-        Ok(command) => carry_out(alloc, command, source, sink, fabric, journal),
+        Ok(command) => carry_out(rt, alloc, command, source, sink, fabric, gate, journal),
         Err(WordsFault::Usage) => status_of(print_line(sink, &[LineWord::Text(b"usage")]), USAGE),
         Err(WordsFault::Memory) => OUT_OF_MEMORY,
     }
@@ -143,13 +160,16 @@ fn answer<S: Source, K: Sink, F: MeetFabric>(
 /// writes the report, or else a line that says why there is none. The words don't hold the program's name. It gives the
 /// status with which the program ends.
 ///
-/// The rings of a bundle are made by the fabric, which has made none before; the journal is empty.
-pub fn top<S: Source, K: Sink, F: MeetFabric>(
+/// The rings of a bundle are made by the fabric, which has made none before; the journal is empty. Where its nodes run
+/// side by side, each group goes through the gate once in each round.
+pub fn top<R: Threads + Sync, S: Source, K: Sink, F: MeetFabric, G: Gate + Sync>(
+    rt: &R,
     alloc: Global,
     words: &[String],
     source: &mut S,
     sink: &mut K,
     fabric: &mut F,
+    gate: &G,
     journal: &mut Journal,
 ) -> u8
     requires empty { journal.old.entries ≡ [] }
@@ -186,5 +206,5 @@ pub fn top<S: Source, K: Sink, F: MeetFabric>(
         → (FaultsIncreased (K.faults sink.old) (K.faults sink.new) → ⊥)
         → (result ≡ DONE) ⊎ (result ≡ OUT_OF_MEMORY) }
 {
-    answer(alloc, words, source, sink, fabric, journal)
+    answer(rt, alloc, words, source, sink, fabric, gate, journal)
 }

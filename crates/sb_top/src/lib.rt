@@ -1,13 +1,14 @@
 //! The top call of `sb`.
 #![tactic(auto)]
 
+mod bundle_command;
 mod bundle_run;
 mod command;
 mod input;
 mod laws;
 mod outcomes;
 mod refusal;
-mod replay_command;
+mod schedule;
 mod solo;
 mod solo_bundle;
 mod solo_command;
@@ -18,7 +19,9 @@ pub use laws::{
     outcomes_are_many, solo_journals_are_lawful, solo_packets_are_few,
     solo_results_are_the_journals,
 };
+pub use sb_drive::FreeGate;
 pub use sb_io::{ReaderSource, WriterSink};
-pub use sb_link::SerialFabric;
+pub use sb_link::{MeetFabric, SerialFabric};
 pub use sb_packet::Journal;
+pub use sb_ring::RingFabric;
 pub use status::{DONE, OUT_OF_MEMORY, READ_FAILED, REFUSED, TOO_LONG, USAGE, WRITE_FAILED};

@@ -1,7 +1,7 @@
 -- What some words ask for, computed.
 use Rattle.std.proofs.Common.{◌≡◌, refl, codes, Some, None, true, false, [], ◌∷◌}
 use Rattle.clap.proofs.OnLiterals.{clap_on_literals}
-use Rattle.sb_words.specs.declared.command.Command.TheVariants.{Replay, Solo}
+use Rattle.sb_words.specs.declared.command.Command.TheVariants.{Replay, Run, Solo}
 use Rattle.sb_words.specs.Commands.{command_in}
 
 -- ---- what is taken
@@ -92,6 +92,22 @@ blank : command_in (codes "replay" ∷ codes "--order" ∷ codes " 5" ∷ []) �
 unfolding clap_on_literals
 blank = refl
 
+run_with_four : command_in (codes "run" ∷ []) ≡ Some (Run 4 false)
+unfolding clap_on_literals
+run_with_four = refl
+
+run_with_sixteen : command_in (codes "run" ∷ codes "--history" ∷ codes "--workers" ∷ codes "16" ∷ []) ≡ Some (Run 16 true)
+unfolding clap_on_literals
+run_with_sixteen = refl
+
+run_with_seventeen : command_in (codes "run" ∷ codes "--workers" ∷ codes "17" ∷ []) ≡ None
+unfolding clap_on_literals
+run_with_seventeen = refl
+
+run_with_none : command_in (codes "run" ∷ codes "--workers=0" ∷ []) ≡ None
+unfolding clap_on_literals
+run_with_none = refl
+
 -- ---- words that clap refuses
 
 no_words : command_in [] ≡ None
@@ -102,9 +118,13 @@ empty_word : command_in ([] ∷ []) ≡ None
 unfolding clap_on_literals
 empty_word = refl
 
-another_command : command_in (codes "run" ∷ []) ≡ None
+another_command : command_in (codes "walk" ∷ []) ≡ None
 unfolding clap_on_literals
 another_command = refl
+
+run_in_order : command_in (codes "run" ∷ codes "--order" ∷ codes "1" ∷ []) ≡ None
+unfolding clap_on_literals
+run_in_order = refl
 
 part_of_a_name : command_in (codes "rep" ∷ []) ≡ None
 unfolding clap_on_literals

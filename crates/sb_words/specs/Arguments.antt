@@ -30,6 +30,10 @@ number_given name least most default rows = option_map_or (number_between least 
 abbrev pub order_given : List Row → Option ℕ
 order_given rows = number_given (codes "order") 0 4294967295 0 rows
 
+-- `[--workers N]`: 1 to 16, and 4 where it isn't given
+abbrev pub workers_given : List Row → Option ℕ
+workers_given rows = number_given (codes "workers") 1 16 4 rows
+
 -- `[--history]`
 abbrev pub is_history_given : List Row → Bool
 is_history_given rows = is_flag_given (codes "history") rows

@@ -1,9 +1,9 @@
 -- What the words of the command line ask for. They don't hold the program's name. This project's own.
-use Rattle.std.specs.Prelude.{ℕ, ◌==◌, Bool, true, List, [], ◌∷◌, fold, find, length, codes, bytes_eq, Option, Some, None, option_map, option_and_then, if◌then◌else◌}
+use Rattle.std.specs.Prelude.{ℕ, ◌≤◌, ◌==◌, Bool, true, List, [], ◌∷◌, fold, find, length, codes, bytes_eq, Option, Some, None, option_map, option_and_then, if◌then◌else◌}
 use Rattle.clap.specs.Words.{App, Row, Rule, fault_of, new_app, subcommand_of, with_rule, with_subcommand}
-use Rattle.sb_words.specs.Arguments.{flag_rule, is_history_given, option_rule, order_given}
+use Rattle.sb_words.specs.Arguments.{flag_rule, is_history_given, option_rule, order_given, workers_given}
 use Rattle.sb_words.specs.declared.command.Command.{Command}
-use Rattle.sb_words.specs.declared.command.Command.TheVariants.{Replay, Solo}
+use Rattle.sb_words.specs.declared.command.Command.TheVariants.{Replay, Run, Solo}
 
 -- A command: its name, the arguments that may stand behind it, and what it asks for by their matches; None where a number
 -- isn't in its range.
@@ -24,9 +24,17 @@ replay_form = record {
   command = λ rows. option_map (λ order. Replay order (is_history_given rows)) (order_given rows);
 }
 
+-- `run [--workers N] [--history]`
+abbrev pub run_form : CommandForm
+run_form = record {
+  name = codes "run";
+  rules = option_rule (codes "workers") ∷ flag_rule (codes "history") ∷ [];
+  command = λ rows. option_map (λ workers. Run workers (is_history_given rows)) (workers_given rows);
+}
+
 -- all commands
 abbrev pub command_forms : List CommandForm
-command_forms = solo_form ∷ replay_form ∷ []
+command_forms = solo_form ∷ replay_form ∷ run_form ∷ []
 
 -- a command, as clap is told of it
 abbrev pub form_app : CommandForm → App
@@ -63,3 +71,9 @@ named_command found = option_and_then (λ entered. option_and_then (λ form. for
 -- What the words ask for; None where clap refuses them, or a number isn't in its range.
 abbrev pub command_in : List (List ℕ) → Option Command
 command_in words = if clap_takes words then named_command (subcommand_of program_app words) else None
+
+-- The numbers of a command are in their ranges.
+abbrev pub IsInRange : Command → Type 0
+IsInRange Solo = Unit {0}
+IsInRange (Replay order history) = Unit {0}
+IsInRange (Run workers history) = (1 ≤ workers) × (workers ≤ 16)

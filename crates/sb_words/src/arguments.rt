@@ -1,16 +1,19 @@
 //! The arguments behind a command, as they were matched.
 
-ghost use Rattle.std.specs.Prelude.{◌≡◌};
+ghost use Rattle.std.specs.Prelude.{◌≡◌, ◌≤◌, IfSome};
 ghost use Rattle.clap.specs.Words.{found_of, rows_of};
 ghost use Rattle.sb_words.specs.Arguments.{is_flag_given as flag_given_by, is_history_given as history_given_by};
 ghost use Rattle.sb_words.specs.Arguments.{number_between as number_between_by, number_given as number_given_by, order_given as order_given_by};
+ghost use Rattle.sb_words.specs.Arguments.{workers_given as workers_given_by};
 
 use clap::ArgMatches;
 use sb_text::number;
 
 /// The value of one to ten decimal digits, if it is from `least` to `most`.
 fn number_between(word: &str, least: u32, most: u32) -> Option<u32>
-    ensures { result ≡ number_between_by least most word.now }
+    ensures value { result ≡ number_between_by least most word.now }
+    ensures at_least { IfSome result (λ n. least ≤ n) }
+    ensures at_most { IfSome result (λ n. n ≤ most) }
 {
     let value = number(word.as_bytes(), 10, 10)?;
     if value < least as u64 || value > most as u64 {
@@ -29,7 +32,10 @@ fn number_given(
     most: u32,
     default: u32,
 ) -> Option<u32>
-    ensures { result ≡ number_given_by name.now least most default (rows_of (found_of found.now)) }
+    requires within { (least ≤ default) × (default ≤ most) }
+    ensures value { result ≡ number_given_by name.now least most default (rows_of (found_of found.now)) }
+    ensures at_least { IfSome result (λ n. least ≤ n) }
+    ensures at_most { IfSome result (λ n. n ≤ most) }
 {
     match found.get_str(name) {
         None => Some(default),
@@ -53,6 +59,15 @@ pub fn order_given(found: &ArgMatches<'_>) -> Option<u32>
     ensures { result ≡ order_given_by (rows_of (found_of found.now)) }
 {
     number_given(found, "order", 0, u32::MAX, 0)
+}
+
+/// `[--workers N]`: 1 to 16, and 4 where it isn't given; None where N is no such number.
+pub fn workers_given(found: &ArgMatches<'_>) -> Option<u32>
+    ensures workers { result ≡ workers_given_by (rows_of (found_of found.now)) }
+    ensures some { IfSome result (λ workers. 1 ≤ workers) }
+    ensures few { IfSome result (λ workers. workers ≤ 16) }
+{
+    number_given(found, "workers", 1, 16, 4)
 }
 
 /// `[--history]`

@@ -10,4 +10,9 @@ pub enum Command {
     /// `order` is the number of the order in which nodes take turns, 0 to 4,294,967,295; it is 0 where the words
     /// don't give it. `history` says whether the report has the journal.
     Replay { order: u32, history: bool },
+    /// Run a bundle on threads: `run [--workers N] [--history]`.
+    ///
+    /// `workers` is the number of groups that the nodes are dealt to, each of which has a thread: 1 to 16; it is 4 where the
+    /// words don't give it. `history` says whether the report has the journal.
+    Run { workers: u32, history: bool },
 }

@@ -3,7 +3,7 @@
 ghost use Rattle.std.specs.Prelude.{◌≡◌, IfOk, false, codes};
 ghost use Rattle.clap.specs.Words.{app_of, new_app, rule_of};
 ghost use Rattle.sb_words.specs.Arguments.{flag_rule, option_rule};
-ghost use Rattle.sb_words.specs.Commands.{form_app, program_app, replay_form, solo_form, words_alone};
+ghost use Rattle.sb_words.specs.Commands.{form_app, program_app, replay_form, run_form, solo_form, words_alone};
 
 use clap::{Arg, ArgAction, Command};
 use std::alloc::{AllocError, Global};
@@ -40,6 +40,15 @@ fn replay<'a>(alloc: Global) -> Result<Command<'a>, AllocError>
         .arg(flag(alloc, "history"))
 }
 
+/// `run [--workers N] [--history]`
+fn run<'a>(alloc: Global) -> Result<Command<'a>, AllocError>
+    ensures { IfOk result (λ command. app_of command ≡ form_app run_form) }
+{
+    Command::new(alloc, "run")
+        .arg(option(alloc, "workers"))?
+        .arg(flag(alloc, "history"))
+}
+
 /// The program before it has commands.
 fn bare<'a>(alloc: Global) -> Command<'a>
     ensures { app_of result ≡ words_alone (new_app (codes "sb")) }
@@ -58,5 +67,6 @@ pub fn program<'a>(alloc: Global) -> Result<Command<'a>, AllocError>
 {
     bare(alloc)
         .subcommand(solo(alloc))?
-        .subcommand(replay(alloc)?)
+        .subcommand(replay(alloc)?)?
+        .subcommand(run(alloc)?)
 }

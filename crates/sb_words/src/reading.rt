@@ -1,11 +1,11 @@
 //! Words, read.
 
-ghost use Rattle.std.specs.Prelude.{◌≡◌, ◌≢◌, map, string_bytes, true, false, Some, None, IfOk, IfErr};
+ghost use Rattle.std.specs.Prelude.{◌≡◌, ◌≢◌, map, string_bytes, true, false, Some, None, IfOk, IfErr, IfSome};
 ghost use Rattle.clap.specs.Words.{found_of, rows_of, subcommand_of, subcommand_rows_of};
-ghost use Rattle.sb_words.specs.Commands.{command_in, clap_takes, named_command, program_app, replay_form};
+ghost use Rattle.sb_words.specs.Commands.{IsInRange, command_in, clap_takes, named_command, program_app, replay_form, run_form};
 ghost use Rattle.sb_words.specs.declared.words_fault.WordsFault.TheVariants as faults;
 
-use crate::arguments::{is_history_given, order_given};
+use crate::arguments::{is_history_given, order_given, workers_given};
 use crate::command::Command;
 use crate::forms::program;
 use crate::words_fault::WordsFault;
@@ -15,22 +15,36 @@ use std::alloc::Global;
 
 /// What is asked for behind the word `replay`.
 fn replay(found: &ArgMatches<'_>) -> Option<Command>
-    ensures { result ≡ replay_form.command (rows_of (found_of found.now)) }
+    ensures command { result ≡ replay_form.command (rows_of (found_of found.now)) }
+    ensures range { IfSome result IsInRange }
 {
     let order = order_given(found)?;
     let history = is_history_given(found);
     Some(Command::Replay { order, history })
 }
 
+/// What is asked for behind the word `run`.
+fn run(found: &ArgMatches<'_>) -> Option<Command>
+    ensures command { result ≡ run_form.command (rows_of (found_of found.now)) }
+    ensures range { IfSome result IsInRange }
+{
+    let workers = workers_given(found)?;
+    let history = is_history_given(found);
+    Some(Command::Run { workers, history })
+}
+
 /// What the command that was matched asks for; None where a number isn't in its range.
 fn named(found: &ArgMatches<'_>) -> Option<Command>
-    ensures { result ≡ named_command (subcommand_rows_of found.now) }
+    ensures command { result ≡ named_command (subcommand_rows_of found.now) }
+    ensures range { IfSome result IsInRange }
 {
     let (name, inner) = found.subcommand()?;
     if name == "solo" {
         Some(Command::Solo)
     } else if name == "replay" {
         replay(inner)
+    } else if name == "run" {
+        run(inner)
     } else {
         None
     }
@@ -60,6 +74,7 @@ fn matches<'a>(alloc: Global, words: &'a [String]) -> Result<ArgMatches<'a>, Wor
 /// `WordsFault::Memory` where memory was missing.
 pub fn command_of(alloc: Global, words: &[String]) -> Result<Command, WordsFault>
     ensures ok { IfOk result (λ command. command_in (map string_bytes words.now) ≡ Some command) }
+    ensures range { IfOk result IsInRange }
     ensures usage { IfErr result (λ fault. fault ≢ faults.Memory → (command_in (map string_bytes words.now) ≡ None)) }
 {
     let found = matches(alloc, words)?;

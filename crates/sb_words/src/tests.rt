@@ -23,12 +23,25 @@ fn lines_ask(rt: HostRuntime) -> Result<(), Fail> {
         order: 42,
         history: true,
     };
+    let four = Command::Run {
+        workers: 4,
+        history: false,
+    };
+    let sixteen = Command::Run {
+        workers: 16,
+        history: true,
+    };
     let rows = [
         ("solo", Ok(Command::Solo)),
         ("replay", Ok(plain)),
         ("replay --", Ok(plain)),
         ("replay --order 0042 --history", Ok(whole)),
         ("replay --history --order=42", Ok(whole)),
+        ("run", Ok(four)),
+        ("run --workers 16 --history", Ok(sixteen)),
+        ("run --workers 0", Err(WordsFault::Usage)),
+        ("run --workers 17", Err(WordsFault::Usage)),
+        ("run --order 1", Err(WordsFault::Usage)),
         ("", Err(WordsFault::Usage)),
         ("replay --order", Err(WordsFault::Usage)),
         ("replay --order 4294967296", Err(WordsFault::Usage)),

@@ -7,4 +7,5 @@ use Rattle.sb_words.proofs.forms.program.Goals as goal
 pub returns : goal.returns
 returns c =
     let solo = added _ _ _ _ _ c.in_ok-subcommand.ensures c.bare.ensures c.solo.ensures refl in
-    IfOk-weaker c.subcommand-2.result _ _ (λ program last. added _ _ _ _ _ last solo c.in_ok-replay.ensures refl) c.subcommand-2.ensures
+    let replay = added _ _ _ _ _ c.in_ok-subcommand-2.ensures solo c.in_ok-replay.ensures refl in
+    IfOk-weaker c.subcommand-3.result _ _ (λ program last. added _ _ _ _ _ last replay c.in_ok-run.ensures refl) c.subcommand-3.ensures

@@ -1,16 +1,22 @@
-//! The command `replay`.
+//! The commands that run a bundle: `replay` on one thread, and `run` on several.
 
-ghost use Rattle.std.specs.Prelude.{◌≡◌, ◌≢◌, ◌≤◌, ◌^◌, ◌⊎◌, [], length};
+ghost use Rattle.std.specs.Prelude.{◌≡◌, ◌≢◌, ◌≤◌, ◌^◌, ◌⊎◌, [], None, length};
 ghost use Rattle.sb_io.specs.Counts.{FaultsIncreased};
 ghost use Rattle.sb_io.specs.Written.{Gains, GainsPart};
 ghost use Rattle.sb_fields.specs.declared.fault.LoadFault.TheVariants as faults;
 ghost use Rattle.sb_flow.specs.NetworkOf.{network_of};
+ghost use Rattle.sb_text.specs.Reports.{run_report};
+ghost use Rattle.sb_top.specs.BundleRuns.{RanNetwork};
+ghost use Rattle.sb_top.specs.Effects.{IsUntouched, effects_in};
 ghost use Rattle.sb_top.specs.Refusals.{load_fault_words, refusal_text};
-ghost use Rattle.sb_top.specs.TopCall.{IsUntouched, RanBundle, RanNetwork, RefusedBundle, Wrote, WrotePart, effects_in};
+ghost use Rattle.sb_top.specs.Schedules.{HasWorkers};
+ghost use Rattle.sb_top.specs.TopCall.{RanBundle, RefusedBundle, Wrote, WrotePart};
 
-use crate::bundle_run::replay_bundle;
+use crate::bundle_run::run_bundle;
 use crate::refusal::refuse_bundle;
+use crate::schedule::Schedule;
 use crate::status::{DONE, OUT_OF_MEMORY, REFUSED, WRITE_FAILED, status_of};
+use sb_drive::Gate;
 use sb_flow::Bundle;
 use sb_io::Sink;
 use sb_link::MeetFabric;
@@ -18,31 +24,36 @@ use sb_packet::Journal;
 use sb_text::print;
 use sb_topology::{LoadFault, load};
 use std::alloc::{AllocError, Global};
+use std::thread::Threads;
 
 /// Runs a bundle, and prints its report, with its history where that is asked for. It gives the status.
-fn report<K: Sink, F: MeetFabric>(
+fn report<R: Threads + Sync, K: Sink, F: MeetFabric, G: Gate + Sync>(
+    rt: &R,
     alloc: Global,
     bundle: &Bundle,
-    order: u32,
+    schedule: Schedule,
     history: bool,
     sink: &mut K,
     fabric: &mut F,
+    gate: &G,
     journal: &mut Journal,
 ) -> u8
+    requires workers { HasWorkers schedule }
     requires empty { journal.old.entries ≡ [] }
     requires unused { F.made fabric.old ≡ [] }
-    ensures done { result ≡ DONE → Wrote (RanNetwork (network_of bundle.now) history (effects_in F.Fabric fabric.new journal.new.entries))
-        (K.held sink.old) (K.held sink.new) }
-    ensures part { result ≡ WRITE_FAILED
-        → WrotePart (RanNetwork (network_of bundle.now) history (effects_in F.Fabric fabric.new journal.new.entries))
-        (K.held sink.old) (K.held sink.new) }
+    ensures ran { (result ≡ DONE) ⊎ (result ≡ WRITE_FAILED)
+        → RanNetwork (network_of bundle.now) (effects_in F.Fabric fabric.new journal.new.entries) }
+    ensures done { result ≡ DONE →
+        Gains (K.held sink.old) (K.held sink.new) (run_report (network_of bundle.now) journal.new.entries history None) }
+    ensures part { result ≡ WRITE_FAILED →
+        GainsPart (K.held sink.old) (K.held sink.new) (run_report (network_of bundle.now) journal.new.entries history None) }
     ensures silent { result ≡ OUT_OF_MEMORY → K.held sink.new ≡ K.held sink.old }
     ensures no_run { result ≡ OUT_OF_MEMORY → journal.new.entries ≡ [] }
     ensures cause { result ≡ WRITE_FAILED → FaultsIncreased (K.faults sink.old) (K.faults sink.new) }
     ensures clean { result ≢ WRITE_FAILED → K.faults sink.new ≡ K.faults sink.old }
     ensures others { (result ≡ DONE) ⊎ (result ≡ WRITE_FAILED) ⊎ (result ≡ OUT_OF_MEMORY) }
 {
-    match replay_bundle(alloc, bundle, order, fabric, journal) {
+    match run_bundle(rt, alloc, bundle, schedule, fabric, gate, journal) {
         Ok(settled) => status_of(print(sink, bundle, &settled, journal, history, None), DONE),
         Err(AllocError) => OUT_OF_MEMORY,
     }
@@ -66,15 +77,18 @@ fn refuse<K: Sink>(sink: &mut K, fault: &LoadFault) -> u8
 }
 
 /// Runs the bundle that an input spells, and prints its report; or says why the input is refused. It gives the status.
-pub fn replay<K: Sink, F: MeetFabric>(
+pub fn run_input<R: Threads + Sync, K: Sink, F: MeetFabric, G: Gate + Sync>(
+    rt: &R,
     alloc: Global,
     input: &[u8],
-    order: u32,
+    schedule: Schedule,
     history: bool,
     sink: &mut K,
     fabric: &mut F,
+    gate: &G,
     journal: &mut Journal,
 ) -> u8
+    requires workers { HasWorkers schedule }
     requires short { length input.now ≤ 2 ^ 26 }
     requires empty { journal.old.entries ≡ [] }
     requires unused { F.made fabric.old ≡ [] }
@@ -93,7 +107,7 @@ pub fn replay<K: Sink, F: MeetFabric>(
     ensures others { (result ≡ DONE) ⊎ (result ≡ REFUSED) ⊎ (result ≡ WRITE_FAILED) ⊎ (result ≡ OUT_OF_MEMORY) }
 {
     match load(alloc, input) {
-        Ok(bundle) => report(alloc, &bundle, order, history, sink, fabric, journal),
+        Ok(bundle) => report(rt, alloc, &bundle, schedule, history, sink, fabric, gate, journal),
         Err(fault) => refuse(sink, &fault),
     }
 }

@@ -1,0 +1,13 @@
+-- In what order the nodes of a network take their turns.
+use Rattle.std.specs.Prelude.{ℕ, ◌≤◌}
+use Rattle.sb_top.specs.declared.schedule.Schedule.{Schedule}
+use Rattle.sb_top.specs.declared.schedule.Schedule.TheVariants.{InTurn, SideBySide}
+
+-- how many groups the nodes are dealt to
+abbrev pub groups_by : Schedule → ℕ
+groups_by (InTurn order) = 1
+groups_by (SideBySide workers) = workers
+
+-- there is a worker
+abbrev pub HasWorkers : Schedule → Type 0
+HasWorkers schedule = 1 ≤ groups_by schedule
