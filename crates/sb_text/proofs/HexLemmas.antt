@@ -6,6 +6,7 @@ use Rattle.std.proofs.lemmas.List.{take-append-drop}
 use Rattle.hex.specs.Hex.{encode_with, encode_lower, lower_digits}
 use Rattle.sb_text.specs.TextLines.{hex_number}
 
+-- the digits of some bytes, and of those behind them
 encode_with-append : (t xs ys : List ℕ) → encode_with t (xs ++ ys) ≡ encode_with t xs ++ encode_with t ys
 unfolding encode_with
 encode_with-append t [] ys = refl
@@ -24,10 +25,12 @@ abbrev pub last_bytes : ℕ → ℕ → List ℕ
 last_bytes zero n = []
 last_bytes (suc count) n = last_bytes count (n / 256) ++ n % 256 ∷ []
 
+-- two digits for each byte
 abbrev pub twice : ℕ → ℕ
 twice zero = zero
 twice (suc n) = suc (suc (twice n))
 
+-- both digits of the last byte, and the number without it
 high_digit : (n : ℕ) → n % 256 / 16 ≡ n / 16 % 16
 high_digit n = omega arith
 

@@ -12,9 +12,11 @@ use Rattle.sb_text.specs.Printing.{IsPrinted, Prints}
 use Rattle.sb_text.specs.ReportParts.{state_front}
 use Rattle.sb_text.proofs.PrintLemmas.{printed_as, printed_before, printed_then, prints_then}
 
+-- one line after another, each by its item and its place
 abbrev pub indexed : {A : Type 0} → (ℕ → A → List ℕ) → ℕ → List A → List ℕ
 indexed f i xs = flat_map (λ p. f p.0 p.1) (enumerate_from i xs)
 
+-- the lines of some items, and of those behind them
 indexed-append : {A : Type 0} (f : ℕ → A → List ℕ) (i : ℕ) (xs ys : List A) → indexed f i (xs ++ ys) ≡ indexed f i xs ++ indexed f (i + length xs) ys
 indexed-append f i [] ys = ap (λ (k : ℕ). indexed f k ys) (sym (add-zero i))
 indexed-append f i (x ∷ xs) ys =

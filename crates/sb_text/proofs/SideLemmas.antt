@@ -13,6 +13,7 @@ find-map f p (x ∷ xs) = by (p (f x)) (find-map f p xs)
     by true h = refl
     by false h = h
 
+-- what is said of an item that was made from another
 mapped : {A B : Type 0} (f : A → B) (g : B → ℕ) (o : Option A) → option_map_or g (option_map f o) 0 ≡ option_map_or (λ x. g (f x)) o 0
 mapped f g None = refl
 mapped f g (Some x) = refl

@@ -37,6 +37,7 @@ image_told network told k d fits there =
     let many : k < length told.images = omega (arith, images_told network told fits) in
     sym (get_or-map length told.images k [] 0 many) ∙ ap (λ (xs : List ℕ). get_or xs k 0) fits.images ∙ get_or-map device_size network.devices k d 0 there
 
+-- all hosts and devices of a limited network are limited
 host_limits : (network : Network) → is_limited network ≡ true → list_all is_limited_host network.hosts ≡ true
 host_limits network h = grind (arith, h)
 

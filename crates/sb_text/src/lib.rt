@@ -1,4 +1,4 @@
-//! The text of a script: its lines, its words, and the transactions that they say. Its specs/ define the text of a run too.
+//! The texts that are read and written: a script with its lines, words and transactions; and the report of a run.
 #![tactic(auto)]
 
 mod body;
