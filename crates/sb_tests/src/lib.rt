@@ -1,8 +1,16 @@
-//! Tests that cross crates: the top call over sources and sinks in memory, and a small network run to its end. The worked examples are from docs/formats.md, and none is what the program printed.
+//! Tests that cross crates: the top call over sources and sinks in memory, networks run to their end, and that threads
+//! run side by side. The worked examples are from docs/formats.md or worked out by hand, and none is what the program
+//! printed.
 #![tactic(auto)]
 
 #[cfg(test)]
 mod blanks;
+#[cfg(test)]
+mod bundles;
+#[cfg(test)]
+mod calls;
+#[cfg(test)]
+mod example;
 #[cfg(test)]
 mod line;
 #[cfg(test)]
@@ -10,6 +18,10 @@ mod nets;
 #[cfg(test)]
 mod network;
 #[cfg(test)]
+mod rendezvous;
+#[cfg(test)]
 mod sample;
 #[cfg(test)]
 mod solo;
+#[cfg(test)]
+mod watched;

@@ -1,26 +1,23 @@
 //! Runs of `solo`.
 
 use crate::blanks::Blanks;
+use crate::calls::{PIECES, call};
+use sb_drive::FreeGate;
 use sb_io::{ByteSink, ByteSource, CleanSink, CleanSource, Sink, Source};
-use sb_packet::Journal;
-use sb_top::top;
+use sb_link::SerialFabric;
 use std::alloc::{AllocError, Global};
 use std::test::Fail;
-
-/// The longest pieces in which sources give and sinks take.
-const PIECES: [usize; 3] = [1, 7, 4096];
+use std::thread::Threads;
 
 /// What `solo` ended with, and how many packets its memory stepped.
-fn solo<S: Source, K: Sink>(
+fn solo<R: Threads + Sync, S: Source, K: Sink>(
+    rt: &R,
     alloc: Global,
     source: &mut S,
     sink: &mut K,
 ) -> Result<(u8, usize), AllocError> {
-    let mut words = Vec::new(alloc);
-    words.push(String::from_str(alloc, "solo")?)?;
-    let mut journal = Journal::new(alloc);
-    let status = top(alloc, words.as_slice(), source, sink, &mut journal);
-    Ok((status, journal.entries().len()))
+    let mut fabric = SerialFabric::new(alloc);
+    call(rt, alloc, &["solo"], source, sink, &mut fabric, &FreeGate)
 }
 
 #[test]
@@ -81,41 +78,10 @@ fn scripts(rt: HostRuntime) -> Result<(), Fail> {
         for piece in PIECES {
             let mut source = ByteSource::new(rt.alloc(), script.as_bytes(), piece, &[])?;
             let mut sink = ByteSink::new(rt.alloc(), 4096, piece, &[])?;
-            let ended = solo(rt.alloc(), &mut source, &mut sink)?;
+            let ended = solo(&rt, rt.alloc(), &mut source, &mut sink)?;
             assert_eq!(rt; ended, (status, packets), "at {script}");
             assert_eq!(rt; sink.as_slice(), text.as_bytes(), "at {script}");
         }
-    }
-    Ok(())
-}
-
-#[test]
-fn words_that_are_not_taken(rt: HostRuntime) -> Result<(), Fail> {
-    let rows: [&[&str]; 5] = [
-        &[],
-        &["Solo"],
-        &["solo", "solo"],
-        &["--help"],
-        &["replay", "--workers", "2"],
-    ];
-    for row in rows {
-        let mut words = Vec::new(rt.alloc());
-        for word in row {
-            words.push(String::from_str(rt.alloc(), word)?)?;
-        }
-        let mut source = CleanSource::new(rt.alloc(), b"rd 0 0 1", 1)?;
-        let mut sink = ByteSink::new(rt.alloc(), 64, 64, &[])?;
-        let mut journal = Journal::new(rt.alloc());
-        let status = top(
-            rt.alloc(),
-            words.as_slice(),
-            &mut source,
-            &mut sink,
-            &mut journal,
-        );
-        assert_eq!(rt; status, 2);
-        assert_eq!(rt; sink.as_slice(), b"usage\n".as_slice());
-        assert!(rt; journal.entries().is_empty());
     }
     Ok(())
 }
@@ -143,7 +109,7 @@ fn the_longest_scripts(rt: HostRuntime) -> Result<(), Fail> {
         script.extend_from_slice(last.as_bytes())?;
         let mut source = CleanSource::new(rt.alloc(), script.as_slice(), 4096)?;
         let mut sink = ByteSink::new(rt.alloc(), 64, 64, &[])?;
-        assert_eq!(rt; solo(rt.alloc(), &mut source, &mut sink)?, (status, 0));
+        assert_eq!(rt; solo(&rt, rt.alloc(), &mut source, &mut sink)?, (status, 0));
         assert_eq!(rt; sink.as_slice(), text.as_bytes());
     }
     Ok(())
@@ -157,7 +123,7 @@ fn failing_reads(rt: HostRuntime) -> Result<(), Fail> {
         for call in 0..script.len().div_ceil(piece) + 1 {
             let mut source = ByteSource::new(rt.alloc(), script, piece, &[call as u64])?;
             let mut sink = ByteSink::new(rt.alloc(), 4096, 4096, &[])?;
-            assert_eq!(rt; solo(rt.alloc(), &mut source, &mut sink)?, (4, 0));
+            assert_eq!(rt; solo(&rt, rt.alloc(), &mut source, &mut sink)?, (4, 0));
             assert!(rt; sink.as_slice().is_empty());
         }
     }
@@ -172,7 +138,7 @@ fn failing_writes(rt: HostRuntime) -> Result<(), Fail> {
         for call in 0..text.len().div_ceil(piece) {
             let mut source = CleanSource::new(rt.alloc(), b"wr 0 0 09", 4096)?;
             let mut sink = ByteSink::new(rt.alloc(), 4096, piece, &[call as u64])?;
-            assert_eq!(rt; solo(rt.alloc(), &mut source, &mut sink)?, (5, 1));
+            assert_eq!(rt; solo(&rt, rt.alloc(), &mut source, &mut sink)?, (5, 1));
             assert_eq!(rt; sink.as_slice(), &text[..call * piece]);
         }
     }
@@ -183,7 +149,7 @@ fn failing_writes(rt: HostRuntime) -> Result<(), Fail> {
 fn a_full_sink(rt: HostRuntime) -> Result<(), Fail> {
     let mut source = CleanSource::new(rt.alloc(), b"?", 1)?;
     let mut sink = ByteSink::new(rt.alloc(), 9, 4096, &[])?;
-    assert_eq!(rt; solo(rt.alloc(), &mut source, &mut sink)?, (5, 0));
+    assert_eq!(rt; solo(&rt, rt.alloc(), &mut source, &mut sink)?, (5, 0));
     assert_eq!(rt; sink.as_slice(), b"refused l".as_slice());
     Ok(())
 }
@@ -193,10 +159,10 @@ fn the_longest_input(rt: HostRuntime) -> Result<(), Fail> {
     let most = 1 << 26;
     let mut source = Blanks { left: most };
     let mut sink = CleanSink::new(rt.alloc())?;
-    assert_eq!(rt; solo(rt.alloc(), &mut source, &mut sink)?, (0, 0));
+    assert_eq!(rt; solo(&rt, rt.alloc(), &mut source, &mut sink)?, (0, 0));
     let mut source = Blanks { left: most + 1 };
     let mut sink = ByteSink::new(rt.alloc(), 64, 64, &[])?;
-    assert_eq!(rt; solo(rt.alloc(), &mut source, &mut sink)?, (7, 0));
+    assert_eq!(rt; solo(&rt, rt.alloc(), &mut source, &mut sink)?, (7, 0));
     assert_eq!(rt; sink.as_slice(), b"too long\n".as_slice());
     Ok(())
 }

@@ -1,0 +1,215 @@
+//! Runs of `replay` and `run`, from the text of a bundle to the report.
+
+use crate::calls::{PIECES, call};
+use crate::example::{EXAMPLE, EXAMPLE_REPORT};
+use crate::rendezvous::Rendezvous;
+use crate::watched::Watched;
+use sb_drive::FreeGate;
+use sb_io::{ByteSink, ByteSource, CleanSource};
+use sb_link::SerialFabric;
+use sb_ring::RingFabric;
+use std::alloc::Global;
+use std::test::Fail;
+use std::thread::Threads;
+
+// orders in which nodes take turns
+const ORDERS: [&str; 17] = [
+    "0",
+    "1",
+    "2",
+    "3",
+    "4",
+    "5",
+    "6",
+    "7",
+    "8",
+    "9",
+    "10",
+    "11",
+    "12",
+    "13",
+    "14",
+    "15",
+    "4294967295",
+];
+
+// how many packets of the example are served
+const EXAMPLE_PACKETS: usize = 9;
+
+// one host that writes a byte, and its report
+const ONE_WRITE: &str =
+    r#"{"version":1,"hosts":[{"name":"cpu","id":0,"script":["wr 0x10000 0 09"]}],"routers":[{"name":"hub","routes":{"ram":"down"}}],"devices":[{"name":"ram","base":"0x10000","pages":1}],"links":[{"name":"up","from":"cpu","to":"hub","width":32,"capacity":1},{"name":"down","from":"hub","to":"ram","width":32,"capacity":1}]}"#;
+
+const ONE_WRITE_REPORT: &str =
+    "sb 1\nhost cpu 1\nt 0 ok -\ndevice ram 1\nm 00000 0900000000000000000000000000000000000000000000000000000000000000\nend\n";
+
+/// The example's report is the same in whatever order the nodes take turns.
+#[test]
+fn orders(rt: HostRuntime) -> Result<(), Fail> {
+    for order in ORDERS {
+        let words = ["replay", "--order", order];
+        let mut source = CleanSource::new(rt.alloc(), EXAMPLE.as_bytes(), 4096)?;
+        let mut sink = ByteSink::new(rt.alloc(), 4096, 4096, &[])?;
+        let mut fabric = SerialFabric::new(rt.alloc());
+        let ended = call(
+            &rt,
+            rt.alloc(),
+            &words,
+            &mut source,
+            &mut sink,
+            &mut fabric,
+            &FreeGate,
+        )?;
+        assert_eq!(rt; ended, (0, EXAMPLE_PACKETS), "order {order}");
+        assert_eq!(rt; sink.as_slice(), EXAMPLE_REPORT.as_bytes(), "order {order}");
+    }
+    Ok(())
+}
+
+/// It is the same on threads, however many they are; with more workers than nodes some have none.
+#[test]
+fn workers(rt: HostRuntime) -> Result<(), Fail> {
+    let rows: [&[&str]; 5] = [
+        &["run"],
+        &["run", "--workers", "1"],
+        &["run", "--workers", "2"],
+        &["run", "--workers=4"],
+        &["run", "--workers", "016"],
+    ];
+    for words in rows {
+        let mut source = CleanSource::new(rt.alloc(), EXAMPLE.as_bytes(), 4096)?;
+        let mut sink = ByteSink::new(rt.alloc(), 4096, 4096, &[])?;
+        let mut fabric = RingFabric::new(rt.alloc());
+        let ended = call(
+            &rt,
+            rt.alloc(),
+            words,
+            &mut source,
+            &mut sink,
+            &mut fabric,
+            &FreeGate,
+        )?;
+        assert_eq!(rt; ended, (0, EXAMPLE_PACKETS));
+        assert_eq!(rt; sink.as_slice(), EXAMPLE_REPORT.as_bytes());
+    }
+    Ok(())
+}
+
+/// Two groups stand at the gate at once, and two hosts of different groups push at once: only threads can do so.
+#[test]
+fn side_by_side(rt: HostRuntime) -> Result<(), Fail> {
+    let gate = Rendezvous::new();
+    let pushes = Rendezvous::new();
+    let mut source = CleanSource::new(rt.alloc(), EXAMPLE.as_bytes(), 4096)?;
+    let mut sink = ByteSink::new(rt.alloc(), 4096, 4096, &[])?;
+    let mut fabric = Watched {
+        inner: RingFabric::new(rt.alloc()),
+        pushes: &pushes,
+    };
+    let ended = call(
+        &rt,
+        rt.alloc(),
+        &["run", "--workers", "2"],
+        &mut source,
+        &mut sink,
+        &mut fabric,
+        &gate,
+    )?;
+    assert_eq!(rt; ended, (0, EXAMPLE_PACKETS));
+    assert_eq!(rt; sink.as_slice(), EXAMPLE_REPORT.as_bytes());
+    assert!(rt; gate.met());
+    assert!(rt; pushes.met());
+    Ok(())
+}
+
+/// What ends with a line of its own, and runs nothing.
+#[test]
+fn lines_in_place_of_reports(rt: HostRuntime) -> Result<(), Fail> {
+    let rows: [(&[&str], &str, u8, &str); 16] = [
+        (&[], "", 2, "usage\n"),
+        (&["Solo"], "", 2, "usage\n"),
+        (&["solo", "solo"], "", 2, "usage\n"),
+        (&["--help"], "", 2, "usage\n"),
+        (&["replay", "--workers", "2"], EXAMPLE, 2, "usage\n"),
+        (&["replay", "--order", "4294967296"], EXAMPLE, 2, "usage\n"),
+        (&["replay", "--order", "-1"], EXAMPLE, 2, "usage\n"),
+        (&["replay", "--history=yes"], EXAMPLE, 2, "usage\n"),
+        (&["run", "--workers", "0"], EXAMPLE, 2, "usage\n"),
+        (&["run", "--workers", "17"], EXAMPLE, 2, "usage\n"),
+        (&["run", "--workers"], EXAMPLE, 2, "usage\n"),
+        (&["run", "--order", "1"], EXAMPLE, 2, "usage\n"),
+        (&["replay"], "", 3, "refused json\n"),
+        (&["run"], "", 3, "refused json\n"),
+        (&["replay"], "{}", 3, "refused field version\n"),
+        (&["solo"], "rd 0 0", 3, "refused line 1 number\n"),
+    ];
+    for (words, input, status, line) in rows {
+        let mut source = CleanSource::new(rt.alloc(), input.as_bytes(), 4096)?;
+        let mut sink = ByteSink::new(rt.alloc(), 64, 64, &[])?;
+        let mut fabric = RingFabric::new(rt.alloc());
+        let ended = call(
+            &rt,
+            rt.alloc(),
+            words,
+            &mut source,
+            &mut sink,
+            &mut fabric,
+            &FreeGate,
+        )?;
+        assert_eq!(rt; ended, (status, 0), "at {line}");
+        assert_eq!(rt; sink.as_slice(), line.as_bytes());
+    }
+    Ok(())
+}
+
+// what the write ends with, where a call of the source or a call of the sink fails
+fn replay<R: Threads + Sync>(
+    rt: &R,
+    alloc: Global,
+    piece: usize,
+    failing_read: u64,
+    failing_write: u64,
+) -> Result<(u8, usize, ByteSink), Fail> {
+    let piece = piece.max(1);
+    let mut source = ByteSource::new(alloc, ONE_WRITE.as_bytes(), piece, &[failing_read])?;
+    let mut sink = ByteSink::new(alloc, 4096, piece, &[failing_write])?;
+    let mut fabric = SerialFabric::new(alloc);
+    let (status, packets) = call(
+        rt,
+        alloc,
+        &["replay"],
+        &mut source,
+        &mut sink,
+        &mut fabric,
+        &FreeGate,
+    )?;
+    Ok((status, packets, sink))
+}
+
+/// A read that fails ends the call with nothing written and nothing run.
+#[test]
+fn failing_reads(rt: HostRuntime) -> Result<(), Fail> {
+    for piece in PIECES {
+        // a read for each piece, and one that meets the end
+        for read in 0..ONE_WRITE.len().div_ceil(piece) + 1 {
+            let (status, packets, sink) = replay(&rt, rt.alloc(), piece, read as u64, u64::MAX)?;
+            assert_eq!(rt; (status, packets), (4, 0));
+            assert!(rt; sink.as_slice().is_empty());
+        }
+    }
+    Ok(())
+}
+
+/// A write that fails ends the call with a first part of the report written, and the whole run's journal.
+#[test]
+fn failing_writes(rt: HostRuntime) -> Result<(), Fail> {
+    let report = ONE_WRITE_REPORT.as_bytes();
+    for piece in PIECES {
+        for write in 0..report.len().div_ceil(piece) {
+            let (status, packets, sink) = replay(&rt, rt.alloc(), piece, u64::MAX, write as u64)?;
+            assert_eq!(rt; (status, packets), (5, 1));
+            assert_eq!(rt; sink.as_slice(), &report[..write * piece]);
+        }
+    }
+    Ok(())
+}
