@@ -424,6 +424,10 @@ class Bundle:
 
     # looking into one
 
+    def nodes(self) -> list[Node]:
+        """The hosts, then the routers, then the devices."""
+        return [*self.hosts, *self.routers, *self.devices]
+
     def host(self, name: str) -> Host:
         """The host of that name."""
         return self._named(self.hosts, "host", name)
@@ -890,9 +894,16 @@ class Report:
         return self.entries
 
     @staticmethod
-    def read(path: str | os.PathLike[str], bundle: Bundle | None = None) -> Report:
-        """The report of a file; with the bundle, one that can be of this bundle."""
-        return of_file(path, lambda data: Report.parse(data, bundle))
+    def read(path: str | os.PathLike[str], bundle: Bundle | None = None, history: bool = False) -> Report:
+        """The report of a file; with the bundle, one that can be of this bundle; where it is asked for, one with a history."""
+
+        def read(data: bytes) -> Report:
+            report = Report.parse(data, bundle)
+            if history:
+                report.history()
+            return report
+
+        return of_file(path, read)
 
     @staticmethod
     def parse(data: bytes | str, bundle: Bundle | None = None) -> Report:
@@ -997,7 +1008,11 @@ def _is_request(entry: Entry) -> bool:
 def _compare(report: Report, bundle: Bundle) -> None:
     """Raises ReportFault where the report can't be one of the bundle by its names, counts and addresses."""
     devices = {device.name: device for device in bundle.devices}
+    round_ = 0
     for entry in report.entries or []:
+        if entry.round < round_:
+            raise ReportFault(entry.line, f"round {entry.round} comes behind round {round_}")
+        round_ = entry.round
         device, host = devices.get(entry.device), bundle.host_of_id(entry.host_id)
         if device is None or not device.has(entry.address) or entry.address + entry.bytes > device.end:
             raise ReportFault(entry.line, f"the bundle has no device {entry.device} with the address {entry.address:#x}")
