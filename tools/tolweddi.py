@@ -30,7 +30,7 @@ from dataclasses import dataclass, field
 from typing import Any, NoReturn, TypeVar, Union
 
 ROOT = pathlib.Path(__file__).resolve().parent.parent
-LAUNCHER = ROOT / "sb"
+LAUNCHER = str(ROOT / "sb")
 
 PAGE = 4096
 ROW = 32
@@ -915,7 +915,8 @@ class Report:
         return report
 
 
-_HOST, _DEVICE = re.compile(r"host ([a-z][a-z0-9_]{0,15}) (0|[1-9][0-9]{0,9})"), re.compile(r"device ([a-z][a-z0-9_]{0,15}) ([1-9][0-9]{0,2})")
+_HOST = re.compile(r"host ([a-z][a-z0-9_]{0,15}) (0|[1-9][0-9]{0,9})")
+_DEVICE = re.compile(r"device ([a-z][a-z0-9_]{0,15}) ([1-9][0-9]{0,2})")
 _ANSWER = re.compile(r"t (0|[1-9][0-9]{0,9}) (ok|exok|deverr|neterr|posted) (-|(?:[0-9a-f]{2})+)")
 _ENTRY = re.compile(r"e (0|[1-9][0-9]{0,9}) ([a-z][a-z0-9_]{0,15}) ([0-9a-f]{8}) ([0-9a-f]{14}) ([0-9a-f]{14}) (-|(?:[0-9a-f]{2}){1,32})")
 _ROW = re.compile(r"m ([0-9a-f]{5}) ([0-9a-f]{64})")
@@ -1130,7 +1131,11 @@ def _place(kind: str, number: str, names: Bundle | None) -> str:
 # ---------------------------------------------------------------------------------------------------------- memory files
 
 FORMATS = ("binary", "ihex", "readmemh")
-ENDINGS = {".bin": "binary", ".raw": "binary", ".img": "binary", ".ihex": "ihex", ".ihx": "ihex", ".mem": "readmemh", ".vmem": "readmemh", ".memh": "readmemh"}
+ENDINGS = {
+    **dict.fromkeys((".bin", ".raw", ".img"), "binary"),
+    **dict.fromkeys((".ihex", ".ihx"), "ihex"),
+    **dict.fromkeys((".mem", ".vmem", ".memh"), "readmemh"),
+}
 MOST_IMAGE = MOST_PAGES * PAGE
 
 
