@@ -673,14 +673,18 @@ def _no_constant(word: str) -> NoReturn:
     raise ValueError(f"{word} is no JSON")
 
 
+def _odd_number(word: str) -> object:
+    return _no_constant(word) if abs(float(word)) == float("inf") else _OddNumber()
+
+
 def _whole_number(word: str) -> object:
-    return int(word) if len(word) <= 20 and word.isdigit() and int(word) < 1 << 64 else _OddNumber()
+    return int(word) if len(word) <= 20 and word.isdigit() and int(word) < 1 << 64 else _odd_number(word)
 
 
 def _json_value(data: bytes | str) -> object:
     try:
         text = data.decode() if isinstance(data, bytes) else data
-        value: object = json.loads(text, parse_constant=_no_constant, parse_int=_whole_number, parse_float=lambda word: _OddNumber())
+        value: object = json.loads(text, parse_constant=_no_constant, parse_int=_whole_number, parse_float=_odd_number)
         # a half of a surrogate pair can't be written as UTF-8
         json.dumps(value, ensure_ascii=False, default=str).encode()
     except json.JSONDecodeError as fault:
@@ -1084,7 +1088,10 @@ def _ran(bundle: Source, words: list[str], history: bool, program: str | os.Path
 
 def _call(program: str | os.PathLike[str], words: list[str], given: bytes, names: Bundle | None) -> str:
     """The output of the program. What the launcher says while it builds goes to standard error, as ever."""
-    ran = subprocess.run([program, *words], input=given, stdout=subprocess.PIPE)
+    try:
+        ran = subprocess.run([program, *words], input=given, stdout=subprocess.PIPE)
+    except OSError as fault:
+        raise FileFault(f"{os.fspath(program)}: {fault.strerror or fault}") from None
     text = ran.stdout.decode("latin-1")
     if ran.returncode:
         raise _fault_for(ran.returncode, words[0], text, names)
@@ -1256,6 +1263,13 @@ def of_file(path: str | os.PathLike[str], read: Callable[[bytes], Found]) -> Fou
 
 def put(path: str | None, data: bytes) -> None:
     """Writes a file whole or not at all, by a file beside it; or standard output, where there is no path."""
+    try:
+        _put(path, data)
+    except OSError as fault:
+        raise FileFault(f"{path or 'standard output'}: {fault.strerror or fault}") from None
+
+
+def _put(path: str | None, data: bytes) -> None:
     if path is None or os.path.exists(path) and not os.path.isfile(path):
         with open(1 if path is None else path, "wb", buffering=0, closefd=path is not None) as out:
             while data:
@@ -1299,11 +1313,8 @@ def as_tool(work: Callable[[], None]) -> int:
     """Does the work of a tool, and gives its status: a fault is told in one line on standard error, and gives 1."""
     try:
         work()
-    except (Fault, OSError) as fault:
-        told = str(fault)
-        if isinstance(fault, OSError):
-            told = f"{fault.filename or 'standard output'}: {fault.strerror or fault}"
-        print(f"{pathlib.Path(sys.argv[0]).name}: {one_line(told)}", file=sys.stderr)
+    except Fault as fault:
+        print(f"{pathlib.Path(sys.argv[0]).name}: {one_line(str(fault))}", file=sys.stderr)
         return 1
     return 0
 
