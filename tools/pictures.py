@@ -84,6 +84,7 @@ class Picture:
 
 
 def _value(value: object) -> str:
+    """The value of an attribute, as XML."""
     return number(value) if isinstance(value, float) else escape(str(value), {'"': "&quot;"})
 
 
@@ -91,6 +92,7 @@ def style(theme: str) -> str:
     """The colours of all classes; in the theme `auto` those that the reader's system asks for."""
 
     def rules(at: int) -> str:
+        """The rules of all classes for one of the two kinds of pages."""
         return "".join(f".{name}{{{found[at]}}}" for name, found in STYLES.items())
 
     first = rules(theme == "dark") + f".onhost{{{ON_HOST}}}"

@@ -199,10 +199,12 @@ def _is_transaction(line: str) -> bool:
 
 
 def _shown(line: str) -> str:
+    """A line as it is shown in a message."""
     return f"`{line if len(line) < 60 else line[:57] + '...'}`"
 
 
 def _body_of(word: str) -> bytes:
+    """The bytes of a BODY; raises LineFault."""
     if not DIGITS.fullmatch(word):
         raise LineFault("data")
     return bytes.fromhex(word)
@@ -256,6 +258,7 @@ class Host:
         return made
 
     def _place(self, at: int, text: str) -> str:
+        """Where a line of the script is, for a message."""
         return f"host {self.name}, line {at + 1} of the script, {_shown(text)}"
 
     def faults(self) -> Iterator[str]:
@@ -446,6 +449,7 @@ class Bundle:
 
     @staticmethod
     def _named(objects: list[T], kind: str, name: str) -> T:
+        """The object of that name."""
         for found in objects:
             if found.name == name:
                 return found
@@ -497,6 +501,7 @@ class Bundle:
 
 
 def _json(value: object) -> str:
+    """A value as JSON in one line."""
     return json.dumps(value, ensure_ascii=False)
 
 
@@ -506,26 +511,31 @@ def _unless(fields: dict[str, object], *defaults: object) -> dict[str, object]:
 
 
 def _json_list(items: list[str], indent: int) -> str:
+    """A list, each item of which is JSON on a line of its own."""
     blank = " " * indent
     return "[" + ",".join(f"\n{blank}  {item}" for item in items) + (f"\n{blank}]" if items else "]")
 
 
 def _json_of_host(host: Host) -> str:
+    """A host, with each line of its script on its own."""
     fields: dict[str, object] = {"name": host.name, "id": host.id}
     head = _json({**fields, **_unless({"qos": host.qos, "prot": host.prot}, 0)})
     return f'{head[:-1]}, "script": {_json_list([_json(line) for line in host.script], 4)}}}'
 
 
 def _fields_of_router(router: Router) -> dict[str, object]:
+    """The fields of a router, without those that have their default."""
     return _unless({"name": router.name, "side": router.side, "routes": router.routes}, 0)
 
 
 def _json_of_device(device: Device) -> str:
+    """A device, without the fields that have their default."""
     fields: dict[str, object] = {"name": device.name, "base": f"{device.base:#x}", "pages": device.pages}
     return _json({**fields, **_unless({"readonly": device.readonly, "image": device.image.hex()}, False, "")})
 
 
 def _fields_of_link(link: Link) -> dict[str, object]:
+    """The fields of a link."""
     return {"name": link.name, "from": link.source, "to": link.target, "width": link.width, "capacity": link.capacity}
 
 
@@ -533,11 +543,13 @@ def _fields_of_link(link: Link) -> dict[str, object]:
 
 
 def _count(what: str, value: int, least: int, most: int) -> Iterator[str]:
+    """A fault where a number is out of its range."""
     if not least <= value <= most:
         yield f"{what} {value} isn't {least} to {most}"
 
 
 def _test_counts(net: Bundle) -> Iterator[str]:
+    """Numbers and lists out of their range."""
     for kind, number in (("hosts", len(net.hosts)), ("routers", len(net.routers)), ("devices", len(net.devices))):
         yield from _count(f"the number of {kind},", number, 1, MOST_NODES)
     yield from _count("the number of links,", len(net.links), 1, MOST_LINKS)
@@ -556,6 +568,7 @@ def _test_counts(net: Bundle) -> Iterator[str]:
 
 
 def _test_names(net: Bundle) -> Iterator[str]:
+    """Names that are none, that are taken, or that name nothing."""
     nodes = [("host", h.name) for h in net.hosts] + [("router", r.name) for r in net.routers] + [("device", d.name) for d in net.devices]
     names, links = {name for _, name in nodes}, {link.name for link in net.links}
     for group in (nodes, [("link", link.name) for link in net.links]):
@@ -580,6 +593,7 @@ def _test_names(net: Bundle) -> Iterator[str]:
 
 
 def _test_devices(net: Bundle) -> Iterator[str]:
+    """Devices that aren't whole pages, that overlap, or whose image is too long."""
     for at, device in enumerate(net.devices):
         if device.base % PAGE or device.base < 0 or device.end > TOP:
             yield f"device {device.name}: from {device.base:#x} to {device.end:#x} isn't whole pages below 2^56"
@@ -591,6 +605,7 @@ def _test_devices(net: Bundle) -> Iterator[str]:
 
 
 def _test_ids(net: Bundle) -> Iterator[str]:
+    """Hosts with the id of an earlier one."""
     taken: dict[int, str] = {}
     for host in net.hosts:
         if host.id in taken:
@@ -599,6 +614,7 @@ def _test_ids(net: Bundle) -> Iterator[str]:
 
 
 def _test_links(net: Bundle) -> Iterator[str]:
+    """Links that are too wide or join what they can't, and hosts and devices without one."""
     hosts, devices = {host.name for host in net.hosts}, {device.name for device in net.devices}
     left: set[str] = set()
     reached: set[str] = set()
@@ -616,6 +632,7 @@ def _test_links(net: Bundle) -> Iterator[str]:
 
 
 def _test_routers(net: Bundle) -> Iterator[str]:
+    """Links between routers that go back, or to the other side."""
     order = {router.name: at for at, router in enumerate(net.routers)}
     for link in net.links:
         inner = link.source in order and link.target in order
@@ -629,10 +646,12 @@ def _test_routers(net: Bundle) -> Iterator[str]:
 
 
 def _test_scripts(net: Bundle) -> Iterator[str]:
+    """Lines of scripts with a fault."""
     return (fault for host in net.hosts for fault in host.faults())
 
 
 def _test_routes(net: Bundle) -> Iterator[str]:
+    """Routes that lead astray, and those that are missing where a host needs them."""
     devices, links = {device.name for device in net.devices}, {link.name: link for link in net.links}
     for router in net.routers:
         for name, way in router.routes.items():
@@ -652,6 +671,7 @@ def _test_routes(net: Bundle) -> Iterator[str]:
 
 
 def _test_budget(net: Bundle) -> Iterator[str]:
+    """Too many words in all scripts together."""
     words = sum(access.count for host in net.hosts for access in host.accesses())
     if words > MOST_WORDS:
         yield f"the scripts of all hosts have {words} words, more than {MOST_WORDS}"
@@ -670,18 +690,22 @@ class _OddNumber:
 
 
 def _no_constant(word: str) -> NoReturn:
+    """Refuses what Python takes for a number of JSON and JSON doesn't."""
     raise ValueError(f"{word} is no JSON")
 
 
 def _odd_number(word: str) -> object:
+    """Marks a number with a sign, a fraction or an exponent; refuses one that no float can hold."""
     return _no_constant(word) if abs(float(word)) == float("inf") else _OddNumber()
 
 
 def _whole_number(word: str) -> object:
+    """A number of digits alone that is below 2^64; others are odd ones."""
     return int(word) if len(word) <= 20 and word.isdigit() and int(word) < 1 << 64 else _odd_number(word)
 
 
 def _json_value(data: bytes | str) -> object:
+    """The value that the bytes spell as JSON; raises BundleFault where they are none."""
     try:
         text = data.decode() if isinstance(data, bytes) else data
         value: object = json.loads(text, parse_constant=_no_constant, parse_int=_whole_number, parse_float=_odd_number)
@@ -706,6 +730,7 @@ class _Fields:
         self.left, self.path = dict(value), path
 
     def place(self, name: str) -> str:
+        """The path of a field."""
         return f"{self.path}.{name}" if self.path else name
 
     def take(self, name: str, kind: type, default: object = None) -> Any:
@@ -730,6 +755,7 @@ class _Fields:
 
 
 def _texts(items: Iterable[tuple[object, str]]) -> list[str]:
+    """The items of a list, all of which have to be texts."""
     found = []
     for item, path in items:
         if not isinstance(item, str):
@@ -739,6 +765,7 @@ def _texts(items: Iterable[tuple[object, str]]) -> list[str]:
 
 
 def _host_of(value: object, path: str) -> Host:
+    """A host out of its object."""
     take = _Fields(value, path)
     name, id, qos, prot = take.take("name", str), take.take("id", int), take.take("qos", int, 0), take.take("prot", int, 0)
     lines = _texts(take.parts("script"))
@@ -747,6 +774,7 @@ def _host_of(value: object, path: str) -> Host:
 
 
 def _router_of(value: object, path: str) -> Router:
+    """A router out of its object."""
     take = _Fields(value, path)
     router = Router(take.take("name", str), take.take("side", int, 0))
     routes = take.take("routes", dict)
@@ -756,6 +784,7 @@ def _router_of(value: object, path: str) -> Router:
 
 
 def _device_of(value: object, path: str) -> Device:
+    """A device out of its object."""
     take = _Fields(value, path)
     name, base, pages = take.take("name", str), take.take("base", str), take.take("pages", int)
     readonly, image = take.take("readonly", bool, False), take.take("image", str, "")
@@ -770,6 +799,7 @@ def _device_of(value: object, path: str) -> Device:
 
 
 def _link_of(value: object, path: str) -> Link:
+    """A link out of its object."""
     take = _Fields(value, path)
     ends = take.take("name", str), take.take("from", str), take.take("to", str)
     link = Link(*ends, take.take("width", int), take.take("capacity", int))
@@ -778,6 +808,7 @@ def _link_of(value: object, path: str) -> Link:
 
 
 def _bundle_of(value: object) -> Bundle:
+    """A bundle out of its object."""
     take = _Fields(value, "")
     version = take.take("version", int)
     if version != 1:
@@ -927,6 +958,7 @@ _ROW = re.compile(r"m ([0-9a-f]{5}) ([0-9a-f]{64})")
 
 
 def _bytes(word: str) -> bytes:
+    """The bytes of a BODY of a report."""
     return b"" if word == "-" else bytes.fromhex(word)
 
 
@@ -937,6 +969,7 @@ class _Lines:
         self.text, self.lines, self.at = text, text.split("\n"), 0
 
     def fault(self, what: str) -> ReportFault:
+        """What is wrong in the next line."""
         return ReportFault(self.at + 1, what)
 
     def match(self, pattern: re.Pattern[str]) -> re.Match[str] | None:
@@ -946,6 +979,7 @@ class _Lines:
         return found
 
     def report(self) -> Report:
+        """All of a report."""
         first = self.match(re.compile(r"sb 1(?: side ([01]))?"))
         if not first:
             raise self.fault("a report begins with `sb 1`")
@@ -964,11 +998,13 @@ class _Lines:
         return report
 
     def known(self, names: Mapping[str, object], name: str) -> None:
+        """Refuses a name that comes twice."""
         if name in names:
             self.at -= 1
             raise self.fault(f"{name} comes twice")
 
     def entry(self) -> Entry:
+        """The next line, as an entry."""
         found = self.match(_ENTRY)
         if not found:
             raise self.fault("an entry of the history is missing or hasn't the form `e ROUND DEVICE CMD DST SRC BODY`")
@@ -980,6 +1016,7 @@ class _Lines:
         return entry
 
     def answer(self, number: int) -> Answer:
+        """The next line, as the answer to the transaction of this number."""
         found = self.match(_ANSWER)
         if not found or int(found[1]) != number:
             self.at -= found is not None
@@ -987,6 +1024,7 @@ class _Lines:
         return Answer(found[2], _bytes(found[3]))
 
     def image(self, pages: int) -> bytes:
+        """The rows of a device, as all its bytes."""
         if pages > MOST_PAGES:
             self.at -= 1
             raise self.fault(f"a device has at most {MOST_PAGES} pages")
@@ -1031,6 +1069,7 @@ def _compare(report: Report, bundle: Bundle) -> None:
 
 
 def _compare_lists(report: Report, kind: str, due: list[tuple[str, int]], told: list[tuple[str, int]]) -> None:
+    """Raises ReportFault at the first host or device that isn't the bundle's."""
     if due == told:
         return
     at = next((at for at, (a, b) in enumerate(zip(due, told)) if a != b), min(len(due), len(told)))
@@ -1065,6 +1104,7 @@ def check(bundle: Source, report: Report | str, program: str | os.PathLike[str] 
 
 
 def _bytes_of(bundle: Source) -> bytes:
+    """The text of a bundle, or of its file as it is."""
     if isinstance(bundle, Bundle):
         return bundle.text().encode()
     return of_file(bundle, lambda data: data)
@@ -1081,6 +1121,7 @@ def _names_of(bundle: Source) -> Bundle | None:
 
 
 def _ran(bundle: Source, words: list[str], history: bool, program: str | os.PathLike[str]) -> Report:
+    """Runs a bundle by these words, and reads the report."""
     names = _names_of(bundle)
     text = _call(program, words + ["--history"] * history, _bytes_of(bundle), names)
     return Report.parse(text, names)
@@ -1099,6 +1140,7 @@ def _call(program: str | os.PathLike[str], words: list[str], given: bytes, names
 
 
 def _fault_for(status: int, command: str, text: str, names: Bundle | None) -> ProgramFault:
+    """The exception for a status other than 0."""
     line = text.removesuffix("\n")
     said = line.split(" ")
     if status == 2:
@@ -1163,6 +1205,7 @@ def read_image(path: str | os.PathLike[str], form: ImageForm = ImageForm()) -> b
 
 
 def _format_of(path: str | os.PathLike[str], data: bytes, format: str | None) -> str:
+    """The format of a memory file, by its ending where none is named."""
     ending = pathlib.Path(path).suffix.lower()
     if ending == ".hex" and format is None:
         return "ihex" if data.lstrip().startswith(b":") else "readmemh"
@@ -1173,6 +1216,7 @@ def _format_of(path: str | os.PathLike[str], data: bytes, format: str | None) ->
 
 
 def _image_of(data: bytes, format: str, form: ImageForm) -> bytes:
+    """The bytes of a memory file of this format."""
     if format == "binary":
         if len(data) > MOST_IMAGE:
             raise FileFault(f"it has {len(data)} bytes, and a device at most {MOST_IMAGE}")
@@ -1270,6 +1314,7 @@ def put(path: str | None, data: bytes) -> None:
 
 
 def _put(path: str | None, data: bytes) -> None:
+    """Does what put does."""
     if path is None or os.path.exists(path) and not os.path.isfile(path):
         with open(1 if path is None else path, "wb", buffering=0, closefd=path is not None) as out:
             while data:
@@ -1297,6 +1342,7 @@ class Arguments(argparse.ArgumentParser):
         super().__init__(description=about, formatter_class=argparse.RawDescriptionHelpFormatter, allow_abbrev=False)
 
     def error(self, message: str) -> NoReturn:
+        """Ends the program with what is wrong, in one line."""
         self.exit(2, f"{self.prog}: {one_line(message)}; --help says what is taken\n")
 
     def add_output(self) -> None:
