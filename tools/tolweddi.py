@@ -45,6 +45,8 @@ MOST_PAGES = 256
 MOST_PAGES_OF_ALL = 4096
 MOST_CAPACITY = 1024
 MOST_BODY = 32
+# so much of a message is shown
+MOST_TOLD = 1000
 WIDTHS = (8, 16, 32)
 ATOMICS = ("add", "and", "or", "xor", "max", "min", "maxu", "minu", "swap")
 VERBS = ("rd", "wr", "wp", *ATOMICS)
@@ -691,7 +693,7 @@ class _OddNumber:
 
 def _no_constant(word: str) -> NoReturn:
     """Refuses what Python takes for a number of JSON and JSON doesn't."""
-    raise ValueError(f"{word} is no JSON")
+    raise ValueError(f"{word[:20]} can't stand there")
 
 
 def _odd_number(word: str) -> object:
@@ -1351,8 +1353,9 @@ class Arguments(argparse.ArgumentParser):
 
 
 def one_line(text: str) -> str:
-    """A text without ends of lines and other characters that don't print."""
-    return "".join(c if c.isprintable() else c.encode("unicode_escape").decode() for c in text)
+    """A text without ends of lines and other characters that don't print, cut where it is very long."""
+    shown = text if len(text) <= MOST_TOLD else text[:MOST_TOLD] + "..."
+    return "".join(c if c.isprintable() else c.encode("unicode_escape").decode() for c in shown)
 
 
 def as_tool(work: Callable[[], None]) -> int:
