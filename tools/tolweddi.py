@@ -1135,7 +1135,7 @@ def _call(program: str | os.PathLike[str], words: list[str], given: bytes, names
         ran = subprocess.run([program, *words], input=given, stdout=subprocess.PIPE)
     except OSError as fault:
         raise FileFault(f"{os.fspath(program)}: {fault.strerror or fault}") from None
-    text = ran.stdout.decode("latin-1")
+    text = ran.stdout.decode("utf-8", "replace")
     if ran.returncode:
         raise _fault_for(ran.returncode, words[0], text, names)
     return text
