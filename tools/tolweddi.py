@@ -62,6 +62,9 @@ DIGITS = re.compile(r"([0-9a-fA-F]{2})*")
 class Fault(Exception):
     """What is wrong, and where, in one line. All that this module raises on purpose is one of these."""
 
+    def __str__(self) -> str:
+        return one_line(super().__str__())
+
 
 class BundleFault(Fault):
     """A bundle has a fault; the text names the object."""
@@ -1135,7 +1138,7 @@ def _call(program: str | os.PathLike[str], words: list[str], given: bytes, names
         ran = subprocess.run([program, *words], input=given, stdout=subprocess.PIPE)
     except OSError as fault:
         raise FileFault(f"{os.fspath(program)}: {fault.strerror or fault}") from None
-    text = ran.stdout.decode("latin-1")
+    text = ran.stdout.decode("utf-8", "replace")
     if ran.returncode:
         raise _fault_for(ran.returncode, words[0], text, names)
     return text
@@ -1363,7 +1366,7 @@ def as_tool(work: Callable[[], None]) -> int:
     try:
         work()
     except Fault as fault:
-        print(f"{pathlib.Path(sys.argv[0]).name}: {one_line(str(fault))}", file=sys.stderr)
+        print(f"{pathlib.Path(sys.argv[0]).name}: {fault}", file=sys.stderr)
         return 1
     return 0
 
