@@ -1,9 +1,9 @@
 //! Runs of `replay` and `run`, from the text of a bundle to the report.
 
 use crate::calls::{PIECES, call};
-use crate::example::{EXAMPLE, EXAMPLE_REPORT};
+use crate::example::{EXAMPLE, EXAMPLE_REPORT, NARROW_EXAMPLE};
 use crate::rendezvous::Rendezvous;
-use crate::watched::Watched;
+use crate::watched::{Pushes, Watched};
 use sb_drive::FreeGate;
 use sb_io::{ByteSink, ByteSource, CleanSource};
 use sb_link::SerialFabric;
@@ -33,35 +33,52 @@ const ORDERS: [&str; 17] = [
     "4294967295",
 ];
 
-// how many packets of the example are served
+// how many packets of the example are served, where none is cut
 const EXAMPLE_PACKETS: usize = 9;
+
+// how many words these have: no more packets are served where they are cut
+const EXAMPLE_WORDS: usize = 18;
 
 // one host that writes a byte, and its report
 const ONE_WRITE: &str =
     r#"{"version":1,"hosts":[{"name":"cpu","id":0,"script":["wr 0x10000 0 09"]}],"routers":[{"name":"hub","routes":{"ram":"down"}}],"devices":[{"name":"ram","base":"0x10000","pages":1}],"links":[{"name":"up","from":"cpu","to":"hub","width":32,"capacity":1},{"name":"down","from":"hub","to":"ram","width":32,"capacity":1}]}"#;
 
+// a host at a narrow link, and a memory at a wide one
+const WIDENING: &str =
+    r#"{"version":1,"hosts":[{"name":"cpu","id":0,"script":["wr 0x10000 3 000102030405060708090a0b0c0d0e0f101112131415161718191a1b1c1d1e1f","rd 0x10000 3 4"]}],"routers":[{"name":"hub","routes":{"ram":"down"}}],"devices":[{"name":"ram","base":"0x10000","pages":1}],"links":[{"name":"up","from":"cpu","to":"hub","width":8,"capacity":8},{"name":"down","from":"hub","to":"ram","width":32,"capacity":8}]}"#;
+
+const WIDENING_REPORT: &str =
+    "sb 1\nhost cpu 2\nt 0 ok -\nt 1 ok 000102030405060708090a0b0c0d0e0f101112131415161718191a1b1c1d1e1f\ndevice ram 1\nm 00000 000102030405060708090a0b0c0d0e0f101112131415161718191a1b1c1d1e1f\nend\n";
+
 const ONE_WRITE_REPORT: &str =
     "sb 1\nhost cpu 1\nt 0 ok -\ndevice ram 1\nm 00000 0900000000000000000000000000000000000000000000000000000000000000\nend\n";
 
-/// The example's report is the same in whatever order the nodes take turns.
+// whether the example came to its report, by as many packets as it may have
+fn is_example(ended: (u8, usize), most: usize, text: &[u8]) -> bool {
+    let (status, packets) = ended;
+    status == 0 && packets >= EXAMPLE_PACKETS && packets <= most && text == EXAMPLE_REPORT.as_bytes()
+}
+
+/// The example's report is the same in whatever order the nodes take turns, and however wide its links are.
 #[test]
 fn orders(rt: HostRuntime) -> Result<(), Fail> {
-    for order in ORDERS {
-        let words = ["replay", "--order", order];
-        let mut source = CleanSource::new(rt.alloc(), EXAMPLE.as_bytes(), 4096)?;
-        let mut sink = ByteSink::new(rt.alloc(), 4096, 4096, &[])?;
-        let mut fabric = SerialFabric::new(rt.alloc());
-        let ended = call(
-            &rt,
-            rt.alloc(),
-            &words,
-            &mut source,
-            &mut sink,
-            &mut fabric,
-            &FreeGate,
-        )?;
-        assert_eq!(rt; ended, (0, EXAMPLE_PACKETS), "order {order}");
-        assert_eq!(rt; sink.as_slice(), EXAMPLE_REPORT.as_bytes(), "order {order}");
+    for (bundle, most) in [(EXAMPLE, EXAMPLE_PACKETS), (NARROW_EXAMPLE, EXAMPLE_WORDS)] {
+        for order in ORDERS {
+            let words = ["replay", "--order", order];
+            let mut source = CleanSource::new(rt.alloc(), bundle.as_bytes(), 4096)?;
+            let mut sink = ByteSink::new(rt.alloc(), 4096, 4096, &[])?;
+            let mut fabric = SerialFabric::new(rt.alloc());
+            let ended = call(
+                &rt,
+                rt.alloc(),
+                &words,
+                &mut source,
+                &mut sink,
+                &mut fabric,
+                &FreeGate,
+            )?;
+            assert!(rt; is_example(ended, most, sink.as_slice()), "order {order}");
+        }
     }
     Ok(())
 }
@@ -76,22 +93,51 @@ fn workers(rt: HostRuntime) -> Result<(), Fail> {
         &["run", "--workers=4"],
         &["run", "--workers", "016"],
     ];
-    for words in rows {
-        let mut source = CleanSource::new(rt.alloc(), EXAMPLE.as_bytes(), 4096)?;
-        let mut sink = ByteSink::new(rt.alloc(), 4096, 4096, &[])?;
-        let mut fabric = RingFabric::new(rt.alloc());
-        let ended = call(
-            &rt,
-            rt.alloc(),
-            words,
-            &mut source,
-            &mut sink,
-            &mut fabric,
-            &FreeGate,
-        )?;
-        assert_eq!(rt; ended, (0, EXAMPLE_PACKETS));
-        assert_eq!(rt; sink.as_slice(), EXAMPLE_REPORT.as_bytes());
+    for (bundle, most) in [(EXAMPLE, EXAMPLE_PACKETS), (NARROW_EXAMPLE, EXAMPLE_WORDS)] {
+        for words in rows {
+            let mut source = CleanSource::new(rt.alloc(), bundle.as_bytes(), 4096)?;
+            let mut sink = ByteSink::new(rt.alloc(), 4096, 4096, &[])?;
+            let mut fabric = RingFabric::new(rt.alloc());
+            let ended = call(
+                &rt,
+                rt.alloc(),
+                words,
+                &mut source,
+                &mut sink,
+                &mut fabric,
+                &FreeGate,
+            )?;
+            assert!(rt; is_example(ended, most, sink.as_slice()));
+        }
     }
+    Ok(())
+}
+
+/// One host writes 32 bytes over a link of 8 bytes to a router, which sends them on over a link of 32: it joins the four
+/// packets that come to fewer. The memory is read back over the same links.
+#[test]
+fn joined_on_a_wide_link(rt: HostRuntime) -> Result<(), Fail> {
+    let pushes = Pushes::new();
+    let mut source = CleanSource::new(rt.alloc(), WIDENING.as_bytes(), 4096)?;
+    let mut sink = ByteSink::new(rt.alloc(), 4096, 4096, &[])?;
+    let mut fabric = Watched {
+        inner: SerialFabric::new(rt.alloc()),
+        watch: &pushes,
+    };
+    let ended = call(
+        &rt,
+        rt.alloc(),
+        &["replay"],
+        &mut source,
+        &mut sink,
+        &mut fabric,
+        &FreeGate,
+    )?;
+    assert_eq!(rt; ended.0, 0);
+    assert_eq!(rt; sink.as_slice(), WIDENING_REPORT.as_bytes());
+    // four parts of the write, and the read, which asks for 32 bytes in four parts too
+    assert_eq!(rt; pushes.count(0), 8);
+    assert!(rt; pushes.count(2) < 8);
     Ok(())
 }
 
@@ -104,7 +150,7 @@ fn side_by_side(rt: HostRuntime) -> Result<(), Fail> {
     let mut sink = ByteSink::new(rt.alloc(), 4096, 4096, &[])?;
     let mut fabric = Watched {
         inner: RingFabric::new(rt.alloc()),
-        pushes: &pushes,
+        watch: &pushes,
     };
     let ended = call(
         &rt,

@@ -1,18 +1,78 @@
-//! A fabric that passes every call on to another one, and lets the first pushes on two of its rings see each other.
+//! A fabric that passes every call on to another one, and tells of its pushes.
 
 use crate::rendezvous::Rendezvous;
 use sb_link::{Fabric, LinkPlan, MeetFabric, Pop, Push, RxEnd, TxEnd};
 use sb_packet::Item;
 use std::alloc::{AllocError, Global};
+use std::sync::atomic::{AtomicU32, Ordering};
 
-/// A sending end that waits before its first push where its ring is number 0 or 2.
-#[derive(Drop)]
-pub struct WatchedTx<'a, T: TxEnd> {
-    inner: T,
-    pushes: &'a Rendezvous,
+/// What is told of the pushes on rings.
+pub trait Watch: Sync {
+    /// An item is about to be pushed on the ring of that number.
+    fn before(&self, ring: u16);
+
+    /// It was pushed, and the ring had room.
+    fn sent(&self, ring: u16, item: &Item);
 }
 
-impl<'a, T: TxEnd> TxEnd for WatchedTx<'a, T> {
+/// The first pushes on rings 0 and 2 see each other.
+impl Watch for Rendezvous {
+    fn before(&self, ring: u16) {
+        match ring {
+            0 => self.wait(0),
+            2 => self.wait(1),
+            _ => {}
+        }
+    }
+
+    fn sent(&self, _ring: u16, _item: &Item) {}
+}
+
+/// Counts the packets that are sent over the first four rings.
+#[derive(Drop)]
+pub struct Pushes {
+    counts: [AtomicU32; 4],
+}
+
+impl Pushes {
+    pub fn new() -> Pushes {
+        Pushes {
+            counts: [
+                AtomicU32::new(0),
+                AtomicU32::new(0),
+                AtomicU32::new(0),
+                AtomicU32::new(0),
+            ],
+        }
+    }
+
+    /// How many packets were sent over a ring; 0 for one that isn't counted.
+    pub fn count(&self, ring: u16) -> u32 {
+        match self.counts.get(usize::from(ring)) {
+            Some(count) => count.load(Ordering::SeqCst),
+            None => 0,
+        }
+    }
+}
+
+impl Watch for Pushes {
+    fn before(&self, _ring: u16) {}
+
+    fn sent(&self, ring: u16, item: &Item) {
+        if let (Item::Packet(_), Some(count)) = (item, self.counts.get(usize::from(ring))) {
+            count.fetch_add(1, Ordering::SeqCst);
+        }
+    }
+}
+
+/// A sending end that is watched.
+#[derive(Drop)]
+pub struct WatchedTx<'a, T: TxEnd, W: Watch> {
+    inner: T,
+    watch: &'a W,
+}
+
+impl<'a, T: TxEnd, W: Watch> TxEnd for WatchedTx<'a, T, W> {
     ghost planned = { λ end. T.planned end.inner };
 
     ghost sent = { λ end. T.sent end.inner };
@@ -26,12 +86,13 @@ impl<'a, T: TxEnd> TxEnd for WatchedTx<'a, T> {
     }
 
     fn try_push(&mut self, item: &Item) -> Push {
-        match self.inner.plan().ring {
-            0 => self.pushes.wait(0),
-            2 => self.pushes.wait(1),
-            _ => {}
+        let ring = self.inner.plan().ring;
+        self.watch.before(ring);
+        let answer = self.inner.try_push(item);
+        if let Push::Done = answer {
+            self.watch.sent(ring, item);
         }
-        self.inner.try_push(item)
+        answer
     }
 
     fn flush(&mut self) {
@@ -67,15 +128,15 @@ impl<U: RxEnd> RxEnd for WatchedRx<U> {
     ghost in_turn = { λ end. U.in_turn end.inner };
 }
 
-/// The fabric, with the place at which the first pushes on rings 0 and 2 meet.
+/// The fabric, with what is told of its pushes.
 #[derive(Drop)]
-pub struct Watched<'a, F: Fabric + Drop> {
+pub struct Watched<'a, F: Fabric + Drop, W: Watch> {
     pub inner: F,
-    pub pushes: &'a Rendezvous,
+    pub watch: &'a W,
 }
 
-impl<'a, F: Fabric + Drop> Fabric for Watched<'a, F> {
-    type Tx = WatchedTx<'a, F::Tx>;
+impl<'a, F: Fabric + Drop, W: Watch> Fabric for Watched<'a, F, W> {
+    type Tx = WatchedTx<'a, F::Tx, W>;
 
     type Rx = WatchedRx<F::Rx>;
 
@@ -91,28 +152,28 @@ impl<'a, F: Fabric + Drop> Fabric for Watched<'a, F> {
         &mut self,
         alloc: Global,
         plan: &LinkPlan,
-    ) -> Result<(WatchedTx<'a, F::Tx>, WatchedRx<F::Rx>), AllocError> {
+    ) -> Result<(WatchedTx<'a, F::Tx, W>, WatchedRx<F::Rx>), AllocError> {
         let (tx, rx) = self.inner.make(alloc, plan)?;
-        let pushes = self.pushes;
-        Ok((WatchedTx { inner: tx, pushes }, WatchedRx { inner: rx }))
+        let watch = self.watch;
+        Ok((WatchedTx { inner: tx, watch }, WatchedRx { inner: rx }))
     }
 
-    fn hand(tx: &mut WatchedTx<'a, F::Tx>, rx: &mut WatchedRx<F::Rx>) {
+    fn hand(tx: &mut WatchedTx<'a, F::Tx, W>, rx: &mut WatchedRx<F::Rx>) {
         F::hand(&mut tx.inner, &mut rx.inner);
     }
 
-    fn settle(&mut self, tx: WatchedTx<'a, F::Tx>, rx: WatchedRx<F::Rx>) {
+    fn settle(&mut self, tx: WatchedTx<'a, F::Tx, W>, rx: WatchedRx<F::Rx>) {
         let WatchedTx {
             inner: tx,
-            pushes: _,
+            watch: _,
         } = tx;
         let WatchedRx { inner: rx } = rx;
         self.inner.settle(tx, rx);
     }
 }
 
-impl<'a, F: MeetFabric + Drop> MeetFabric for Watched<'a, F> {
-    fn meet(tx: &mut WatchedTx<'a, F::Tx>, rx: &mut WatchedRx<F::Rx>) {
+impl<'a, F: MeetFabric + Drop, W: Watch> MeetFabric for Watched<'a, F, W> {
+    fn meet(tx: &mut WatchedTx<'a, F::Tx, W>, rx: &mut WatchedRx<F::Rx>) {
         F::meet(&mut tx.inner, &mut rx.inner);
     }
 }
