@@ -8,9 +8,9 @@ use crate::node::Node;
 use sb_link::Turn;
 use std::thread;
 
-// after so many sweeps in a row that moved nothing a group yields the processor before each further one: another thread
-// may need it, but a yield can take the time of a thousand sweeps
-const SWEEPS_BEFORE_YIELDS: u32 = 100;
+// after so many sweeps in a row that moved nothing a group yields the processor before each further one: another group
+// may need it
+const SWEEPS_BEFORE_YIELDS: u32 = 2;
 
 /// Turns each node once, in order, and says whether one of them moved. Their answers stand in `last` then.
 pub(crate) fn sweep<N: Node>(group: &mut Group<N>, number: u32) -> bool

@@ -25,7 +25,7 @@ pub struct Pace {
 /// The pace of a run, which was found by measurement.
 pub const USUAL_PACE: Pace = Pace {
     sweeps: 1_000_000,
-    patience: 1_000,
+    patience: 100,
 };
 
 // turns the nodes of all groups in a long round, each group on a thread of its own, and says whether one moved
