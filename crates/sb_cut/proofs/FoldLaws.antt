@@ -1,6 +1,6 @@
 -- What a merger keeps of the messages that it takes: their words, and what stays true where two are merged.
 use Rattle.std.proofs.Common.{◌≡◌, ℕ, suc, List, [], ◌∷◌, ◌++◌, refl, ap, sym, ◌∙◌, arith, true, false, append_assoc}
-use Rattle.std.specs.Prelude.{flat_map, Some, None, Option, All, if◌then◌else◌}
+use Rattle.std.specs.Prelude.{flat_map, Some, None, Option, is_some, All, if◌then◌else◌}
 use Rattle.std.proofs.lemmas.List.{append-nil}
 use Rattle.std.proofs.lemmas.List.Elements.{All-cons, All-append, All-nil, All-head, All-tail}
 use Rattle.std.proofs.lemmas.Grind.{flat_map-append}
@@ -76,3 +76,17 @@ fold_keeps_words width held (m ∷ rest) whole all =
 -- Two messages that can be merged are held as one.
 pub held_as_one : (width : ℕ) (a b : Message) → is_mergeable width a b ≡ true → fold_all width None (a ∷ b ∷ []) ≡ record { out = []; held = Some (merge a b) }
 held_as_one width a b h = rw h refl
+
+-- A merger holds something once it took a message.
+pub still_held : (width : ℕ) (a : Message) (list : List Message) → is_some (fold_all width (Some a) list).held ≡ true
+still_held width a [] = refl
+still_held width a (m ∷ rest) =
+    elim (is_mergeable width a m) as (λ can. is_some (fold_all width (let f : Folded = if can then record { out = []; held = Some (merge a m) } else record { out = a ∷ []; held = Some m } in f).held rest).held ≡ true) [
+      | true ↦ still_held width (merge a m) rest
+      | false ↦ still_held width m rest
+    ]
+
+pub some_held : (width : ℕ) (held : Option Message) (list : List Message) → (list ≡ [] → ⊥) → is_some (fold_all width held list).held ≡ true
+some_held width held [] some = absurd (some refl)
+some_held width None (m ∷ rest) some = still_held width m rest
+some_held width (Some a) (m ∷ rest) some = still_held width a (m ∷ rest)
