@@ -5,3 +5,5 @@ pub mod Sums
 pub mod MergedWords
 pub mod MergedSound
 pub mod FoldLaws
+pub mod CutExamples
+pub mod MergeExamples

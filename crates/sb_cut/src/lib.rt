@@ -5,6 +5,8 @@ mod cutter;
 pub mod laws;
 mod merger;
 mod shapes;
+#[cfg(test)]
+mod tests;
 
 pub use cutter::Cutter;
 pub use merger::{Merged, Merger};
