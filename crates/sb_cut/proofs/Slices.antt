@@ -1,5 +1,5 @@
 -- Places of words in a packet, and of bytes in its body.
-use Rattle.std.proofs.Common.{◌≡◌, ◌≤◌, ◌<◌, ℕ, zero, suc, ◌+◌, ◌-◌, ◌*◌, ◌/◌, ◌^◌, ◌%◌, refl, List, [], ◌∷◌, ◌++◌, length, take, drop, replicate, arith, ap, sym, ◌∙◌, inl, inr}
+use Rattle.std.proofs.Common.{◌≡◌, ◌≤◌, ◌<◌, ℕ, zero, suc, ◌+◌, ◌-◌, ◌*◌, ◌/◌, ◌^◌, ◌%◌, refl, List, [], ◌∷◌, ◌++◌, length, take, drop, replicate, arith, ap, ◌∙◌, inl, inr}
 use Rattle.std.proofs.lemmas.List.{drop-take, take-take, drop-replicate}
 use Rattle.std.proofs.Math.Nat.{mul-le-mul_right, add-mul-mod_self_right}
 use Rattle.std.proofs.Math.Seq.{take-append_seam}

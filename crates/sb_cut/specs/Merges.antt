@@ -1,5 +1,5 @@
 -- Which two messages can be merged into one, and what they are then. This project's own.
-use Rattle.std.specs.Prelude.{ℕ, ◌≡◌, ◌≤◌, ◌+◌, Bool, true, false, not, ◌&&◌, ◌==◌, nat_le, ◌++◌}
+use Rattle.std.specs.Prelude.{ℕ, ◌≡◌, ◌≤◌, ◌+◌, Bool, false, not, ◌&&◌, ◌==◌, nat_le, ◌++◌}
 use Rattle.sb_word.specs.Words.{opcode_of}
 use Rattle.sb_packet.specs.Messages.{Message, message_span}
 use Rattle.sb_packet.specs.Cuts.{is_atomic, is_indivisible}

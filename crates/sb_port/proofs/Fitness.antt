@@ -1,7 +1,7 @@
 -- What keeps a port fit.
 use Rattle.std.proofs.Common.{◌≡◌, ◌≤◌, ℕ, ◌+◌, List, [], ◌∷◌, ◌++◌, refl, ap, sym, ◌∙◌, arith, length, drop, false, true, append_assoc, subst}
 use Rattle.std.specs.Prelude.{flat_map, ◌≢◌, All}
-use Rattle.std.proofs.lemmas.List.{length-append, append-nil}
+use Rattle.std.proofs.lemmas.List.{length-append}
 use Rattle.std.proofs.lemmas.List.Elements.{All-push, All-head, All-tail, All-append, All-nil}
 use Rattle.std.proofs.lemmas.List.FromFn.{length-map-range_with_len}
 use Rattle.std.proofs.lemmas.Grind.{flat_map-append}
@@ -30,7 +30,7 @@ use Rattle.sb_port.proofs.Planned.{IsAtHome, merge_planned, part_at_home}
 use Rattle.sb_link.proofs.InTurn.{appended_in_turn, nothing_in_turn}
 use Rattle.sb_cut.specs.Folds.{listed}
 use Rattle.sb_port.specs.Waiting.{IsWidth, Waiting, nothing_waits, offered, released}
-use Rattle.sb_port.specs.Ports.{PortState, IsFit, IsSendable, port_messages, port_accesses}
+use Rattle.sb_port.specs.Ports.{PortState, IsFit, IsSendable, port_accesses}
 use Rattle.sb_port.specs.Turns.{SendsFirst, SendsClose}
 use Rattle.sb_port.proofs.Items.{has_close-packet, has_close-close, item_messages-packet, item_messages-close, item_accesses-messages}
 use Rattle.sb_port.proofs.PortWords.{sends_accesses, closes_accesses, released_accesses}

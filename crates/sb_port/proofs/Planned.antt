@@ -1,6 +1,6 @@
 -- What a ring is made for it is made for in parts, and two messages that can be merged it is made for as one.
-use Rattle.std.proofs.Common.{◌≡◌, ◌≤◌, ◌<◌, ℕ, zero, suc, ◌+◌, ◌*◌, ◌/◌, ◌%◌, ◌^◌, List, [], ◌∷◌, length, get_or, refl, ap, sym, ◌∙◌, arith, Bool, true, false, Some, None, cond}
-use Rattle.std.specs.Prelude.{◌==◌, ◌||◌, ◌&&◌, ◌≢◌, nat_le, not, Option, All, if◌then◌else◌, slice_index_or}
+use Rattle.std.proofs.Common.{◌≡◌, ◌≤◌, ◌<◌, ℕ, suc, ◌+◌, ◌*◌, ◌/◌, ◌%◌, ◌^◌, List, [], ◌∷◌, length, get_or, refl, arith, Bool, true, false, Some, None, cond}
+use Rattle.std.specs.Prelude.{◌==◌, ◌||◌, ◌≢◌, nat_le, Option, if◌then◌else◌, slice_index_or}
 use Rattle.std.specs.List.{position_from}
 use Rattle.std.specs.Option.{option_map, option_map_or}
 use Rattle.std.proofs.lemmas.Bool.{and_parts, leb-true}
@@ -10,7 +10,7 @@ use Rattle.sb_packet.specs.Messages.{Message, message_span}
 use Rattle.sb_packet.specs.Cuts.{part_of}
 use Rattle.sb_packet.specs.Journals.{is_request}
 use Rattle.sb_packet.specs.Soundness.{device_place, reply_place, IsSound}
-use Rattle.sb_link.specs.RingPlans.{AddressRange, AreApart, NetFlow, RingFlows, RingPlan, device_ranges, goes_home, goes_through, holds_span, is_allowed, message_flow}
+use Rattle.sb_link.specs.RingPlans.{AddressRange, AreApart, RingFlows, RingPlan, device_ranges, goes_home, goes_through, holds_span, is_allowed}
 use Rattle.sb_link.specs.Plans.{AreWholePages}
 use Rattle.sb_link.specs.Traffic.{IsPlanned}
 use Rattle.sb_link.proofs.Ranges.{only_range}

@@ -1,8 +1,7 @@
 -- The width of a plan is one to which packets are cut.
 use Rattle.std.proofs.Common.{◌≡◌, ℕ, Bool, true, false, inl, inr, refl}
-use Rattle.std.specs.Prelude.{◌==◌, ◌||◌, ◌⊎◌, IsTrue}
+use Rattle.std.specs.Prelude.{◌==◌, ◌||◌}
 use Rattle.std.proofs.lemmas.Bool.{eqb-true}
-use Rattle.sb_link.specs.Plans.{IsRingWidth}
 use Rattle.sb_link.specs.declared.plan.LinkPlan.{LinkPlan}
 use Rattle.sb_port.specs.Waiting.{IsWidth}
 

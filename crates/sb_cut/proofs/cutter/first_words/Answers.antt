@@ -1,5 +1,4 @@
 -- first_words: a word fits the width.
-use Rattle.std.proofs.Common.{◌≡◌, ◌/◌, ◌^◌}
 use Rattle.sb_cut.proofs.Slices.{at_least_8, word_fits}
 use Rattle.sb_cut.proofs.cutter.first_words.Goals as goal
 

@@ -1,5 +1,5 @@
 -- extended: behind what a packet carries stand zeros, and so they do behind the bytes that are put there.
-use Rattle.std.proofs.Common.{◌≡◌, ◌+◌, ◌-◌, ◌++◌, ℕ, List, ap, ◌∙◌, arith, refl, take, drop, length}
+use Rattle.std.proofs.Common.{◌≡◌, ◌+◌, ◌-◌, arith, refl, length}
 use Rattle.sb_packet.specs.Spans.{carried_of}
 use Rattle.sb_cut.proofs.Slices.{zeros_behind}
 use Rattle.sb_cut.proofs.shapes.extended.Goals as goal

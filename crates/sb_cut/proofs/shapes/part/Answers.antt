@@ -1,8 +1,7 @@
 -- part: some words of a packet begin at a multiple of the word, and end where the packet ends at most.
-use Rattle.std.proofs.Common.{◌≡◌, ◌≤◌, ◌+◌, ◌*◌, ◌^◌, ◌-◌, ℕ, List, ap, sym, ◌∙◌, arith, take, drop, replicate, length}
-use Rattle.sb_packet.specs.Messages.{Message, message_of}
-use Rattle.sb_packet.specs.Spans.{carried_by, word_count_of}
-use Rattle.sb_cut.proofs.Slices.{words_within, raised_aligned, front_of, behind}
+use Rattle.std.proofs.Common.{◌≤◌, ◌+◌, ◌*◌, ◌^◌, arith}
+use Rattle.sb_packet.specs.Spans.{word_count_of}
+use Rattle.sb_cut.proofs.Slices.{words_within, raised_aligned}
 use Rattle.sb_cut.proofs.shapes.part.Goals as goal
 
 -- the bytes of the words lie within the packet's
@@ -10,7 +9,7 @@ within : (c : goal.After-words_span) → c.args.from * 2 ^ c.args.packet.now.cmd
 within c = words_within c.args.from c.args.count (word_count_of c.args.packet.now.cmd) (2 ^ c.args.packet.now.cmd.size) c.requires.inside
 
 pub share-bytes-requires : goal.share-bytes-requires
-share-bytes-requires c = record { inside = rw (c.words_span-start.ensures, c.words_span.ensures) (within c) }
+share-bytes-requires c = let start = c.words_span-start.ensures in let count = c.words_span.ensures in record { inside = omega (arith, start, count, within c) }
 
 pub reshaped-requires-clause-dst_aligned : goal.reshaped-requires-clause-dst_aligned
 reshaped-requires-clause-dst_aligned c =

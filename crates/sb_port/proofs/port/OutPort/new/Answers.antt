@@ -1,8 +1,7 @@
 -- new: over an end at which nothing was sent the port is fit: its plan is one that its type allows.
-use Rattle.std.proofs.Common.{◌≡◌, ◌≤◌, ap, subst, ◌∙◌}
+use Rattle.std.proofs.Common.{◌≤◌, ap, subst, ◌∙◌}
 use Rattle.sb_link.specs.RingPlans.{AreApart, RingPlan, device_ranges}
 use Rattle.sb_link.specs.Plans.{AreWholePages}
-use Rattle.sb_link.specs.PlanOf.{plan_of}
 use Rattle.sb_port.specs.Waiting.{IsWidth, nothing_waits}
 use Rattle.sb_port.proofs.Fitness.{fit_fresh}
 use Rattle.sb_port.proofs.Widths.{ring_width}
