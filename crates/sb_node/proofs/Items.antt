@@ -2,9 +2,8 @@
 use Rattle.std.proofs.Common.{◌≡◌, List, [], ◌∷◌, ◌++◌, ap, ◌∙◌, append-nil}
 use Rattle.std.proofs.lemmas.Grind.{flat_map-append}
 use Rattle.sb_packet.specs.Accesses.{Access, accesses_of_item}
-use Rattle.sb_link.specs.Traffic.{item_accesses, has_close}
+use Rattle.sb_link.specs.Traffic.{item_accesses}
 use Rattle.sb_packet.specs.declared.item.Item.{Item}
-use Rattle.sb_packet.specs.declared.item.Item.TheVariants as items
 
 -- the words of items and of one more
 pub item_more : (list : List Item) (item : Item) → item_accesses (list ++ item ∷ []) ≡ item_accesses list ++ accesses_of_item item

@@ -1,5 +1,5 @@
 -- When a turn serves a port.
-use Rattle.std.proofs.Common.{◌≡◌, ℕ, ◌≤◌, ◌+◌, Bool, true, List, [], ◌∷◌, ◌++◌, length, sym, ap, ◌∙◌, subst, inl, inr, arith}
+use Rattle.std.proofs.Common.{◌≡◌, ◌+◌, Bool, List, [], ◌∷◌, ◌++◌, length, sym, ap, ◌∙◌, subst, inl, inr, arith}
 use Rattle.std.proofs.lemmas.Bool.{eq-eqb}
 use Rattle.std.proofs.lemmas.List.{length-append}
 use Rattle.sb_link.specs.RingPlans.{RingPlan}
@@ -8,7 +8,6 @@ use Rattle.sb_packet.specs.declared.item.Item.TheVariants as items
 use Rattle.sb_port.specs.Ports.{PortSide, PortState}
 use Rattle.sb_port.specs.Turns.{Turned}
 use Rattle.sb_port.specs.declared.port_turn.PortTurn.TheVariants as turns
-use Rattle.sb_node.specs.Sides.{is_full}
 use Rattle.sb_node.specs.Steps.{IsPortServed}
 
 -- it counts from what was sent before the turn, where a port sends nothing until the last step of the turn
