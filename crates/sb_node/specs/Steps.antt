@@ -79,12 +79,12 @@ abbrev pub IsRingPopped : RingSide → RingSide → Option Item → Findings →
 IsRingPopped before after (Some item) found found_then = IsItemPopped before after item found found_then
 IsRingPopped before after None found found_then = IsRingEmpty before after found found_then
 
--- a packet passed, and a port was offered it, which it owes now
+-- a packet passed, and a port was offered it: it has something left to send now, which it owes, or holds for merging
 pub record IsOffered (before after : PortSide) (packet : Packet) : Type 0 where
   pub passes : MayPass before.plan (length (offered_words before)) (message_of packet)
   pub words : offered_words after ≡ offered_words before ++ accesses_of packet
   pub sent : after.state.sent ≡ before.state.sent
-  pub owing : owes after.state ≡ true
+  pub rest : has_rest after ≡ true
 
 -- a packet didn't pass, and was dropped
 pub record IsDropped (before after : PortSide) (packet : Packet) : Type 0 where

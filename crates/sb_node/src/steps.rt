@@ -53,7 +53,7 @@ pub fn pop_ring<U: RxEnd>(ring: &mut U, found: &mut Findings) -> Option<Item>
 }
 
 /// Offers a packet to a port that is ready, where it passes, and drops it elsewhere. Takes no memory.
-#[tactic(auto, using(crate::proofs::Offered::owes_offered))]
+#[tactic(auto, using(crate::proofs::Offered::rest_offered))]
 pub fn hand_on<T: TxEnd>(port: &mut OutPort<T>, packet: &Packet)
     requires fit { IsFit port.old.plan port.old.state }
     requires ready { owes port.old.state ≡ false }

@@ -7,16 +7,29 @@ use Rattle.std.proofs.lemmas.List.FromFn.{length-map-range_with_len}
 use Rattle.std.proofs.lemmas.Grind.{flat_map-append}
 use Rattle.sb_packet.specs.Accesses.{Access, accesses_of, access_at, message_accesses}
 use Rattle.sb_packet.specs.Messages.{Message, message_of}
-use Rattle.sb_link.specs.RingPlans.{RingPlan}
-use Rattle.sb_packet.specs.Soundness.{IsSound}
+use Rattle.sb_link.specs.RingPlans.{AreApart, RingPlan, device_ranges}
+use Rattle.sb_link.specs.Plans.{AreWholePages}
+use Rattle.sb_packet.specs.Cuts.{cut_parts, is_one_part}
+use Rattle.sb_packet.specs.Soundness.{IsFine, IsSound, IsWhole}
 use Rattle.sb_packet.specs.Spans.{word_count_of}
 use Rattle.sb_link.specs.Traffic.{IsCarriable, MayFollow, MayPass, has_close, item_accesses, item_messages}
 use Rattle.sb_packet.specs.declared.packet.Packet.{Packet}
 use Rattle.sb_packet.specs.declared.item.Item.{Item}
 use Rattle.sb_packet.specs.declared.item.Item.TheVariants as items
-use Rattle.sb_packet.proofs.FineParts.{packet_whole}
+use Rattle.sb_packet.proofs.CutSteps.{cut_of_one}
+use Rattle.sb_packet.proofs.CutWords.{words_of_cut}
+use Rattle.sb_packet.proofs.FineParts.{fine_cut, packet_whole}
+use Rattle.sb_cut.specs.Folds.{fold_all}
+use Rattle.sb_cut.specs.Works.{FitsIfIndivisible}
+use Rattle.sb_cut.proofs.Slices.{at_least_8, word_fits}
+use Rattle.sb_cut.proofs.Mergeable.{mergeable_says}
+use Rattle.sb_cut.proofs.Parts.{all_parts}
+use Rattle.sb_cut.proofs.MergedSound.{fine_merge}
+use Rattle.sb_cut.proofs.FoldLaws.{HoldsOfAll, StaysOfMerges, all_hold, fold_keeps_words}
+use Rattle.sb_port.proofs.Planned.{IsAtHome, merge_planned, part_at_home}
 use Rattle.sb_link.proofs.InTurn.{appended_in_turn, nothing_in_turn}
-use Rattle.sb_port.specs.Waiting.{IsWidth, Waiting, listed, nothing_waits, offered, released}
+use Rattle.sb_cut.specs.Folds.{listed}
+use Rattle.sb_port.specs.Waiting.{IsWidth, Waiting, nothing_waits, offered, released}
 use Rattle.sb_port.specs.Ports.{PortState, IsFit, IsSendable, port_messages, port_accesses}
 use Rattle.sb_port.specs.Turns.{SendsFirst, SendsClose}
 use Rattle.sb_port.proofs.Items.{has_close-packet, has_close-close, item_messages-packet, item_messages-close, item_accesses-messages}
@@ -57,22 +70,63 @@ may_close plan s fit unsent =
       room = rw (item_accesses-messages s.sent) (omega (arith, counted, fit.room, length-append sent behind));
     }
 
--- What a packet that passes becomes: a message that may be sent.
-passes_sendable : (plan : RingPlan) (s : PortState) (p : Packet) → IsFit plan s → MayPass plan (length (port_accesses s)) (message_of p) → IsSendable plan (message_of p)
-passes_sendable plan s p fit passes =
-    let small = p.fits in let width : plan.width ≡ 32 = fit.wide in
-    record { fine = record { sound = passes.sound; whole = packet_whole p; narrow = omega (arith, small, width) }; planned = passes.planned }
+-- Each part of a packet that passes may be sent.
+parts_sendable : (plan : RingPlan) (s : PortState) (p : Packet) → IsFit plan s → MayPass plan (length (port_accesses s)) (message_of p) → All (IsSendable plan) (cut_parts plan.width (message_of p))
+parts_sendable plan s p fit passes =
+    let m = message_of p in
+    let least : 8 ≤ plan.width = at_least_8 plan.width fit.wide in
+    let fine : All (IsFine plan.width) (cut_parts plan.width m) = fine_cut plan.width m least passes.sound (packet_whole p) in
+    let home : All (IsAtHome plan) (cut_parts plan.width m) =
+    all_parts (IsAtHome plan) (part_at_home plan fit.apart) plan.width m (word_fits plan.width p.cmd.size least p.cmd.size_fits) (record { planned = passes.planned; low = passes.sound.low; high = passes.sound.high }) in
+    λ k d h. record { fine = fine k d h; planned = (home k d h).planned }
 
--- the words of a port that is offered a message are those before, followed by the message's
-pub offered_accesses : (s : PortState) (p : Packet) (words_offered : ℕ)
+-- what may be sent may be sent as one, where it can be merged
+merges_sendable : (plan : RingPlan) (s : PortState) → IsFit plan s → StaysOfMerges plan.width (IsSendable plan)
+merges_sendable plan s fit a b can first second =
+    let says = mergeable_says plan.width a b can in
+    record {
+      fine = fine_merge plan.width a b says first.fine second.fine;
+      planned = merge_planned plan plan.width a b fit.apart fit.paged says first.fine.sound second.fine.sound first.fine.whole.some first.planned;
+    }
+
+-- all that comes of what is held and of the parts may be sent
+folded_sendable : (plan : RingPlan) (s : PortState) (p : Packet) → IsFit plan s → MayPass plan (length (port_accesses s)) (message_of p)
+    → HoldsOfAll (IsSendable plan) (fold_all plan.width s.waiting.held (cut_parts plan.width (message_of p)))
+folded_sendable plan s p fit passes = all_hold (IsSendable plan) plan.width (merges_sendable plan s fit) s.waiting.held (cut_parts plan.width (message_of p)) fit.held (parts_sendable plan s p fit passes)
+
+-- a packet that passes fits the width where it is never cut
+pub fits_uncut : (plan : RingPlan) (s : PortState) (p : Packet) → IsFit plan s → MayPass plan (length (port_accesses s)) (message_of p) → FitsIfIndivisible s.waiting.width p
+fits_uncut plan s p fit passes uncut =
+    let m = message_of p in
+    let one : is_one_part plan.width m ≡ true = rw uncut refl in
+    let all : All (IsSendable plan) (m ∷ []) = subst (λ (list : List Message). All (IsSendable plan) list) (cut_of_one plan.width m one) (parts_sendable plan s p fit passes) in
+    rw fit.width (All-head (IsSendable plan) m [] all).fine.narrow
+
+-- the words of the lists of a port, one behind the other
+spread : (sent owed held : List Message) → flat_map message_accesses (sent ++ (owed ++ held)) ≡ flat_map message_accesses sent ++ (flat_map message_accesses owed ++ flat_map message_accesses held)
+spread sent owed held = flat_map-append message_accesses sent (owed ++ held) ∙ ap (λ (list : List Access). flat_map message_accesses sent ++ list) (flat_map-append message_accesses owed held)
+
+-- The words of a port that is offered a packet are those before, followed by the packet's.
+pub offered_accesses : (plan : RingPlan) (s : PortState) (p : Packet) (words_offered : ℕ) → IsFit plan s → MayPass plan (length (port_accesses s)) (message_of p)
     → port_accesses (record s { waiting = offered s.waiting (message_of p); words_offered = words_offered }) ≡ port_accesses s ++ accesses_of p
-offered_accesses s p words_offered =
-    let sent = item_messages s.sent in let held = listed s.waiting.held in let m = message_of p in
-    let now : port_messages (record s { waiting = offered s.waiting m; words_offered = words_offered }) ≡ port_messages s ++ m ∷ [] =
-    ap (λ (list : List Message). sent ++ list) (append-nil (s.waiting.owed ++ (held ++ m ∷ [])) ∙ sym (append_assoc s.waiting.owed held (m ∷ [])))
-    ∙ sym (append_assoc sent (s.waiting.owed ++ held) (m ∷ [])) in
-    ap (λ (list : List Message). flat_map message_accesses list) now ∙ flat_map-append message_accesses (port_messages s) (m ∷ [])
-    ∙ ap (λ (list : List Access). port_accesses s ++ list) (append-nil (accesses_of p))
+offered_accesses plan s p words_offered fit passes =
+    let m = message_of p in
+    let w = s.waiting in
+    let folded = fold_all w.width w.held (cut_parts w.width m) in
+    let sent = flat_map message_accesses (item_messages s.sent) in
+    let owed = flat_map message_accesses w.owed in
+    let out = flat_map message_accesses folded.out in
+    let before = flat_map message_accesses (listed w.held) in
+    let after = flat_map message_accesses (listed folded.held) in
+    let whole_held : All IsWhole (listed w.held) = λ k d h. (fit.held k d h).fine.whole in
+    let whole_parts : All IsWhole (cut_parts w.width m) = rw fit.width (λ k d h. (parts_sendable plan s p fit passes k d h).fine.whole) in
+    let words : out ++ after ≡ before ++ accesses_of p =
+    fold_keeps_words w.width w.held (cut_parts w.width m) whole_held whole_parts ∙ ap (λ (list : List Access). before ++ list) (words_of_cut w.width m) in
+    spread (item_messages s.sent) (w.owed ++ folded.out) (listed folded.held)
+    ∙ ap (λ (list : List Access). sent ++ (list ++ after)) (flat_map-append message_accesses w.owed folded.out)
+    ∙ ap (λ (list : List Access). sent ++ list) (append_assoc owed out after ∙ ap (λ (list : List Access). owed ++ list) words ∙ sym (append_assoc owed before (accesses_of p)))
+    ∙ sym (append_assoc sent (owed ++ before) (accesses_of p))
+    ∙ ap (λ (list : List Access). list ++ accesses_of p) (sym (spread (item_messages s.sent) w.owed (listed w.held)))
 
 -- A port that was offered a packet that passes is fit.
 pub fit_offered : (plan : RingPlan) (s : PortState) (p : Packet) → IsFit plan s → s.close_requested ≡ false → MayPass plan (length (port_accesses s)) (message_of p)
@@ -83,20 +137,22 @@ fit_offered plan s p fit untold passes =
     let words_offered = s.words_offered + word_count_of p.cmd in
     let t : PortState = record s { waiting = offered s.waiting (message_of p); words_offered = words_offered } in
     let all : length (port_accesses t) ≡ length (port_accesses s) + length (accesses_of p) =
-    ap (λ (list : List Access). length list) (offered_accesses s p words_offered) ∙ length-append (port_accesses s) (accesses_of p) in
+    ap (λ (list : List Access). length list) (offered_accesses plan s p words_offered fit passes) ∙ length-append (port_accesses s) (accesses_of p) in
+    let folded = folded_sendable plan s p fit passes in
     record {
       width = fit.width;
       wide = fit.wide;
       limit = fit.limit;
+      apart = fit.apart;
+      paged = fit.paged;
       close = fit.close;
       told = fit.told;
       none_owed = λ h. absurd (unshut h);
-      none_held = λ h. refl;
+      none_held = λ h. absurd (unshut h);
       in_turn = fit.in_turn;
       sound = fit.sound;
-      owed = All-append (IsSendable plan) s.waiting.owed (listed s.waiting.held ++ message_of p ∷ []) fit.owed
-          (All-push (IsSendable plan) (listed s.waiting.held) (message_of p) fit.held (passes_sendable plan s p fit passes));
-      held = All-nil (IsSendable plan);
+      owed = rw fit.width (All-append (IsSendable plan) s.waiting.owed (fold_all plan.width s.waiting.held (cut_parts plan.width (message_of p))).out fit.owed folded.out);
+      held = rw fit.width folded.held;
       counted = omega (arith, all, words, fit.counted);
       room = omega (arith, passes.room, fit.counted);
     }
@@ -115,6 +171,8 @@ fit_sends plan s t fit sends =
       width = fit.width;
       wide = fit.wide;
       limit = fit.limit;
+      apart = fit.apart;
+      paged = fit.paged;
       close = fit.close ∙ sym (has_close-packet s.sent p);
       told = fit.told;
       none_owed = λ h. let no_way : true ≡ false = sym h ∙ unsent in absurd (cc);
@@ -133,6 +191,8 @@ fit_released plan s fit = record {
   width = fit.width;
   wide = fit.wide;
   limit = fit.limit;
+  apart = fit.apart;
+  paged = fit.paged;
   close = fit.close;
   told = fit.told;
   none_owed = λ h. rw (fit.none_owed h, fit.none_held h) refl;
@@ -154,6 +214,8 @@ fit_closes plan s t fit closes =
       width = fit.width;
       wide = fit.wide;
       limit = fit.limit;
+      apart = fit.apart;
+      paged = fit.paged;
       close = sym (has_close-close s.sent);
       told = λ h. closes.told;
       none_owed = λ h. closes.none_owed;
@@ -168,13 +230,16 @@ fit_closes plan s t fit closes =
 
 -- A port over an end at which nothing was sent is fit.
 pub fit_fresh : (plan : RingPlan) (sent : List Item) (waiting : Waiting) → sent ≡ [] → waiting ≡ nothing_waits plan.width → IsWidth plan.width → plan.budget ≤ 262144
+    → AreApart (device_ranges plan.flows) → AreWholePages (device_ranges plan.flows)
     → IsFit plan (record { sent = sent; waiting = waiting; close_requested = false; close_sent = false; words_offered = 0 })
-fit_fresh plan sent waiting unsent none wide limit =
+fit_fresh plan sent waiting unsent none wide limit apart paged =
     subst (λ (w : Waiting). IsFit plan (record { sent = sent; waiting = w; close_requested = false; close_sent = false; words_offered = 0 })) (sym none)
     (subst (λ (list : List Item). IsFit plan (record { sent = list; waiting = nothing_waits plan.width; close_requested = false; close_sent = false; words_offered = 0 })) (sym unsent) (record {
       width = refl;
       wide = wide;
       limit = limit;
+      apart = apart;
+      paged = paged;
       close = refl;
       told = λ h. absurd (false_true h);
       none_owed = λ h. refl;

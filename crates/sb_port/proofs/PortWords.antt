@@ -7,7 +7,8 @@ use Rattle.sb_packet.specs.Messages.{Message, message_of}
 use Rattle.sb_link.specs.Prefixes.{IsPrefix}
 use Rattle.sb_link.specs.Traffic.{item_messages}
 use Rattle.sb_packet.specs.declared.item.Item.TheVariants as items
-use Rattle.sb_port.specs.Waiting.{listed, released}
+use Rattle.sb_cut.specs.Folds.{listed}
+use Rattle.sb_port.specs.Waiting.{released}
 use Rattle.sb_port.specs.Ports.{PortSide, PortState, port_messages, port_accesses, offered_words, let_go}
 use Rattle.sb_port.specs.Turns.{SendsFirst, SendsClose, LetsGo, Turned}
 use Rattle.sb_port.specs.declared.port_turn.PortTurn.{PortTurn}

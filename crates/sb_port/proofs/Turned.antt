@@ -3,7 +3,8 @@ use Rattle.std.proofs.Common.{◌≡◌, Bool, List, ◌++◌, ap, ◌∙◌, sy
 use Rattle.std.specs.Prelude.{None}
 use Rattle.std.proofs.lemmas.List.{append-nil}
 use Rattle.sb_packet.specs.Messages.{Message}
-use Rattle.sb_port.specs.Waiting.{Waiting, listed, released}
+use Rattle.sb_cut.specs.Folds.{listed}
+use Rattle.sb_port.specs.Waiting.{Waiting, released}
 use Rattle.sb_port.specs.Ports.{PortSide}
 use Rattle.sb_port.specs.Turns.{TriesClose, Turned}
 use Rattle.sb_port.specs.declared.port_turn.PortTurn.{PortTurn}

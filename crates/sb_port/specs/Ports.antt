@@ -2,13 +2,15 @@
 use Rattle.std.specs.Prelude.{◌≡◌, ℕ, ◌≤◌, Bool, true, false, not, ◌&&◌, ◌||◌, List, [], ◌++◌, length, flat_map, All, None}
 use Rattle.sb_packet.specs.Accesses.{Access, message_accesses}
 use Rattle.sb_packet.specs.Messages.{Message}
-use Rattle.sb_link.specs.RingPlans.{RingPlan}
+use Rattle.sb_link.specs.RingPlans.{RingPlan, AreApart, device_ranges}
+use Rattle.sb_link.specs.Plans.{AreWholePages}
 use Rattle.sb_link.specs.Traffic.{AreInTurn, IsPlanned, has_close, item_messages}
 use Rattle.sb_packet.specs.Soundness.{IsSound, IsFine}
 use Rattle.sb_packet.specs.declared.item.Item.{Item}
 use Rattle.sb_link.specs.Ends.{Mark}
 use Rattle.sb_link.specs.declared.ends.TxEnd as tx
-use Rattle.sb_port.specs.Waiting.{Waiting, IsWidth, listed, nothing_waits, some_owed}
+use Rattle.sb_cut.specs.Folds.{listed}
+use Rattle.sb_port.specs.Waiting.{Waiting, IsWidth, nothing_waits, some_owed}
 
 -- what a port goes by
 pub record PortState : Type 0 where
@@ -80,6 +82,9 @@ pub record IsFit (plan : RingPlan) (s : PortState) : Type 0 where
   pub width : s.waiting.width ≡ plan.width
   pub wide : IsWidth plan.width
   pub limit : plan.budget ≤ 262144
+  -- the ring's plan has ranges of devices that are whole pages, apart from one another
+  pub apart : AreApart (device_ranges plan.flows)
+  pub paged : AreWholePages (device_ranges plan.flows)
   -- it knows whether it sent the Close, which it sends when it was told to and has nothing else to send
   pub close : s.close_sent ≡ has_close s.sent
   pub told : s.close_sent ≡ true → s.close_requested ≡ true

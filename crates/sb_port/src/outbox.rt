@@ -1,26 +1,52 @@
 //! What a port has to send.
 
-ghost use Rattle.std.specs.Prelude.{◌≡◌, ◌≢◌, MatchOption, None, Some, [], ◌∷◌, drop};
+ghost use Rattle.std.specs.Prelude.{◌≡◌, ◌≢◌, ◌++◌, MatchOption, None, Some, [], ◌∷◌, drop};
 ghost use Rattle.sb_packet.specs.Messages.{message_of};
-ghost use Rattle.sb_port.specs.Waiting.{IsWidth, nothing_waits, offered, released};
+ghost use Rattle.sb_cut.specs.Folds.{fold_all};
+ghost use Rattle.sb_cut.specs.Works.{FitsIfIndivisible};
+ghost use Rattle.sb_port.specs.Waiting.{IsWidth, listed_packet, nothing_waits, offered, released};
 
+use sb_cut::{Cutter, Merged, Merger};
 use sb_packet::Packet;
 use std::marker::Model;
 
-/// What a port has to send: the packet that it owes, if it owes one. Nothing is held for merging.
+/// What a port has to send: the packet that is ready, if there is one, what is left to cut behind it, and the packet that
+/// is held for merging. Parts are cut and joined one at a time, when the packet before them was sent.
 #[derive(Drop)]
 pub struct Outbox {
-    width: u8,
-    first: Option<Packet>,
+    cutter: Cutter,
+    merger: Merger,
+    ready: Option<Packet>,
 }
 
 impl Model for Outbox {
-    ghost use Rattle.std.specs.Prelude.{None};
-    ghost use Rattle.sb_port.specs.Waiting.{Waiting, listed_packet};
+    ghost use Rattle.std.specs.Prelude.{◌≡◌, None, []};
+    ghost use Rattle.sb_port.specs.Waiting.{Waiting, waiting_of};
 
     ghost Value = { Waiting };
 
-    ghost view = { λ outbox. record { width = outbox.width; owed = listed_packet outbox.first; held = None } };
+    ghost view = { λ outbox. waiting_of outbox.ready outbox.cutter outbox.merger };
+
+    ghost invariant = { λ outbox. (outbox.cutter.width ≡ outbox.merger.width) × (outbox.ready ≡ None → outbox.cutter.left ≡ []) };
+}
+
+// cuts and joins until a packet is ready, or nothing is left to cut
+fn draw(cutter: &mut Cutter, merger: &mut Merger) -> Option<Packet>
+    requires width { cutter.old.width ≡ merger.old.width }
+    ensures out { (fold_all merger.old.width merger.old.held cutter.old.left).out
+        ≡ listed_packet result ++ (fold_all merger.new.width merger.new.held cutter.new.left).out }
+    ensures held { (fold_all merger.old.width merger.old.held cutter.old.left).held
+        ≡ (fold_all merger.new.width merger.new.held cutter.new.left).held }
+    ensures none_left { result ≡ None → cutter.new.left ≡ [] }
+    ensures cutter_width { cutter.new.width ≡ cutter.old.width }
+    ensures merger_width { merger.new.width ≡ merger.old.width }
+{
+    while let Some(part) = cutter.next() {
+        if let Merged::Out(packet) = merger.take(&part) {
+            return Some(packet);
+        }
+    }
+    None
 }
 
 impl Outbox {
@@ -29,14 +55,18 @@ impl Outbox {
         requires wide { IsWidth width }
         ensures nothing { result ≡ nothing_waits width }
     {
-        Outbox { width, first: None }
+        Outbox {
+            cutter: Cutter::new(width),
+            merger: Merger::new(width),
+            ready: None,
+        }
     }
 
     /// The first packet that is owed.
     pub fn first(&self) -> Option<Packet>
         ensures first { MatchOption result (self.now.owed ≡ []) (λ p. self.now.owed ≡ message_of p ∷ drop 1 self.now.owed) }
     {
-        self.first
+        self.ready
     }
 
     /// The first packet was sent.
@@ -44,15 +74,17 @@ impl Outbox {
         requires some { self.old.owed ≢ [] }
         ensures advanced { self.new ≡ record self.old { owed = drop 1 self.old.owed } }
     {
-        self.first = None;
+        self.ready = draw(&mut self.cutter, &mut self.merger);
     }
 
-    /// Takes a packet, where none is owed.
+    /// Takes a packet, where none is owed. An atomic or exclusive packet, which is never cut, has to fit the width.
     pub fn offer(&mut self, packet: &Packet)
         requires ready { self.old.owed ≡ [] }
+        requires fits { FitsIfIndivisible self.old.width packet.now }
         ensures offered { self.new ≡ offered self.old (message_of packet.now) }
     {
-        self.first = Some(*packet);
+        self.cutter.take(packet);
+        self.ready = draw(&mut self.cutter, &mut self.merger);
     }
 
     /// Lets go what is held: the first packet that is owed then. None where nothing was held.
@@ -61,7 +93,7 @@ impl Outbox {
         ensures released { self.new ≡ released self.old }
         ensures held { MatchOption result (self.old.held ≡ None) (λ p. self.old.held ≡ Some (message_of p)) }
     {
-        self.first = None;
-        self.first
+        self.ready = self.merger.flush();
+        self.ready
     }
 }

@@ -9,7 +9,7 @@ ghost use Rattle.sb_link.specs.Prefixes.{IsPrefix};
 ghost use Rattle.sb_packet.specs.Spans.{word_count_of};
 ghost use Rattle.sb_link.specs.Traffic.{IsPlanned, MayPass};
 ghost use Rattle.sb_link.specs.PlanOf.{plan_of};
-ghost use Rattle.sb_port.specs.Waiting.{IsWidth, offered};
+ghost use Rattle.sb_port.specs.Waiting.{offered};
 ghost use Rattle.sb_port.specs.Ports.{IsFit, fresh_port, let_go, offered_words, owes, with_end};
 ghost use Rattle.sb_port.specs.Turns.{TriesClose, TriesFirst, Turned};
 ghost use Rattle.sb_port.specs.contracts.port.OutPort.{the_row};
@@ -80,7 +80,6 @@ impl<T: TxEnd> OutPort<T> {
     /// A port over an end at which nothing was sent. Takes no memory, nor do the other calls.
     pub fn new(tx: T) -> OutPort<T>
         requires unsent { T.sent tx ≡ [] }
-        requires wide { IsWidth (T.planned tx).width }
         ensures fresh { result ≡ fresh_port T.TxEnd tx }
         ensures fit { IsFit result.plan result.state }
     {

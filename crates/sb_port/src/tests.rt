@@ -1,7 +1,6 @@
 //! A port over a ring on one thread.
 
 ghost use Rattle.std.specs.Prelude.{◌≡◌, ◌≤◌, ◌<◌, ◌⊎◌, []};
-ghost use Rattle.sb_port.specs.Waiting.{IsWidth};
 ghost use Rattle.sb_port.specs.Ports.{IsFit};
 
 use crate::{OutPort, PortTurn};
@@ -29,7 +28,6 @@ fn plan(capacity: u16, budget: u32) -> LinkPlan
     requires some { 0 < capacity }
     requires most { capacity ≤ 1024 }
     requires budgeted { budget ≤ 262144 }
-    ensures width { result.width ≡ 32 }
 {
     LinkPlan {
         ring: 0,
@@ -88,7 +86,6 @@ fn observe<F: Fabric>(
     packets: &[Packet; 2],
 ) -> Option<([PortTurn; 3], [Pop; 3])>
     requires unsent { F.Tx.sent tx ≡ [] }
-    requires wide { IsWidth (F.Tx.planned tx).width }
     requires ring { F.Tx.mark tx ≡ F.Rx.mark rx.old }
 {
     let mut port = OutPort::new(tx);

@@ -1,0 +1,4 @@
+pub mod Widths
+pub mod Merges
+pub mod Folds
+pub mod Works
