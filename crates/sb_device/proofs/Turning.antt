@@ -1,14 +1,16 @@
 -- What a turn answers, by what the ring and the port did in it.
-use Rattle.std.proofs.Common.{◌≡◌, ◌⊎◌, inl, inr, ⊎_elim, ℕ, Bool, true, false, true≢false, List, [], ◌∷◌, length, refl, sym, ap, ◌∙◌, subst, arith}
+use Rattle.std.proofs.Common.{◌≡◌, ◌≢◌, ◌⊎◌, inl, inr, ⊎_elim, ℕ, Bool, true, false, true≢false, List, [], ◌∷◌, length, refl, sym, ap, ◌∙◌, subst, arith}
 use Rattle.std.specs.Prelude.{◌&&◌, Option, Some, None, if◌then◌else◌}
 use Rattle.sb_link.specs.declared.answers.Turn.{Turn}
+use Rattle.sb_link.specs.declared.answers.Turn.TheVariants.{Moved, Done, Idle}
 use Rattle.sb_link.specs.declared.answers.Cause.{Cause}
 use Rattle.sb_link.specs.declared.answers.Cause.TheVariants as causes
 use Rattle.sb_packet.specs.declared.item.Item.{Item}
 use Rattle.sb_port.specs.Waiting.{some_owed}
 use Rattle.sb_port.specs.Ports.{PortSide, IsFit, owes}
 use Rattle.sb_node.specs.Sides.{RingSide, has_rest, is_full, is_drained, has_ended, is_done}
-use Rattle.sb_node.specs.Kept.{IsKeptPort}
+use Rattle.sb_node.specs.Kept.{IsKeptPort, IsKeptRing}
+use Rattle.sb_node.specs.Rested.{IsRestedPort, rested_port_same, rested_port_then}
 use Rattle.sb_node.specs.Turns.{first_cause, empty_cause, idle_causes}
 use Rattle.sb_node.specs.Idle.{IsIdleAt}
 use Rattle.sb_node.specs.Found.{or_else, IsTurnOf}
@@ -18,6 +20,7 @@ use Rattle.sb_node.proofs.Answering.{HasGone, HasStood, answered_by, moves_kept,
 use Rattle.sb_device.specs.Sides.{DeviceSide}
 use Rattle.sb_device.specs.Steps.{IsRingHandled}
 use Rattle.sb_device.specs.Devices.{IsWholeDevice, IsDeviceTurn, device_moves}
+use Rattle.sb_device.specs.Rested.{IsRestedDevice, rested_device_same}
 
 -- a device is done where its port sent its Close, since it tells the port to where its ring gave Close
 done_by_port : (port : PortSide) (ring : RingSide) → IsFit port.plan port.state → port.state.close_requested ≡ has_ended ring → is_done (port ∷ []) (ring ∷ []) ≡ port.state.close_sent
@@ -171,3 +174,35 @@ module _ (x y : DeviceSide) (port_then : PortSide) where
       let said = answered_by found_then before after done_then causes_then AtRest answer (came_of popped found found_then served turned kept kept_then whole)
       (subst (λ d. IsTurnOf found_then d answer) done told) in
       record { answered = said.0; idle = said.1; few_more = few_popped popped found served; port_served = port_served; ring_served = served_when_ready popped found served }
+
+  -- nothing moved by a turn that doesn't say so
+  unmoved : (found : Findings) (done : Bool) (answer : Turn) → IsTurnOf found done answer → answer ≢ Moved → found.moved ≡ false
+  unmoved found done Moved told other = absurd (other refl)
+  unmoved found done Done told other = told.0
+  unmoved found done (Idle cause) told other = told.0
+
+  -- a ring that was served without a pop rested, and so did the memory and the journal
+  rested_so_far : (found : Findings) → IsRingHandled x y no_findings found false → IsKeptRing x.requests y.requests → IsRestedDevice x y
+  rested_so_far found (inl waited) kept = subst (λ (d : DeviceSide). IsRestedDevice x d) (sym waited.same) (rested_device_same x)
+  rested_so_far found (inr none) kept = record {
+    number = ap (λ (d : DeviceSide). d.number) none.same;
+    memory = ap (λ (d : DeviceSide). d.memory) none.same;
+    journal = ap (λ (d : DeviceSide). d.journal) none.same;
+    requests = record { plan = kept.plan; mark = kept.mark; received = none.empty.same; learnt = kept.learnt };
+    answers = subst (λ (port : PortSide). IsRestedPort x.answers port) (sym (ap (λ (d : DeviceSide). d.answers) none.same)) (rested_port_same x.answers);
+  }
+
+  -- the turn rests, where it doesn't answer that it moved
+  pub device_rests : (popped : Bool) (found found_then : Findings) (done : Bool) (answer : Turn) → IsRingHandled x y no_findings found popped
+      → IsPortTurned popped y.answers port_then found found_then → IsKeptRing x.requests y.requests → IsKeptPort x.answers y.answers → IsKeptPort y.answers port_then
+      → (found_then.moved ≡ false → IsRestedPort y.answers port_then) → IsTurnOf found_then done answer → answer ≢ Moved → IsRestedDevice x z
+  device_rests true found found_then done answer handled turned ring kept kept_then still told other =
+      absurd (true≢false (sym (gone_by_pop found found_then handled kept kept_then turned).moved ∙ unmoved found_then done answer told other))
+  device_rests false found found_then done answer handled turned ring kept kept_then still told other =
+      let before = rested_so_far found handled ring in record {
+        number = before.number;
+        memory = before.memory;
+        journal = before.journal;
+        requests = before.requests;
+        answers = rested_port_then before.answers (still (unmoved found_then done answer told other));
+      }

@@ -3,7 +3,6 @@
 ghost use Rattle.std.specs.Prelude.{◌≡◌, [], IfOk};
 ghost use Rattle.std.specs.Borrow.{sem, Lends};
 ghost use Rattle.sb_port.specs.Ports.{fresh_port};
-ghost use Rattle.sb_port.specs.Waiting.{IsWidth};
 ghost use Rattle.sb_port.specs.contracts.port.OutPort.{the_row as port_row};
 ghost use Rattle.sb_node.specs.Sides.{ring_side};
 ghost use Rattle.sb_device.specs.Plans.{IsPlannedFor};
@@ -86,7 +85,6 @@ impl<F: Fabric> Device<F> {
         requires unreceived { F.Rx.received leg.requests ≡ [] }
         requires unsent { F.Tx.sent leg.answers ≡ [] }
         requires planned { IsPlannedFor number memory (F.Rx.planned leg.requests) (F.Tx.planned leg.answers) }
-        requires wide { IsWidth (F.Tx.planned leg.answers).width }
         ensures whole { IfOk result (λ d. IsWholeDevice d) }
         ensures serves { IfOk result (λ d. HasServed memory d) }
         ensures number { IfOk result (λ d. d.number ≡ number) }

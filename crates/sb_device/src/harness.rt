@@ -54,7 +54,6 @@ fn flows() -> Flows
 fn plan(ring: u16, up: bool, capacity: u16, budget: u32, flows: &Flows) -> LinkPlan
     ensures ring { result.ring ≡ ring }
     ensures up { result.up ≡ up }
-    ensures width { result.width ≡ 32 }
     ensures flows { result.flows ≡ flows.now }
 {
     LinkPlan {

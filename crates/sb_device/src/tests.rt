@@ -133,25 +133,39 @@ fn requests_are_served_in_order(rt: HostRuntime) -> Result<(), Fail> {
             codes: &[None],
             first_byte: 7,
         },
-        // a memory that may not be written: both writes stand in the journal, the first is refused
+        // a memory that may not be written: both writes stand in the journal, the first is refused; its answer is held
+        // until the Close comes, as nothing says that no more follows
         Case {
             course: Course {
                 readonly: true,
                 ..prompt
             },
             requests: &refused,
-            turns: &[Turn::Moved, Turn::Moved, Turn::Moved, Turn::Done],
+            turns: &[
+                Turn::Moved,
+                Turn::Moved,
+                Turn::Moved,
+                Turn::Moved,
+                Turn::Done,
+            ],
             entries: &[(0, 0), (1, 0)],
             codes: &[Some(2), None],
             first_byte: 7,
         },
-        // answers are not taken, over a ring of one place: the second one waits at the port from round 1 on, and the
-        // third request on its ring, until they are
+        // answers are not taken, over a ring of one place: the first one stands there from round 1 on, the second one
+        // waits at the port from round 2 on, which holds the third for merging, until they are
         Case {
             course: slow,
             requests: &three,
-            turns: &[Turn::Moved, Turn::Moved, full, full, full, Turn::Moved],
-            entries: &[(0, 0), (1, 0), (6, 0)],
+            turns: &[
+                Turn::Moved,
+                Turn::Moved,
+                Turn::Moved,
+                full,
+                full,
+                Turn::Moved,
+            ],
+            entries: &[(0, 0), (1, 0), (2, 0)],
             codes: &[Some(0), Some(0), Some(0), None],
             first_byte: 3,
         },

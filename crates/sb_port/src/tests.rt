@@ -78,13 +78,13 @@ fn deliver<F: Fabric>(port: &mut OutPort<F::Tx>, rx: &mut F::Rx) -> Pop
     popped
 }
 
-// what a port answers and what comes out where two packets are offered and then a Close, over a ring of capacity 1;
-// none where a packet can't be offered
+// what a port answers and what comes out where two packets are offered that can't be merged and then a Close, over a
+// ring of capacity 1; none where a packet can't be offered
 fn observe<F: Fabric>(
     tx: F::Tx,
     rx: &mut F::Rx,
     packets: &[Packet; 2],
-) -> Option<([PortTurn; 3], [Pop; 3])>
+) -> Option<([PortTurn; 5], [Pop; 3])>
     requires unsent { F.Tx.sent tx ≡ [] }
     requires ring { F.Tx.mark tx ≡ F.Rx.mark rx.old }
 {
@@ -93,8 +93,9 @@ fn observe<F: Fabric>(
         return None;
     }
     port.offer(&packets[0]);
-    let first = port.turn(true);
-    let rest = port.turn(true);
+    let held = port.turn(true);
+    let let_go = port.turn(false);
+    let rest = port.turn(false);
     if !port.ready() {
         return None;
     }
@@ -103,8 +104,9 @@ fn observe<F: Fabric>(
     }
     port.offer(&packets[1]);
     port.close();
-    let full = port.turn(false);
-    let turns = [first, rest, full];
+    let owed = port.turn(true);
+    let full = port.turn(true);
+    let turns = [held, let_go, rest, owed, full];
     let pops = [
         deliver::<F>(&mut port, rx),
         deliver::<F>(&mut port, rx),
@@ -121,9 +123,13 @@ fn items_come_out_in_order(rt: HostRuntime) -> Result<(), Fail> {
     let mut fabric = SerialFabric::new(rt.alloc());
     let (tx, mut rx) = fabric.make(rt.alloc(), &plan(1, 2))?;
     let packets = [word(Op::ReqRd, 0, 8), word(Op::ReqRd, 1, 8)];
+    // what is offered is held while more is expected, and goes out when none is, or behind it when the port is told to
+    // close; the ring is full then
     let turns = [
+        PortTurn::Clear,
         PortTurn::Moved,
         PortTurn::Clear,
+        PortTurn::Moved,
         PortTurn::Full { sent: 1, taken: 0 },
     ];
     let pops = [
