@@ -19,7 +19,7 @@ MOST_LINKS = 128
 MOST_PAGES = 256
 MOST_PAGES_OF_ALL = 4096
 MOST_CAPACITY = 1024
-WIDTHS = (32,)
+WIDTHS = (8, 16, 32)
 TOP = 1 << 56
 NAME = re.compile(b"[a-z][a-z0-9_]{0,15}")
 

@@ -119,9 +119,13 @@ NUMBERS = tuple(
         ("devices 0 pages", "devices[0].pages", "count", 1, 256, (0, 1, 256, 257, 4096)),
         ("devices 0 pages", "devices", "count", 1, 256, (4097, 65536, (1 << 32) + 1, TOP - 1)),
         ("links 1 capacity", "links[1].capacity", "count", 1, 1024, (0, 1, 1024, 1025, 65537, TOP - 1)),
-        ("links 1 width", "1", "width", 32, 32, (0, 8, 16, 31, 32, 33, 64, 288, (1 << 32) + 32, TOP - 1)),
     )
     for value in values
+)
+WIDTHS = (
+    *((changed(SMALL, ("links 1 width", value)), ACCEPTED) for value in (8, 16, 32)),
+    *((changed(SMALL, ("links 1 width", value)), "width 1") for value in (0, 1, 4, 7, 9, 12, 15, 17, 24, 31, 33, 64, 128, 255, 256, 264, 272, 288, 65544, (1 << 32) + 16, TOP - 1)),
+    (changed(SMALL, ("links 0 width", 64), ("links 1 width", 12)), "width 0"),
 )
 SHAPES = (
     # missing and unknown fields
@@ -168,6 +172,6 @@ def rows():
         yield text.encode(), wanted
     yield SMALL_TEXT.encode().replace(b"cpu", b"cp\xff"), "json"
     yield SMALL_TEXT.encode().replace(b"cpu", b"cp\xed\xa0\x80"), "json"
-    for bundle, wanted in NUMBERS + SHAPES:
+    for bundle, wanted in NUMBERS + WIDTHS + SHAPES:
         yield json.dumps(bundle).encode(), wanted
     yield from all_pairs()

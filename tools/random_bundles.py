@@ -150,7 +150,7 @@ class Maker:
         ends += [(routers[low], routers[high]) for low, high in joints]
         r.shuffle(ends)
         taken = set()
-        return [{"name": self.name(taken), "from": one, "to": other, "width": 32, "capacity": r.choice((1, 2, 8, 1024))} for one, other in ends]
+        return [{"name": self.name(taken), "from": one, "to": other, "width": r.choice((8, 16, 32)), "capacity": r.choice((1, 2, 8, 1024))} for one, other in ends]
 
     def ways(self, count, shelves, joints):
         """For each device the routers from which a way leads to it, each with the routers next on such ways."""

@@ -114,7 +114,7 @@ class Spoilt(random_bundles.Maker):
         device["image"] = "00" * (device["pages"] * model.PAGE + self.random.choice((0, 1, 4096)))
 
     def spoil_width(self, bundle):
-        self.random.choice(bundle["links"])["width"] = self.random.choice((0, 8, 12, 16, 31, 33, 64, 288, 65568, (1 << 32) + 32, TOP - 1))
+        self.random.choice(bundle["links"])["width"] = self.random.choice((0, 4, 12, 24, 31, 33, 64, 264, 272, 288, 65568, (1 << 32) + 32, TOP - 1))
 
     def spoil_end(self, bundle):
         link = self.random.choice(bundle["links"])

@@ -5,7 +5,7 @@ use Rattle.std.specs.Fmt.{digits}
 use Rattle.hex.proofs.OnLiterals.{hex_on_literals}
 use Rattle.serde_json.proofs.OnLiterals.{serde_json_on_literals}
 use Rattle.sb_flow.specs.declared.place.Place.TheVariants.{Device}
-use Rattle.sb_flow.proofs.AcceptedExample.{wide}
+use Rattle.sb_packet.proofs.NetworkExample.{wired}
 use Rattle.sb_text.specs.declared.line_fault.LineFault.TheVariants as line_faults
 use Rattle.sb_fields.specs.Fields.{an_object, bytes_in, numeral_in, object_with, only_fields, optional, required}
 use Rattle.sb_fields.specs.FieldLists.{list_of, routes_of}
@@ -82,7 +82,7 @@ no_route : bundle_of (codes "{\"version\":1,\"hosts\":[{\"name\":\"h\",\"id\":0,
 unfolding serde_json_on_literals hex_on_literals is_utf8 chars digits required optional only_fields an_object object_with numeral_in bytes_in host_fields router_fields device_fields link_fields bundle_fields list_of list_counts devices_counts host_counts router_counts device_counts link_counts routes_of in_range new_name place_among place_named route_named routes_named router_named end_named link_named wire_named named_network route_to devices_tested links_tested scripts_tested unless_found
 no_route = refl
 
--- the example network, with links of the width that there is now
-example : bundle_of (codes "{\"version\":1,\"hosts\":[{\"name\":\"cpu0\",\"id\":0,\"script\":[\"wr 0x10000 3 000102030405060708090a0b0c0d0e0f101112131415161718191a1b1c1d1e1f\",\"rd 0x10000 3 4\",\"wp 0x20010 2 aabbccdd\",\"rd 0x20010 2 1\",\"add 0x30000 3 0100000000000000\"]},{\"name\":\"cpu1\",\"id\":1,\"qos\":3,\"script\":[\"swap 0x30008 2 78563412\",\"wr 0x40000 0 ff\",\"rd 0x40000 0 4\",\"rd 0x50000 1 2\",\"maxu 0x30008 2 00000080\"]}],\"routers\":[{\"name\":\"r0\",\"routes\":{\"m0\":\"l2\",\"m1\":\"l2\",\"m2\":\"l3\",\"rom\":\"l3\"}},{\"name\":\"r1\",\"routes\":{\"m0\":\"l4\",\"m1\":\"l5\"}},{\"name\":\"r2\",\"side\":1,\"routes\":{\"m2\":\"l6\",\"rom\":\"l7\"}}],\"devices\":[{\"name\":\"m0\",\"base\":\"0x10000\",\"pages\":1},{\"name\":\"m1\",\"base\":\"0x20000\",\"pages\":1},{\"name\":\"m2\",\"base\":\"0x30000\",\"pages\":1},{\"name\":\"rom\",\"base\":\"0x40000\",\"pages\":1,\"readonly\":true,\"image\":\"deadbeef\"}],\"links\":[{\"name\":\"l0\",\"from\":\"cpu0\",\"to\":\"r0\",\"width\":32,\"capacity\":8},{\"name\":\"l1\",\"from\":\"cpu1\",\"to\":\"r0\",\"width\":32,\"capacity\":4},{\"name\":\"l2\",\"from\":\"r0\",\"to\":\"r1\",\"width\":32,\"capacity\":4},{\"name\":\"l3\",\"from\":\"r0\",\"to\":\"r2\",\"width\":32,\"capacity\":2},{\"name\":\"l4\",\"from\":\"r1\",\"to\":\"m0\",\"width\":32,\"capacity\":8},{\"name\":\"l5\",\"from\":\"r1\",\"to\":\"m1\",\"width\":32,\"capacity\":2},{\"name\":\"l6\",\"from\":\"r2\",\"to\":\"m2\",\"width\":32,\"capacity\":1},{\"name\":\"l7\",\"from\":\"r2\",\"to\":\"rom\",\"width\":32,\"capacity\":1}],\"wire\":\"l3\"}") ≡ Ok wide
+-- the example network
+example : bundle_of (codes "{\"version\":1,\"hosts\":[{\"name\":\"cpu0\",\"id\":0,\"script\":[\"wr 0x10000 3 000102030405060708090a0b0c0d0e0f101112131415161718191a1b1c1d1e1f\",\"rd 0x10000 3 4\",\"wp 0x20010 2 aabbccdd\",\"rd 0x20010 2 1\",\"add 0x30000 3 0100000000000000\"]},{\"name\":\"cpu1\",\"id\":1,\"qos\":3,\"script\":[\"swap 0x30008 2 78563412\",\"wr 0x40000 0 ff\",\"rd 0x40000 0 4\",\"rd 0x50000 1 2\",\"maxu 0x30008 2 00000080\"]}],\"routers\":[{\"name\":\"r0\",\"routes\":{\"m0\":\"l2\",\"m1\":\"l2\",\"m2\":\"l3\",\"rom\":\"l3\"}},{\"name\":\"r1\",\"routes\":{\"m0\":\"l4\",\"m1\":\"l5\"}},{\"name\":\"r2\",\"side\":1,\"routes\":{\"m2\":\"l6\",\"rom\":\"l7\"}}],\"devices\":[{\"name\":\"m0\",\"base\":\"0x10000\",\"pages\":1},{\"name\":\"m1\",\"base\":\"0x20000\",\"pages\":1},{\"name\":\"m2\",\"base\":\"0x30000\",\"pages\":1},{\"name\":\"rom\",\"base\":\"0x40000\",\"pages\":1,\"readonly\":true,\"image\":\"deadbeef\"}],\"links\":[{\"name\":\"l0\",\"from\":\"cpu0\",\"to\":\"r0\",\"width\":32,\"capacity\":8},{\"name\":\"l1\",\"from\":\"cpu1\",\"to\":\"r0\",\"width\":16,\"capacity\":4},{\"name\":\"l2\",\"from\":\"r0\",\"to\":\"r1\",\"width\":16,\"capacity\":4},{\"name\":\"l3\",\"from\":\"r0\",\"to\":\"r2\",\"width\":8,\"capacity\":2},{\"name\":\"l4\",\"from\":\"r1\",\"to\":\"m0\",\"width\":32,\"capacity\":8},{\"name\":\"l5\",\"from\":\"r1\",\"to\":\"m1\",\"width\":8,\"capacity\":2},{\"name\":\"l6\",\"from\":\"r2\",\"to\":\"m2\",\"width\":16,\"capacity\":1},{\"name\":\"l7\",\"from\":\"r2\",\"to\":\"rom\",\"width\":8,\"capacity\":1}],\"wire\":\"l3\"}") ≡ Ok wired
 unfolding serde_json_on_literals hex_on_literals is_utf8 chars digits required optional only_fields an_object object_with numeral_in bytes_in host_fields router_fields device_fields link_fields bundle_fields list_of list_counts devices_counts host_counts router_counts device_counts link_counts routes_of in_range new_name place_among place_named route_named routes_named router_named end_named link_named wire_named named_network route_to devices_tested links_tested scripts_tested unless_found
 example = refl

@@ -1,4 +1,5 @@
 pub mod Numbers
+pub mod SmallWidths
 pub mod LostWays
 pub mod ClashSteps
 pub mod AimedSteps

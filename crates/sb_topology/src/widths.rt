@@ -3,7 +3,7 @@
 ghost use Rattle.std.specs.Prelude.{◌≡◌, ◌≢◌, ◌≤◌, ◌<◌, length, map, not, vec_len, IfOk, IfErr, Ok, Err, None};
 ghost use Rattle.std.specs.Bool.{OnTrue};
 ghost use Rattle.std.specs.List.{position_from};
-ghost use Rattle.sb_flow.specs.Ends.{is_width_now, odd_width};
+ghost use Rattle.sb_flow.specs.Ends.{is_link_width, odd_width};
 ghost use Rattle.sb_flow.specs.Rows.{link_of};
 ghost use Rattle.sb_fields.specs.declared.fault.LoadFault.TheVariants as faults;
 ghost use Rattle.sb_topology.specs.Held.{draft_link, draft_network, plan_network};
@@ -16,11 +16,12 @@ use sb_flow::LinkRow;
 use std::alloc::Global;
 
 /// A link may have that width.
+#[tactic(auto, using(crate::proofs::SmallWidths::widths_are_small))]
 fn is_width(width: u64) -> bool
-    ensures test { result ≡ is_width_now width }
+    ensures test { result ≡ is_link_width width }
     ensures narrow { OnTrue result (width < 256) }
 {
-    width == 32
+    width == 8 || width == 16 || width == 32
 }
 
 /// A link with its width.
@@ -41,11 +42,11 @@ fn link_row(link: &LinkDraft) -> LinkRow
 #[tactic(auto, unfolding(crate::specs::Tests::unless_found))]
 fn link_rows(alloc: Global, links: &[LinkDraft]) -> Result<Vec<LinkRow>, LoadFault>
     requires { length links.now ≤ 128 }
-    ensures widths { IfOk result (λ rows. position_from (λ l. not (is_width_now l.width)) 0 (map draft_link links.now)
+    ensures widths { IfOk result (λ rows. position_from (λ l. not (is_link_width l.width)) 0 (map draft_link links.now)
         ≡ None) }
     ensures rows { IfOk result (λ rows. map link_of rows.items ≡ map draft_link links.now) }
     ensures err { IfErr result (λ fault. fault ≢ faults.Memory
-        → (unless_found faults.Width (position_from (λ l. not (is_width_now l.width)) 0 (map draft_link links.now))
+        → (unless_found faults.Width (position_from (λ l. not (is_link_width l.width)) 0 (map draft_link links.now))
         ≡ Err fault)) }
 {
     let mut rows = Vec::new(alloc);

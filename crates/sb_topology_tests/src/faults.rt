@@ -78,6 +78,15 @@ Count { path: Path { text: "links[0].capacity" } } | "capacity":1 => "capacity":
 accepted | "0x1000" => "0xfffffffffff000"
 Range { device: 0 } | "0x1000","pages":1 => "0xfffffffffff000","pages":2
 Range { device: 1 } | "8192" => "0xfffffffffffff000"
+accepted | "width":32 => "width":8
+accepted | "width":32 => "width":16
+Width { link: 0 } | "width":32 => "width":0
+Width { link: 0 } | "width":32 => "width":4
+Width { link: 0 } | "width":32 => "width":24
+Width { link: 0 } | "width":32 => "width":33
+Width { link: 0 } | "width":32 => "width":64
+Width { link: 0 } | "width":32 => "width":264
+Width { link: 1 } | "width":32 => "width":8 | "width":32 => "width":12
 Width { link: 0 } | "width":32 => "width":4294967328
 Name { path: Path { text: "hosts[0].name" } } | "name":"h0" => "name":"H0"
 Name { path: Path { text: "routers[0].name" } } | "name":"r0" => "name":"h1"
