@@ -1,0 +1,5 @@
+pub mod States
+pub mod DrawnTransactions
+pub mod TransactionLists
+pub mod GeneratedNetworks
+pub mod GeneratedRows
