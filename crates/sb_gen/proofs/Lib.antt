@@ -3,3 +3,4 @@ pub mod DrawnTransactions
 pub mod TransactionLists
 pub mod GeneratedNetworks
 pub mod GeneratedRows
+pub mod GeneratorExamples

@@ -5,7 +5,11 @@ mod bundle;
 mod draws;
 mod generator;
 mod scripts;
+mod summary;
+#[cfg(test)]
+mod tests;
 mod totals;
 
 pub use bundle::gen_bundle;
+pub use summary::print_summary;
 pub use totals::{Totals, gen_totals};
