@@ -1,10 +1,10 @@
 -- A transaction that six draws make can be issued.
-use Rattle.std.proofs.Common.{◌≡◌, ◌≤◌, ◌<◌, ℕ, zero, suc, ◌+◌, ◌-◌, ◌*◌, ◌/◌, ◌%◌, ◌^◌, List, length, refl, arith}
+use Rattle.std.proofs.Common.{◌≡◌, ◌≤◌, ◌<◌, ℕ, zero, suc, ◌+◌, ◌-◌, ◌*◌, ◌/◌, ◌%◌, ◌^◌, length, refl, arith}
 use Rattle.std.proofs.lemmas.List.FromFn.{length-map-range_with_len}
 use Rattle.sb_packet.specs.Scripts.{HasBody, IsOneWordIfAtomic, IsTransaction}
 use Rattle.sb_packet.specs.declared.transaction.Kind.{Kind}
 use Rattle.sb_packet.specs.declared.transaction.Kind.TheVariants.{Atomic, Posted, Read, Write}
-use Rattle.sb_gen.specs.Drawn.{body_of_kind, drawn_kind, drawn_count, drawn_address, drawn_size, drawn_span, drawn_transaction, rising_bytes, words_of_kind}
+use Rattle.sb_gen.specs.Drawn.{body_of_kind, drawn_kind, drawn_count, drawn_span, drawn_transaction, rising_bytes, words_of_kind}
 use Rattle.sb_gen.specs.declared.draws.Draws.{Draws}
 
 -- 1 to 16 words

@@ -1,5 +1,5 @@
 -- The network of every number is accepted.
-use Rattle.std.proofs.Common.{◌≡◌, ◌≤◌, ℕ, ◌+◌, ◌*◌, Bool, true, List, [], ◌∷◌, Option, None, filter, length, arith, refl}
+use Rattle.std.proofs.Common.{◌≡◌, ◌≤◌, ℕ, true, List, [], ◌∷◌, Option, None, filter, arith, refl}
 use Rattle.std.specs.Prelude.{All, codes}
 use Rattle.std.proofs.lemmas.List.Elements.{All-cons, All-filter, All-head, All-nil, All-tail}
 use Rattle.sb_packet.specs.Networks.{NetHost}
@@ -9,7 +9,7 @@ use Rattle.sb_flow.specs.Firsts.{first_told}
 use Rattle.sb_flow.specs.Limits.{is_limited, word_count}
 use Rattle.sb_flow.specs.Routes.{lost_of_host, lost_on_way, route_fault}
 use Rattle.sb_flow.specs.Ways.{aims_at}
-use Rattle.sb_gen.specs.Generated.{gen_host, gen_hosts, gen_network, gen_script, gen_transactions}
+use Rattle.sb_gen.specs.Generated.{gen_host, gen_hosts, gen_network}
 use Rattle.sb_gen.proofs.TransactionLists.{generated_are_transactions, length-gen_transactions, words_of_script}
 
 limited : (number : ℕ) → is_limited (gen_network number) ≡ true

@@ -1,5 +1,5 @@
 -- Rows that say what the generator says are those of its network.
-use Rattle.std.proofs.Common.{◌≡◌, ℕ, List, None, ap, length, map, refl, sym, ◌∙◌}
+use Rattle.std.proofs.Common.{◌≡◌, ℕ, List, None, ap, length, map, sym, ◌∙◌}
 use Rattle.std.proofs.lemmas.List.{length-map}
 use Rattle.sb_flow.specs.Rows.{device_of, host_of, link_of, net_router_of, rows_network}
 use Rattle.sb_flow.specs.declared.device_plan.DevicePlan.{DevicePlan}

@@ -1,6 +1,5 @@
 -- The network of every number is accepted, so its bundle keeps all facts.
-use Rattle.std.proofs.Common.{◌≡◌, None, subst, sym}
-use Rattle.sb_packet.specs.Networks.{Network}
+use Rattle.std.proofs.Common.{None, subst, sym}
 use Rattle.sb_flow.specs.Accepted.{IsAccepted}
 use Rattle.sb_flow.specs.Rows.{rows_network}
 use Rattle.sb_gen.proofs.GeneratedNetworks.{generated_is_accepted}

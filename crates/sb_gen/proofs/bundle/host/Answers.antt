@@ -1,5 +1,4 @@
 -- The transactions that are drawn can be issued.
-use Rattle.std.proofs.Common.{◌≡◌}
 use Rattle.std.proofs.lemmas.List.Elements.{All-same}
 use Rattle.sb_packet.specs.Scripts.{IsTransaction}
 use Rattle.sb_gen.specs.Generated.{gen_transactions}

@@ -1,5 +1,5 @@
 -- The bytes so far stand in the room that was taken for all.
-use Rattle.std.proofs.Common.{◌≡◌, map, vec_len}
+use Rattle.std.proofs.Common.{◌≡◌, vec_len}
 use Rattle.std.specs.Prelude.{vec_capacity}
 use Rattle.sb_gen.specs.Drawn.{rising_bytes}
 use Rattle.sb_gen.proofs.draws.rising_bytes.Given as goal

@@ -2,7 +2,6 @@
 use Rattle.std.proofs.Common.{◌≡◌, ℕ, ◌+◌, ◌*◌, ◌∙◌, ap, arith, sym}
 use Rattle.sb_gen.specs.Congruence.{state_after}
 use Rattle.sb_gen.specs.Drawn.{draws_of, drawn_transaction}
-use Rattle.sb_gen.specs.Generated.{gen_transaction}
 use Rattle.sb_gen.specs.declared.draws.Draws.{Draws}
 use Rattle.sb_gen.proofs.States.{no_draw, state_after_more}
 use Rattle.sb_gen.proofs.TransactionLists.{draws_behind, no_transactions, transactions_more}

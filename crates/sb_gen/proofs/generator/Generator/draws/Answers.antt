@@ -1,6 +1,4 @@
 -- Six draws, one after another.
-use Rattle.std.proofs.Common.{◌≡◌, ℕ}
-use Rattle.sb_gen.specs.Congruence.{state_after}
 use Rattle.sb_gen.proofs.States.{state_of_next, value_of_next}
 use Rattle.sb_gen.proofs.generator.Generator.draws.Goals as goal
 

@@ -1,5 +1,5 @@
 -- One step of the congruence is one draw.
-use Rattle.std.proofs.Common.{◌≡◌, ℕ, ◌/◌, ◌^◌, ap, ◌∙◌}
+use Rattle.std.proofs.Common.{ℕ, ◌/◌, ◌^◌, ap, ◌∙◌}
 use Rattle.sb_gen.proofs.States.{one_draw, one_drawn}
 use Rattle.sb_gen.proofs.generator.Generator.next.Goals as goal
 
