@@ -11,11 +11,15 @@ use std::alloc::{AllocError, Global};
 pub struct Draws {
     /// The kind, and the first byte of the body.
     pub kind: u32,
+    /// The size of a word.
     pub size: u32,
+    /// The device.
     pub device: u32,
+    /// The number of words.
     pub words: u32,
+    /// The page of the device.
     pub page: u32,
-    /// The place in the page.
+    /// The word's place in the page.
     pub place: u32,
 }
 
@@ -60,6 +64,7 @@ fn body(alloc: Global, kind: Kind, first: u32, span: u32) -> Result<Vec<u8>, All
 }
 
 impl Draws {
+    /// The kind: one of five.
     fn drawn_kind(self) -> Kind
         ensures { result ≡ kind_of self }
     {
