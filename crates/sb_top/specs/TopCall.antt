@@ -19,7 +19,6 @@ use Rattle.sb_gen.specs.Summaries.{gen_text}
 use Rattle.sb_top.specs.BundleRuns.{RanNetwork}
 use Rattle.sb_top.specs.Effects.{Effects, IsUntouched}
 use Rattle.sb_top.specs.Inputs.{HasRead, reads_input}
-use Rattle.sb_top.specs.Judgements.{Approved, IsJudged, RefusedReport, RejectedReport}
 use Rattle.sb_top.specs.Refusals.{load_fault_words, refusal_text, script_fault_words}
 use Rattle.sb_top.specs.Solo.{solo_network, IsSoloJournal}
 
@@ -50,7 +49,6 @@ abbrev pub Ran : Command → List ℕ → Effects → List ℕ → Type 0
 Ran commands.Solo input effects text = RanScript input effects.journal text × (effects.made ≡ [])
 Ran (commands.Replay order history) input effects text = RanBundle history input effects text
 Ran (commands.Run workers history) input effects text = RanBundle history input effects text
-Ran commands.Check input effects text = Approved input text × IsUntouched effects
 Ran (commands.Gen number) input effects text = RanGenerated number effects text
 
 -- The input is no script, and the text names its first fault.
@@ -70,16 +68,7 @@ abbrev pub Refused : Command → List ℕ → List ℕ → Type 0
 Refused commands.Solo input text = RefusedScript input text
 Refused (commands.Replay order history) input text = RefusedBundle input text
 Refused (commands.Run workers history) input text = RefusedBundle input text
-Refused commands.Check input text = RefusedReport input text
 Refused (commands.Gen number) input text = ⊥
-
--- A command found that a report isn't that of a lawful run.
-abbrev pub Rejected : Command → List ℕ → List ℕ → Type 0
-Rejected commands.Solo input text = ⊥
-Rejected (commands.Replay order history) input text = ⊥
-Rejected (commands.Run workers history) input text = ⊥
-Rejected commands.Check input text = RejectedReport input text
-Rejected (commands.Gen number) input text = ⊥
 
 -- The words ask for a command, what it reads was read, and it was done.
 pub record IsRun (words : List (List ℕ)) (before after : Option (List ℕ)) (effects : Effects) (text : List ℕ) : Type 0 where
@@ -96,15 +85,6 @@ pub record IsRefusal (words : List (List ℕ)) (before after : Option (List ℕ)
   pub input : List ℕ
   pub read : HasRead command before after input
   pub refused : Refused command input text
-  pub untouched : IsUntouched effects
-
--- The words ask for a command, what it reads was read, and it rejected the report that it judged.
-pub record IsRejection (words : List (List ℕ)) (before after : Option (List ℕ)) (effects : Effects) (text : List ℕ) : Type 0 where
-  pub command : Command
-  pub asked : command_in words ≡ Some command
-  pub input : List ℕ
-  pub read : HasRead command before after input
-  pub rejected : Rejected command input text
   pub untouched : IsUntouched effects
 
 -- The words ask for no command, and nothing was read.
@@ -140,12 +120,11 @@ pub record WrotePart (IsText : List ℕ → Type 0) (before after : Option (List
 abbrev pub IsAnyText : List (List ℕ) → Option (List ℕ) → Option (List ℕ) → Effects → List ℕ → Type 0
 IsAnyText words before after effects text =
     IsUsage words before after effects text ⊎ (IsRun words before after effects text
-    ⊎ (IsRefusal words before after effects text ⊎ (IsRejection words before after effects text ⊎ IsTooLong words before after effects text)))
+    ⊎ (IsRefusal words before after effects text ⊎ IsTooLong words before after effects text))
 
--- An input has no fault: it spells a script, a bundle that is accepted, or such a bundle and a report. Nothing that isn't read has a fault.
+-- An input has no fault: it spells a script, or a bundle that is accepted. What isn't read has none.
 abbrev pub IsFaultless : Command → List ℕ → Type 0
 IsFaultless commands.Solo input = (script : List Txn) × script_of_text input ≡ Ok script
 IsFaultless (commands.Replay order history) input = (network : Network) × bundle_of input ≡ Ok network
 IsFaultless (commands.Run workers history) input = (network : Network) × bundle_of input ≡ Ok network
-IsFaultless commands.Check input = IsJudged input
 IsFaultless (commands.Gen number) input = Unit {0}

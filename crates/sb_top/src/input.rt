@@ -56,12 +56,13 @@ fn reads_input(command: Command) -> bool
     ensures { result ≡ reads_input command }
 {
     match command {
-        Command::Solo | Command::Replay { .. } | Command::Run { .. } | Command::Check => true,
+        Command::Solo | Command::Replay { .. } | Command::Run { .. } => true,
         Command::Gen { .. } => false,
     }
 }
 
 /// Reads what a command reads: the whole source, or nothing.
+#[tactic(auto, using(crate::proofs::ReadLemmas::read_whole, crate::proofs::ReadLemmas::read_nothing))]
 pub fn read_for<S: Source>(
     alloc: Global,
     command: Command,

@@ -3,7 +3,6 @@
 
 mod bundle_command;
 mod bundle_run;
-mod check_command;
 mod command;
 mod gen_command;
 mod input;
@@ -26,6 +25,4 @@ pub use sb_io::{ReaderSource, WriterSink};
 pub use sb_link::SerialFabric;
 pub use sb_packet::Journal;
 pub use sb_ring::RingFabric;
-pub use status::{
-    DONE, OUT_OF_MEMORY, READ_FAILED, REFUSED, REJECTED, TOO_LONG, USAGE, WRITE_FAILED,
-};
+pub use status::{DONE, OUT_OF_MEMORY, READ_FAILED, REFUSED, TOO_LONG, USAGE, WRITE_FAILED};

@@ -1,7 +1,7 @@
 -- What some words ask for, computed.
 use Rattle.std.proofs.Common.{◌≡◌, refl, codes, Some, None, true, false, [], ◌∷◌}
 use Rattle.clap.proofs.OnLiterals.{clap_on_literals}
-use Rattle.sb_words.specs.declared.command.Command.TheVariants.{Check, Gen, Replay, Run, Solo}
+use Rattle.sb_words.specs.declared.command.Command.TheVariants.{Gen, Replay, Run, Solo}
 use Rattle.sb_words.specs.Commands.{command_in}
 
 -- ---- what is taken
@@ -107,14 +107,6 @@ run_with_seventeen = refl
 run_with_none : command_in (codes "run" ∷ codes "--workers=0" ∷ []) ≡ None
 unfolding clap_on_literals
 run_with_none = refl
-
-check : command_in (codes "check" ∷ []) ≡ Some Check
-unfolding clap_on_literals
-check = refl
-
-check_with_a_word : command_in (codes "check" ∷ codes "it" ∷ []) ≡ None
-unfolding clap_on_literals
-check_with_a_word = refl
 
 gen_with_zeros : command_in (codes "gen" ∷ codes "0000000007" ∷ []) ≡ Some (Gen 7)
 unfolding clap_on_literals
