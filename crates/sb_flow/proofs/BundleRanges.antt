@@ -7,13 +7,13 @@ use Rattle.std.specs.Vec.{vec_len}
 use Rattle.sb_packet.specs.Networks.{device_size}
 use Rattle.sb_link.specs.RingPlans.{AddressRange, AreApart, RingFlows}
 use Rattle.sb_flow.specs.Rings.{network_ranges, range_of}
-use Rattle.sb_link.specs.Plans.{AreInRange, bits_of, ranges_of}
+use Rattle.sb_link.specs.Plans.{AreInRange, AreWholePages, bits_of, ranges_of}
 use Rattle.sb_flow.specs.Rows.{device_of}
 use Rattle.sb_flow.specs.NetworkOf.{network_of}
 use Rattle.sb_flow.specs.declared.bundle.Bundle.{Bundle}
 use Rattle.sb_flow.specs.declared.device_plan.DevicePlan.{DevicePlan}
 use Rattle.sb_flow.proofs.Bundles.{accepted, device_count, few_devices}
-use Rattle.sb_flow.proofs.RangeTables.{ranges_apart, ranges_are, ranges_in_range, used_ranges}
+use Rattle.sb_flow.proofs.RangeTables.{ranges_apart, ranges_are, ranges_in_range, ranges_paged, used_ranges}
 
 -- what the code fills in of a bundle's devices
 pub record IsFilled (b : Bundle) (count : ℕ) (base bytes : List ℕ) : Type 0 where
@@ -35,6 +35,9 @@ filled_apart b count base bytes filled = subst (λ (ranges : List AddressRange).
 
 pub filled_in_range : (b : Bundle) (count : ℕ) (base bytes : List ℕ) → IsFilled b count base bytes → AreInRange (take count (ranges_of base bytes))
 filled_in_range b count base bytes filled = subst (λ (ranges : List AddressRange). AreInRange ranges) (sym (used_places b count base bytes filled)) (ranges_in_range (network_of b) (accepted b))
+
+pub filled_paged : (b : Bundle) (count : ℕ) (base bytes : List ℕ) → IsFilled b count base bytes → AreWholePages (take count (ranges_of base bytes))
+filled_paged b count base bytes filled = subst (λ (ranges : List AddressRange). AreWholePages ranges) (sym (used_places b count base bytes filled)) (ranges_paged (network_of b) (accepted b))
 
 -- the flows of a plan
 pub filled_flows : (b : Bundle) (count : ℕ) (base bytes through : List ℕ) → IsFilled b count base bytes → let flows : RingFlows = record { devices = count; ranges = ranges_of base bytes; through = map bits_of through } in flows ≡ record { devices = length (network_of b).devices; ranges = network_ranges (network_of b); through = map bits_of through }

@@ -1,5 +1,5 @@
 -- The limits of the hosts of a network, and the words of their scripts.
-use Rattle.std.proofs.Common.{◌≡◌, ◌≤◌, ◌<◌, ℕ, zero, suc, arith, sym, ap, subst, ◌∙◌, length, List, [], ◌∷◌, Bool, true}
+use Rattle.std.proofs.Common.{◌≡◌, ◌≤◌, ◌<◌, ℕ, zero, suc, arith, sym, subst, length, List, [], ◌∷◌, Bool, true}
 use Rattle.std.specs.Prelude.{◌&&◌, get_or, nat_le}
 use Rattle.std.specs.List.{list_all}
 use Rattle.std.proofs.lemmas.Bool.{and_parts}

@@ -3,14 +3,15 @@ use Rattle.std.proofs.Common.{◌≡◌, ◌≤◌, ◌<◌, ℕ, zero, suc, ◌
 use Rattle.std.specs.Prelude.{◌==◌, nat_le, option_map, slice_get, slice_index_or}
 use Rattle.std.specs.List.{AllByRecursion, range_with_len}
 use Rattle.std.specs.Option.{option_map_or}
-use Rattle.std.proofs.lemmas.Bool.{and_parts, leb-true}
+use Rattle.std.proofs.Math.Nat.{mul-mod_left}
+use Rattle.std.proofs.lemmas.Bool.{and_parts, eqb-true, leb-true}
 use Rattle.std.proofs.lemmas.List.{get_or-map, length-map}
 use Rattle.std.proofs.lemmas.List.Elements.{All-from_recursion, All-map}
 use Rattle.std.proofs.lemmas.List.FromFn.{fill_by_all, get_or-map-range_with_len, take-map-range_with_len}
 use Rattle.sb_packet.specs.Networks.{NetDevice, Network, device_size}
 use Rattle.sb_link.specs.RingPlans.{AddressRange, AreApart, are_apart}
 use Rattle.sb_flow.specs.Rings.{network_ranges, range_of}
-use Rattle.sb_link.specs.Plans.{AreInRange, ranges_of}
+use Rattle.sb_link.specs.Plans.{AreInRange, AreWholePages, ranges_of}
 use Rattle.sb_flow.specs.Accepted.{IsAccepted}
 use Rattle.sb_flow.specs.Ranges.{is_placed_device}
 use Rattle.sb_flow.specs.Rows.{device_of}
@@ -87,3 +88,11 @@ ranges_in_range network good = All-map (λ (r : AddressRange). r.base + r.bytes 
     each : (devices : List NetDevice) → AllByRecursion (λ d. is_placed_device d ≡ true) devices → AllByRecursion (λ (d : NetDevice). (range_of d).base + (range_of d).bytes ≤ 2 ^ 56) devices
     each [] h = tt
     each (d ∷ devices) h = (leb-true (d.base + device_size d) (2 ^ 56) (and_parts (d.base % 4096 == 0) (nat_le (d.base + device_size d) (2 ^ 56)) h.0).1, each devices h.1)
+
+-- and are whole pages
+pub ranges_paged : (network : Network) → IsAccepted network → AreWholePages (map range_of network.devices)
+ranges_paged network good = All-map (λ (r : AddressRange). (r.base % 4096 ≡ 0) × (r.bytes % 4096 ≡ 0)) range_of network.devices (All-from_recursion (λ (d : NetDevice). ((range_of d).base % 4096 ≡ 0) × ((range_of d).bytes % 4096 ≡ 0)) network.devices (each network.devices (all_pass is_placed_device 0 network.devices good.placed)))
+  where
+    each : (devices : List NetDevice) → AllByRecursion (λ d. is_placed_device d ≡ true) devices → AllByRecursion (λ (d : NetDevice). ((range_of d).base % 4096 ≡ 0) × ((range_of d).bytes % 4096 ≡ 0)) devices
+    each [] h = tt
+    each (d ∷ devices) h = ((eqb-true (d.base % 4096) 0 (and_parts (d.base % 4096 == 0) (nat_le (d.base + device_size d) (2 ^ 56)) h.0).0, mul-mod_left d.pages 4096), each devices h.1)

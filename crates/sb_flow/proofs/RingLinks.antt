@@ -2,14 +2,14 @@
 use Rattle.std.proofs.Common.{◌≡◌, ◌≤◌, ◌<◌, ℕ, ◌/◌, Bool, true, false, ◌&&◌, List, [], ◌∷◌, length, get_or, refl, ap, sym, ◌∙◌, arith, Option, Some, None, subst, ltb-true}
 use Rattle.std.specs.Prelude.{◌==◌, nat_le, nat_lt, slice_get, if◌then◌else◌}
 use Rattle.std.specs.List.{AllByRecursion, list_all}
-use Rattle.std.proofs.lemmas.Bool.{and_parts, eqb-true, leb-true}
+use Rattle.std.proofs.lemmas.Bool.{and_parts, leb-true}
 use Rattle.std.proofs.lemmas.List.{get_or-map, length-map}
 use Rattle.std.proofs.lemmas.List.Elements.{All-from_recursion, All-get_or}
 use Rattle.sb_packet.specs.Networks.{NetLink, Network}
 use Rattle.sb_flow.specs.Rings.{ring_link}
 use Rattle.sb_link.specs.Plans.{IsRingWidth}
 use Rattle.sb_flow.specs.Accepted.{IsAccepted}
-use Rattle.sb_flow.specs.Ends.{is_width_now}
+use Rattle.sb_flow.specs.Ends.{is_link_width}
 use Rattle.sb_flow.specs.Limits.{is_limited, is_limited_link}
 use Rattle.sb_flow.specs.Names.{is_link_there, is_there}
 use Rattle.sb_flow.specs.Rows.{link_of}
@@ -53,9 +53,8 @@ link_got b k row there at = slice_get-there (network_of b).links k (link_of row)
 -- it has a width that there is, and room for 1 to 1,024 items
 pub link_width : (b : Bundle) (k : ℕ) (row : LinkRow) → k < length b.links.items → row ≡ get_or b.links.items k row → IsRingWidth row.width
 link_width b k row there at =
-    let now : is_width_now (get_or (network_of b).links k (link_of row)).width ≡ true = All-get_or (λ (l : NetLink). is_width_now l.width ≡ true) (network_of b).links k (link_of row) (omega (arith, length-map b.links.items link_of)) (All-from_recursion (λ (l : NetLink). is_width_now l.width ≡ true) (network_of b).links (all_pass (λ (l : NetLink). is_width_now l.width) 0 (network_of b).links b.widths)) in
-    let same : row.width ≡ 32 = eqb-true row.width 32 (rw (link_there b k row (link_of row) there at) at now) in
-    rw same refl
+    let passes : is_link_width (get_or (network_of b).links k (link_of row)).width ≡ true = All-get_or (λ (l : NetLink). is_link_width l.width ≡ true) (network_of b).links k (link_of row) (omega (arith, length-map b.links.items link_of)) (All-from_recursion (λ (l : NetLink). is_link_width l.width ≡ true) (network_of b).links (all_pass (λ (l : NetLink). is_link_width l.width) 0 (network_of b).links b.widths)) in
+    subst (λ (l : NetLink). is_link_width l.width ≡ true) (link_there b k row (link_of row) there at) passes
 
 pub link_limits : (network : Network) → is_limited network ≡ true → list_all is_limited_link network.links ≡ true
 link_limits network h = grind (arith, h)

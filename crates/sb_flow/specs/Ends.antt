@@ -6,13 +6,13 @@ use Rattle.sb_packet.specs.Networks.{NetPlace, NetLink, Network, at_host, at_rou
 use Rattle.sb_packet.specs.Sides.{leaves_from, side_at}
 use Rattle.sb_flow.specs.Ways.{is_some_number}
 
--- the widths that a link may have, in bytes; the others come when packets are cut
-abbrev pub is_width_now : ℕ → Bool
-is_width_now width = width == 32
+-- the widths that a link may have, in bytes
+abbrev pub is_link_width : ℕ → Bool
+is_link_width width = (width == 8) || (width == 16) || (width == 32)
 
 -- The first link of another width.
 abbrev pub odd_width : Network → Option ℕ
-odd_width network = position_from (λ l. not (is_width_now l.width)) 0 network.links
+odd_width network = position_from (λ l. not (is_link_width l.width)) 0 network.links
 
 -- a link goes from a host to a router, from a router to a router, or from a router to a device
 abbrev pub joins : NetPlace → NetPlace → Bool

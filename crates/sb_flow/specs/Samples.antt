@@ -23,6 +23,10 @@ chain_router r = record { name = label 114 r; side = if nat_lt r 16 then 0 else 
 abbrev pub chain_device : NetDevice
 chain_device = record { name = label 100 0; base = 4096; pages = 1; readonly = false; image = [] }
 
+-- the wire is the narrowest link, and the links before it are the widest
+abbrev pub chain_width : ℕ → ℕ
+chain_width k = if nat_lt k 16 then 32 else if k == 16 then 8 else 16
+
 -- link k leads to router k, and the last one to the device
 abbrev pub chain_start : ℕ → NetPlace
 chain_start k = if k == 0 then at_host 0 else at_router (k - 1)
@@ -31,7 +35,7 @@ abbrev pub chain_end : ℕ → NetPlace
 chain_end k = if k == 32 then at_device 0 else at_router k
 
 abbrev pub chain_link : ℕ → NetLink
-chain_link k = record { name = label 108 k; from = chain_start k; to = chain_end k; width = 32; capacity = k + 1 }
+chain_link k = record { name = label 108 k; from = chain_start k; to = chain_end k; width = chain_width k; capacity = k + 1 }
 
 -- the whole
 abbrev pub chain : Network

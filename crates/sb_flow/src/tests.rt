@@ -113,12 +113,19 @@ fn chain_link(number: u8) -> Result<LinkRow, Fail>
     } else {
         Place::Router(number)
     };
+    let width = if number < 16 {
+        32
+    } else if number == 16 {
+        8
+    } else {
+        16
+    };
     let capacity = u16::from(number) + 1;
     Ok(LinkRow {
         name,
         from,
         to,
-        width: 32,
+        width,
         capacity,
     })
 }
@@ -201,11 +208,11 @@ fn chain_is_planned(rt: HostRuntime) -> Result<(), Fail> {
     let far_up = paths.plan(&bundle, 67);
     assert_eq!(rt;
         (down.ring, down.up, down.width, down.capacity, down.budget),
-        (32, false, 32, 17, 3)
+        (32, false, 8, 17, 3)
     );
     assert_eq!(rt;
         (up.ring, up.up, up.width, up.capacity, up.budget),
-        (33, true, 32, 17, 2)
+        (33, true, 8, 17, 2)
     );
     assert_eq!(rt;
         (
@@ -215,7 +222,7 @@ fn chain_is_planned(rt: HostRuntime) -> Result<(), Fail> {
             far_down.capacity,
             far_down.budget
         ),
-        (66, false, 32, 17, 3)
+        (66, false, 8, 17, 3)
     );
     assert_eq!(rt;
         (
@@ -225,7 +232,7 @@ fn chain_is_planned(rt: HostRuntime) -> Result<(), Fail> {
             far_up.capacity,
             far_up.budget
         ),
-        (67, true, 32, 17, 2)
+        (67, true, 8, 17, 2)
     );
     assert_eq!(rt; down.flows.count, 1);
     assert_eq!(rt; down.flows.base, far_up.flows.base);

@@ -1,5 +1,5 @@
 -- What the plain types of links say, in the words of the definitions.
-use Rattle.std.specs.Prelude.{ℕ, ◌+◌, ◌/◌, ◌^◌, ◌%◌, ◌≤◌, Bool, ◌==◌, ◌||◌, ◌&&◌, ◌-◌, nat_le, IsTrue, List, map, All, slice_index_or}
+use Rattle.std.specs.Prelude.{ℕ, ◌+◌, ◌/◌, ◌^◌, ◌%◌, ◌≡◌, ◌≤◌, Bool, ◌==◌, ◌||◌, ◌&&◌, ◌-◌, nat_le, IsTrue, List, map, All, slice_index_or}
 use Rattle.std.specs.List.{range_with_len}
 use Rattle.sb_link.specs.RingPlans.{AddressRange, NetFlow}
 use Rattle.sb_link.specs.declared.flow.Flow.{Flow}
@@ -19,6 +19,10 @@ has_bytes address bytes range = nat_le range.0 address && (nat_le bytes range.1 
 -- the 32 binary digits of a number, the lowest first
 abbrev pub bits_of : ℕ → List Bool
 bits_of n = map (λ k. n / 2 ^ k % 2 == 1) (range_with_len 0 32)
+
+-- each range is a number of whole pages of 4,096 bytes
+abbrev pub AreWholePages : List AddressRange → Type 0
+AreWholePages ranges = All (λ r. (r.base % 4096 ≡ 0) × (r.bytes % 4096 ≡ 0)) ranges
 
 -- each range ends at most at 2 ^ 56
 abbrev pub AreInRange : List AddressRange → Type 0

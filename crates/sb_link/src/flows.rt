@@ -2,11 +2,11 @@
 
 ghost use Rattle.std.specs.Prelude.{◌≡◌, ◌≤◌, length, take};
 ghost use Rattle.sb_link.specs.RingPlans.{AreApart};
-ghost use Rattle.sb_link.specs.Plans.{AreInRange, ranges_of};
+ghost use Rattle.sb_link.specs.Plans.{AreInRange, AreWholePages, ranges_of};
 
 /// The ranges of a network's devices, and which flows go over a ring.
 ///
-/// The ranges are disjoint, and each ends at most at `2^56`.
+/// The ranges are disjoint, each is a number of whole pages of 4,096 bytes, and each ends at most at `2^56`.
 #[derive(Clone, Copy, Debug, PartialEq, Eq)]
 pub struct Flows {
     /// The number of devices, at most 32.
@@ -22,5 +22,6 @@ pub struct Flows {
     pub ghost lengths: { length bytes ≡ 32 },
     pub ghost hosts: { length through ≡ 32 },
     pub ghost apart: { AreApart (take count (ranges_of base bytes)) },
+    pub ghost paged: { AreWholePages (take count (ranges_of base bytes)) },
     pub ghost in_range: { AreInRange (take count (ranges_of base bytes)) },
 }

@@ -1,7 +1,7 @@
--- The ranges are those of the bundle's devices, which lie apart.
+-- The ranges are those of the bundle's devices, which lie apart and are whole pages.
 use Rattle.std.proofs.Common.{ap, arith, length}
 use Rattle.sb_flow.proofs.Bundles.{device_count, few_devices}
-use Rattle.sb_flow.proofs.BundleRanges.{IsFilled, filled_apart, filled_in_range, filled_flows}
+use Rattle.sb_flow.proofs.BundleRanges.{IsFilled, filled_apart, filled_in_range, filled_paged, filled_flows}
 use Rattle.sb_flow.proofs.ranges.flows.Goals as goal
 
 -- what the calls gave
@@ -15,6 +15,7 @@ invariant_of-result c = record {
   lengths = ap length c.sizes.ensures;
   hosts = c.requires;
   apart = filled_apart c.args.bundle.now c.len.result c.bases.result c.sizes.result (filled c);
+  paged = filled_paged c.args.bundle.now c.len.result c.bases.result c.sizes.result (filled c);
   in_range = filled_in_range c.args.bundle.now c.len.result c.bases.result c.sizes.result (filled c);
 }
 

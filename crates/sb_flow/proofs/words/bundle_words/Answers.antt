@@ -1,5 +1,5 @@
 -- The words of the bundle's hosts are those of its network.
-use Rattle.std.proofs.Common.{◌≡◌, ◌≤◌, List, ap, arith, ◌∙◌}
+use Rattle.std.proofs.Common.{List, ap, arith, ◌∙◌}
 use Rattle.std.specs.Prelude.{map, sum_by}
 use Rattle.sb_packet.specs.Networks.{NetHost}
 use Rattle.sb_flow.specs.Rows.{host_of}

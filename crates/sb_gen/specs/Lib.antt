@@ -1,0 +1,4 @@
+pub mod Congruence
+pub mod Drawn
+pub mod Generated
+pub mod Summary
