@@ -1,21 +1,41 @@
+#!/usr/bin/env python3
 """A judge of runs of networks: plain, slow, and written from docs/formats.md and the definition of a lawful journal alone, not
-from the nodes. It tells whether a run's journal is one that the network may have, and whether its states, bodies and memories
-are those that a replay of just this journal gives, word by word. Which of the lawful journals a run has is left open.
+from the nodes. It tells whether a report with its history is one that the network may have, byte by byte.
 
-A journal is lawful where
+    tools/net_model.py BUNDLE REPORT
+
+judges a report that `replay --history` or `run --history` printed of the bundle, and says `lawful`, or what is wrong with it.
+
+    tools/net_model.py BUNDLE
+
+prints the report, without its history, of a run in which the hosts' scripts are carried out one after another. Where the report
+of a bundle doesn't depend on the schedule, this is what each run has to print.
+
+A journal, which is what the entries of a history say, is lawful where
 1. at each device the words of each host that are aimed at it stand in it once, in the order of the script, as the script has them;
-2. each entry is of a host of the network, and each of its words lies in the entry's device;
-3. the rounds of its entries don't fall, and within a round the devices don't."""
+2. each entry is of a host of the network, each of its words lies in the entry's device, and all of them together are no more bytes
+   than the device's link is wide;
+3. the rounds of its entries don't fall, within a round the devices don't, and each round is below a bound.
+
+Which of the lawful journals a run has is left open. All else in a report follows from the journal: the answers, the codes and the
+memories are those of a replay of its entries, word by word."""
+import pathlib
+import re
 import sys
 
 sys.dont_write_bytecode = True
 import bundle_model
 import model
+from bundle_fields import Refused
 
 MOST_BYTES = 32
 READ, WRITE, POSTED, ATOMIC = 1, 3, 5, 9
 OPCODES = {b"rd": READ, b"wr": WRITE, b"wp": POSTED}
-CODES = {"ok": "0", "deverr": "2", "neterr": "3"}
+# from the least to the greatest: of the codes of a transaction's words the greatest is told
+CODES = "ok", "exok", "deverr", "neterr"
+ENTRY = re.compile("e (0|[1-9][0-9]*) ([a-z0-9_]+) ([0-9a-f]{8}) ([0-9a-f]{14}) ([0-9a-f]{14}) (-|(?:[0-9a-f]{2})+)")
+# a node moves at most so often for each word that may go over a ring, and for the ring's end: 4 times at each of the ring's ends
+MOVES = 8
 
 
 class Unlawful(Exception):
@@ -49,24 +69,50 @@ def device_of(bundle, address):
     return None
 
 
+def way(bundle, host_at, device_at):
+    """The numbers of the links from a host to a device."""
+    links, device = bundle["links"], bundle["devices"][device_at]["name"]
+    at = next(at for at, link in enumerate(links) if bundle_model.place_of(bundle, link["from"]) == ("host", host_at))
+    found = [at]
+    while (here := bundle_model.place_of(bundle, links[at]["to"]))[0] == "router":
+        at = bundle_model.number_of(links, bundle["routers"][here[1]]["routes"][device])
+        found.append(at)
+    return found
+
+
+def budgets(bundle):
+    """For each link how many words of requests go over it, and how many of answers."""
+    found = [[0, 0] for _ in bundle["links"]]
+    for host_at, host in enumerate(bundle["hosts"]):
+        for t in host["transactions"]:
+            target = device_of(bundle, t.address)
+            for at in way(bundle, host_at, target) if target is not None else ():
+                found[at][0] += t.count
+                found[at][1] += t.count if t.verb != b"wp" else 0
+    return found
+
+
+def round_bound(bundle):
+    """The number that each entry's round stays below."""
+    return sum(MOVES * (words + 1) for ring in budgets(bundle) for words in ring)
+
+
 def packet_words(command, dst, src, body):
-    """The words of a request by its command word, its addresses and its body; raises Unlawful where it is none."""
+    """The words of a request by its command word, its addresses and the bytes that it carries; raises Unlawful where it is none."""
     opcode, size, length = command & 31, command >> 5 & 7, command >> 8 & 255
     if opcode not in (READ, WRITE, POSTED, ATOMIC) or size > 3:
         raise Unlawful(f"command {command:08x} is no request")
     if command >> 23 & 15:
         raise Unlawful(f"command {command:08x} has EOF, EX or user bits")
     atomic, count = (length, 1) if opcode == ATOMIC else (0, length + 1)
-    carried = 0 if opcode == READ else count << size
     if count << size > MOST_BYTES:
         raise Unlawful(f"command {command:08x} speaks of more than {MOST_BYTES} bytes")
-    if any(body[carried:]):
-        raise Unlawful("a byte that isn't carried is not 0")
+    if len(body) != (0 if opcode == READ else count << size):
+        raise Unlawful(f"command {command:08x} has {len(body)} bytes")
     for at in range(count):
         here = at << size
         last = at == count - 1 and bool(command >> 22 & 1)
-        piece = body[here : here + (1 << size)] if carried else b""
-        yield Word(command >> 27, src + here, dst + here, size, opcode, atomic, piece, command >> 16 & 15, command >> 20 & 3, last)
+        yield Word(command >> 27, src + here, dst + here, size, opcode, atomic, body[here : here + (1 << size)], command >> 16 & 15, command >> 20 & 3, last)
 
 
 class Memory:
@@ -93,24 +139,6 @@ class Memory:
         return [(at, row.hex()) for at, row in found if any(row)]
 
 
-class Run:
-    """What a program printed of a run: the journal, the transactions, and the rows of memories."""
-
-    def __init__(self, text):
-        self.entries, self.transactions, self.rows = [], {}, {}
-        for line in text.splitlines():
-            kind, *rest = line.split(" ")
-            if kind == "e":
-                *numbers, body = rest
-                self.entries.append((*map(int, numbers), bytes.fromhex(body)))
-            elif kind == "t":
-                self.transactions[int(rest[0]), int(rest[1])] = rest[2], rest[3]
-            elif kind == "m":
-                self.rows.setdefault(int(rest[0]), []).append((int(rest[1]), rest[2]))
-            else:
-                raise Unlawful(f"a run printed {line!r}")
-
-
 def wanted_words(bundle):
     """By device and host's id: the words of the script that are aimed at the device, in order."""
     wanted = {}
@@ -122,15 +150,25 @@ def wanted_words(bundle):
     return wanted
 
 
+def kept(bundle, made):
+    """What is made of a bundle, made once."""
+    if made not in bundle:
+        bundle[made] = made(bundle)
+    return bundle[made]
+
+
 def replayed(bundle, entries):
     """Replays a journal. Gives the answer of each word by its source, and the memories; raises Unlawful where it isn't lawful."""
     memories = [Memory(device) for device in bundle["devices"]]
-    left = {key: iter(words) for key, words in wanted_words(bundle).items()}
-    answers, before = {}, (0, 0)
+    widths = {link["to"]: link["width"] for link in bundle["links"]}
+    left = {key: iter(words) for key, words in kept(bundle, wanted_words).items()}
+    answers, before, bound = {}, (0, 0), kept(bundle, round_bound)
     for number, (when, device, command, dst, src, body) in enumerate(entries):
         if (when, device) < before:
             raise Unlawful(f"entry {number} of round {when}, device {device} stands behind one of {before}")
-        before = when, device
+        if when >= bound:
+            raise Unlawful(f"entry {number} is of round {when}, where {bound} is the bound")
+        before, spoken = (when, device), 0
         for word in packet_words(command, dst, src, body):
             if device_of(bundle, word.address) != device:
                 raise Unlawful(f"entry {number} is at device {device}, and has a word at {word.address:#x}")
@@ -138,6 +176,9 @@ def replayed(bundle, entries):
             if due is None or due.fields != word.fields:
                 raise Unlawful(f"entry {number} has the word {word.fields}, where {due and due.fields} is due")
             answers[word.source] = memories[device].serve(word)
+            spoken += word.length
+        if spoken > widths[bundle["devices"][device]["name"]]:
+            raise Unlawful(f"entry {number} speaks of {spoken} bytes, more than its device's link is wide")
     for (device, host), words in left.items():
         missing = next(words, None)
         if missing is not None:
@@ -146,29 +187,103 @@ def replayed(bundle, entries):
 
 
 def outcome(host, index, t, answers):
-    """The state and the body that a transaction must have, as the program prints them."""
+    """The code and the body that a report tells of a transaction."""
     if t.verb == b"wp":
         return "posted", "-"
     zeros = b"" if t.verb == b"wr" else bytes(t.word)
     found = [answers.get(word.source, ("neterr", zeros)) for word in transaction_words(host, index, t)]
-    return max(CODES[code] for code, _ in found), b"".join(data for _, data in found).hex() or "-"
+    return max((code for code, _ in found), key=CODES.index), b"".join(data for _, data in found).hex() or "-"
+
+
+def history_lines(bundle, entries):
+    yield f"history {len(entries)}"
+    for when, device, command, dst, src, body in entries:
+        yield f"e {when} {bundle['devices'][device]['name']} {command:08x} {dst:014x} {src:014x} {body.hex() or '-'}"
+
+
+def result_lines(bundle, answers, memories):
+    for host in bundle["hosts"]:
+        yield f"host {host['name']} {len(host['transactions'])}"
+        for index, t in enumerate(host["transactions"]):
+            yield " ".join(("t", str(index), *outcome(host, index, t, answers)))
+    for device, memory in zip(bundle["devices"], memories):
+        yield f"device {device['name']} {device['pages']}"
+        for offset, row in memory.rows():
+            yield f"m {offset:05x} {row}"
+
+
+def report(bundle, entries, history):
+    """The report of the run that has this journal; raises Unlawful where it is no lawful one."""
+    told = result_lines(bundle, *replayed(bundle, entries))
+    lines = ["sb 1", *(history_lines(bundle, entries) if history else ()), *told, "end"]
+    return "".join(line + "\n" for line in lines).encode()
+
+
+def entries_in(bundle, text):
+    """The journal that the history of a report spells; raises Unlawful where its lines haven't their form."""
+    lines = text.decode("latin-1").split("\n")
+    counted = re.fullmatch("history (0|[1-9][0-9]*)", lines[1]) if len(lines) > 1 else None
+    if not counted:
+        raise Unlawful("line 2 is no `history N`")
+    numbers = {device["name"]: at for at, device in enumerate(bundle["devices"])}
+    entries = []
+    for number, line in enumerate(lines[2 : 2 + int(counted[1])], 3):
+        found = ENTRY.fullmatch(line)
+        if not found or found[2] not in numbers:
+            raise Unlawful(f"line {number} is no entry: {line[:80]!r}")
+        command, dst, src = (int(word, 16) for word in found.group(3, 4, 5))
+        entries.append((int(found[1]), numbers[found[2]], command, dst, src, b"" if found[6] == "-" else bytes.fromhex(found[6])))
+    return entries
+
+
+def first_difference(got, due):
+    got, due = got.split(b"\n"), due.split(b"\n")
+    at = next((at for at, (one, other) in enumerate(zip(got, due)) if one != other), min(len(got), len(due)))
+    return f"line {at + 1} is {got[at : at + 1]}, where {due[at : at + 1]} is due"
 
 
 def judge(bundle, text):
-    """Raises Unlawful where a run isn't one that the accepted bundle may have; else gives its journal's entries."""
-    run = Run(text)
-    answers, memories = replayed(bundle, run.entries)
-    for at, host in enumerate(bundle["hosts"]):
+    """Raises Unlawful where a report with its history isn't one that the accepted bundle may have; else gives its journal's entries."""
+    entries = entries_in(bundle, text)
+    due = report(bundle, entries, history=True)
+    if text != due:
+        raise Unlawful(first_difference(text, due))
+    return entries
+
+
+def in_turn(bundle):
+    """The answers and the memories of a run in which the hosts' scripts are carried out one after another, each word at once."""
+    answers, memories = {}, [Memory(device) for device in bundle["devices"]]
+    for host in bundle["hosts"]:
         for index, t in enumerate(host["transactions"]):
-            due, got = outcome(host, index, t, answers), run.transactions.pop((at, index), None)
-            if got != due:
-                raise Unlawful(f"transaction {index} of host {at} is told as {got}, not as {due}")
-    if run.transactions:
-        raise Unlawful(f"transactions are told that there aren't: {sorted(run.transactions)[:3]}")
-    for at, memory in enumerate(memories):
-        due, got = memory.rows(), run.rows.pop(at, [])
-        if got != due:
-            raise Unlawful(f"the memory of device {at} has the rows {got[:3]}, not {due[:3]}, or others behind them")
-    if run.rows:
-        raise Unlawful(f"memories are told that there aren't: {sorted(run.rows)}")
-    return run.entries
+            target = device_of(bundle, t.address)
+            for word in transaction_words(host, index, t) if target is not None else ():
+                answers[word.source] = memories[target].serve(word)
+    return answers, memories
+
+
+def report_in_turn(bundle):
+    return "".join(line + "\n" for line in ("sb 1", *result_lines(bundle, *in_turn(bundle)), "end")).encode()
+
+
+def main():
+    if len(sys.argv) not in (2, 3):
+        sys.exit("usage: net_model.py BUNDLE [REPORT]")
+    data, *texts = (pathlib.Path(name).read_bytes() for name in sys.argv[1:])
+    try:
+        bundle = bundle_model.accepted(data)
+        if texts:
+            print(f"lawful, with {len(judge(bundle, texts[0]))} entries")
+        else:
+            sys.stdout.write(report_in_turn(bundle).decode())
+    except Refused as fault:
+        print(f"refused {fault}")
+        return 3
+    except Unlawful as fault:
+        print(f"unlawful: {fault}")
+        return 1
+    return 0
+
+
+if __name__ == "__main__":
+    sys.exit(main())

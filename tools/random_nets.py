@@ -1,8 +1,9 @@
 """Networks to be run: random ones without a fault, and some that are made to stall if anything can, as the dictionaries and lists
-that JSON spells. All links are 32 bytes wide. The same seed makes the same network."""
+that JSON spells. The random ones have links of each width that there is, the others 32 bytes. The same seed makes the same network."""
 import sys
 
 sys.dont_write_bytecode = True
+import bundle_model
 import model
 from random_bundles import Lines, Maker
 
@@ -41,6 +42,8 @@ class Net(Maker):
         made, most = super().links(*ends), self.random.choice((1, 2, MOST_CAPACITY))
         for link in made:
             link["capacity"] = self.random.randint(1, most)
+            if len(bundle_model.WIDTHS) > 1:
+                link["width"] = self.random.choice(bundle_model.WIDTHS)
         return made
 
     def scripts(self, homes, spans, ways):

@@ -18,7 +18,7 @@ use crate::groups::deal;
 use crate::making::{Parts, parts_of};
 use crate::running::run_serial;
 use crate::settling::{Apart, SettledNet, settle_nodes};
-use crate::side_by_side::run_side_by_side;
+use crate::side_by_side::{Pace, USUAL_PACE, run_side_by_side};
 use sb_drive::{Gate, Group};
 use sb_flow::Bundle;
 use sb_link::{Fabric, MeetFabric};
@@ -145,12 +145,29 @@ impl<F: MeetFabric> Net<F> {
         ensures groups { length self.new.groups ≡ length self.old.groups }
         ensures dealt { IsDealt self.new.groups }
     {
+        self.run_at(rt, USUAL_PACE, gate, journal);
+    }
+
+    /// Runs it likewise, at another pace. Takes no memory but what the threads take.
+    pub fn run_at<R: Threads + Sync, G: Gate + Sync>(
+        &mut self,
+        rt: &R,
+        pace: Pace,
+        gate: &G,
+        journal: &mut Journal,
+    )
+        requires ready { (network : Network) × CanRun network self.old journal.old }
+        ensures run { (network : Network) → CanRun network self.old journal.old → RanToTheEnd network self.new journal.new.entries }
+        ensures groups { length self.new.groups ≡ length self.old.groups }
+        ensures dealt { IsDealt self.new.groups }
+    {
         run_side_by_side(
             rt,
             &mut self.groups,
             &self.joints,
             self.first_device,
             &mut self.collected,
+            pace,
             gate,
             journal,
         );

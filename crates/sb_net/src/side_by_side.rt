@@ -13,15 +13,26 @@ use sb_member::{Joint, Member, meet_rings};
 use sb_packet::Journal;
 use std::thread::Threads;
 
-// how many sweeps a group makes in a round at most, and how many of them in a row may move nothing
-const SWEEPS: u32 = 1_000_000;
+/// How long groups stay in a round. A run comes to the same end at every pace.
+#[derive(Clone, Copy, Debug, PartialEq, Eq)]
+pub struct Pace {
+    /// How many sweeps a group makes in a round at most; one is made in any case.
+    pub sweeps: u32,
+    /// How many of them in a row may move nothing.
+    pub patience: u32,
+}
 
-const PATIENCE: u32 = 1_000;
+/// The pace of a run, which was found by measurement.
+pub const USUAL_PACE: Pace = Pace {
+    sweeps: 1_000_000,
+    patience: 1_000,
+};
 
 // turns the nodes of all groups in a long round, each group on a thread of its own, and says whether one moved
 fn turn_groups<R: Threads + Sync, F: MeetFabric, G: Gate + Sync>(
     rt: &R,
     groups: &mut [Group<Member<F>>],
+    pace: Pace,
     number: u32,
     gate: &G,
 ) -> bool
@@ -32,7 +43,7 @@ fn turn_groups<R: Threads + Sync, F: MeetFabric, G: Gate + Sync>(
     ensures whole { All IsWholeMember (dealt_nodes (grouped_nodes groups.new)) }
     ensures gone { HasGone number (dealt_nodes (grouped_nodes groups.old)) (dealt_nodes (grouped_nodes groups.new)) result }
 {
-    round(rt, groups, SWEEPS, PATIENCE, number, gate)
+    round(rt, groups, pace.sweeps, pace.patience, number, gate)
 }
 
 /// Long rounds until no node moves. In each the groups turn side by side, by `round`; then, on the caller's thread, the
@@ -44,6 +55,7 @@ pub(crate) fn run_side_by_side<R: Threads + Sync, F: MeetFabric, G: Gate + Sync>
     joints: &[Joint],
     first: usize,
     collected: &mut [usize],
+    pace: Pace,
     gate: &G,
     journal: &mut Journal,
 )
@@ -55,7 +67,7 @@ pub(crate) fn run_side_by_side<R: Threads + Sync, F: MeetFabric, G: Gate + Sync>
     ensures dealt { IsDealt (grouped_nodes groups.new) }
 {
     for number in 0..u32::MAX {
-        if !turn_groups(rt, groups, number, gate) {
+        if !turn_groups(rt, groups, pace, number, gate) {
             return;
         }
         meet_rings(groups, joints);

@@ -162,6 +162,109 @@ fn lines_in_place_of_reports(rt: HostRuntime) -> Result<(), Fail> {
     Ok(())
 }
 
+/// Faults that are put into the example, and the lines that tell them.
+#[test]
+fn refusals(rt: HostRuntime) -> Result<(), Fail> {
+    let rows = [
+        (r#""links":["#, r#""lines":["#, "refused field links\n"),
+        (r#""to":"m1","#, "", "refused field links[5].to\n"),
+        (
+            r#""pages":1}"#,
+            r#""pages":0}"#,
+            "refused count devices[0].pages\n",
+        ),
+        (
+            r#""name":"r1""#,
+            r#""name":"r0""#,
+            "refused name routers[1].name\n",
+        ),
+        (r#""id":1,"#, r#""id":0,"#, "refused hostid 1\n"),
+        ("0x20000\",", "0x20800\",", "refused range 1\n"),
+        ("0x20000\",", "0x10000\",", "refused overlap 1 0\n"),
+        (
+            r#""to":"r2","width":32"#,
+            r#""to":"r2","width":12"#,
+            "refused width 3\n",
+        ),
+        (r#""to":"m0""#, r#""to":"cpu0""#, "refused end 4\n"),
+        (
+            r#"],"wire""#,
+            r#",{"name":"l8","from":"r1","to":"r0","width":32,"capacity":1}],"wire""#,
+            "refused backward 8\n",
+        ),
+        (
+            r#"{"name":"l0","from":"cpu0","to":"r0","width":32,"capacity":8},"#,
+            "",
+            "refused unlinked host 0\n",
+        ),
+        (
+            "rd 0x10000 3",
+            "rd 0x10001 3",
+            "refused script 0 2 aligned\n",
+        ),
+        (r#""m2":"l3","#, "", "refused route 0 2\n"),
+    ];
+    for (old, new, line) in rows {
+        let Some((front, back)) = EXAMPLE.split_once(old) else {
+            return Err("a part of the example")?;
+        };
+        let mut text = String::from_str(rt.alloc(), front)?;
+        text.push_str(new)?;
+        text.push_str(back)?;
+        let mut source = CleanSource::new(rt.alloc(), text.as_bytes(), 4096)?;
+        let mut sink = ByteSink::new(rt.alloc(), 64, 64, &[])?;
+        let mut fabric = SerialFabric::new(rt.alloc());
+        let ended = call(
+            &rt,
+            rt.alloc(),
+            &["replay"],
+            &mut source,
+            &mut sink,
+            &mut fabric,
+            &FreeGate,
+        )?;
+        assert_eq!(rt; ended, (3, 0), "at {line}");
+        assert_eq!(rt; sink.as_slice(), line.as_bytes());
+    }
+    Ok(())
+}
+
+/// A script with more words than a bundle may have is refused, and one with more lines than a script may have.
+#[test]
+fn too_much_of_a_script(rt: HostRuntime) -> Result<(), Fail> {
+    let rows = [
+        (1_025, r#""rd 0x10000 0 256""#, "refused budget 262400\n"),
+        (65_537, r#""?""#, "refused count hosts[0].script\n"),
+    ];
+    let Some((front, back)) = ONE_WRITE.split_once(r#""wr 0x10000 0 09""#) else {
+        return Err("the one line")?;
+    };
+    for (lines, text_of_line, line) in rows {
+        let mut text = String::from_str(rt.alloc(), front)?;
+        text.push_str(text_of_line)?;
+        for _ in 1..lines {
+            text.push_str(",")?;
+            text.push_str(text_of_line)?;
+        }
+        text.push_str(back)?;
+        let mut source = CleanSource::new(rt.alloc(), text.as_bytes(), 4096)?;
+        let mut sink = ByteSink::new(rt.alloc(), 64, 64, &[])?;
+        let mut fabric = SerialFabric::new(rt.alloc());
+        let ended = call(
+            &rt,
+            rt.alloc(),
+            &["replay"],
+            &mut source,
+            &mut sink,
+            &mut fabric,
+            &FreeGate,
+        )?;
+        assert_eq!(rt; ended, (3, 0), "at {line}");
+        assert_eq!(rt; sink.as_slice(), line.as_bytes());
+    }
+    Ok(())
+}
+
 // what the write ends with, where a call of the source or a call of the sink fails
 fn replay<R: Threads + Sync>(
     rt: &R,

@@ -7,7 +7,7 @@ use crate::example::EXAMPLE;
 use sb_drive::FreeGate;
 use sb_flow::Bundle;
 use sb_link::{MeetFabric, SerialFabric};
-use sb_net::{SettledNet, build};
+use sb_net::{Pace, SettledNet, USUAL_PACE, build};
 use sb_packet::{Code, Journal, TxnState};
 use sb_ring::RingFabric;
 use sb_topology::load;
@@ -175,7 +175,26 @@ fn own_rings_do_the_same(rt: HostRuntime) -> Result<(), Fail> {
     Ok(())
 }
 
-// a run of a bundle on so many threads, over own rings: its journal, and what remains
+// a run of a bundle on so many threads, over own rings, at that pace: its journal, and what remains
+fn run_at<R: Threads + Sync>(
+    rt: &R,
+    alloc: Global,
+    bundle: &Bundle,
+    workers: u32,
+    pace: Pace,
+) -> Result<(Journal, SettledNet), AllocError>
+    requires workers { 0 < workers }
+{
+    let mut fabric = RingFabric::new(alloc);
+    let mut net = build(alloc, bundle, workers, &mut fabric)?;
+    let mut journal = Journal::new(alloc);
+    journal.reserve(262_144)?;
+    net.run_at(rt, pace, &FreeGate, &mut journal);
+    let settled = net.settle(&mut fabric);
+    Ok((journal, settled))
+}
+
+// the same at the usual pace
 fn run_on_threads<R: Threads + Sync>(
     rt: &R,
     alloc: Global,
@@ -184,13 +203,7 @@ fn run_on_threads<R: Threads + Sync>(
 ) -> Result<(Journal, SettledNet), AllocError>
     requires workers { 0 < workers }
 {
-    let mut fabric = RingFabric::new(alloc);
-    let mut net = build(alloc, bundle, workers, &mut fabric)?;
-    let mut journal = Journal::new(alloc);
-    journal.reserve(262_144)?;
-    net.run(rt, &FreeGate, &mut journal);
-    let settled = net.settle(&mut fabric);
-    Ok((journal, settled))
+    run_at(rt, alloc, bundle, workers, USUAL_PACE)
 }
 
 /// The example's nine nodes on one thread, on two and on four, and on sixteen, of which seven have no node: however the
@@ -256,8 +269,24 @@ fn mark_found(settled: &SettledNet, host: u8, seen: &mut [bool]) -> bool
     true
 }
 
-/// Two hosts add one to a word a thousand times each: it ends at 2,000, and what they found are the numbers before that,
-/// each once.
+// whether two hosts added one to a word a thousand times each: it ended at 2,000, and what they found are the numbers
+// before that, each once
+fn counted(alloc: Global, journal: &Journal, settled: &SettledNet) -> Result<bool, AllocError> {
+    if settled.host_count() != 2 || settled.device_count() != 1 {
+        return Ok(false);
+    }
+    if settled.transaction_count(0) != 1_000 || settled.transaction_count(1) != 1_000 {
+        return Ok(false);
+    }
+    let mut seen = [false; 2_000];
+    let first = mark_found(settled, 0, &mut seen);
+    let second = mark_found(settled, 1, &mut seen);
+    let word = page(alloc, 0, &[0xd0, 0x07])?;
+    let ended = settled.image(0) == word.as_slice();
+    Ok(first && second && ended && journal.entries().len() == 2_000)
+}
+
+/// Two hosts add one to a word a thousand times each, on one thread and on four.
 #[test]
 fn two_hosts_count(rt: HostRuntime) -> Result<(), Fail> {
     let mut text = String::new(rt.alloc());
@@ -273,17 +302,34 @@ fn two_hosts_count(rt: HostRuntime) -> Result<(), Fail> {
         return Err("the bundle is accepted")?;
     };
     let (journal, settled) = run(rt.alloc(), &bundle, 5)?;
-    assert_eq!(rt; journal.entries().len(), 2_000);
-    if settled.host_count() != 2 || settled.device_count() != 1 {
-        return Err("two hosts and a memory")?;
+    assert!(rt; counted(rt.alloc(), &journal, &settled)?);
+    let (journal, settled) = run_on_threads(&rt, rt.alloc(), &bundle, 4)?;
+    assert!(rt; counted(rt.alloc(), &journal, &settled)?);
+    Ok(())
+}
+
+/// Nothing that is promised of a run hangs on how long its rounds are: the example ends the same where each round is one
+/// sweep, and where a group leaves at once when nothing moves.
+#[test]
+fn every_pace_is_good(rt: HostRuntime) -> Result<(), Fail> {
+    let Ok(bundle) = load(rt.alloc(), EXAMPLE.as_bytes()) else {
+        return Err("the example is accepted")?;
+    };
+    let (_, serial) = run(rt.alloc(), &bundle, 0)?;
+    let one_sweep = Pace {
+        sweeps: 1,
+        ..USUAL_PACE
+    };
+    let impatient = Pace {
+        patience: 1,
+        ..USUAL_PACE
+    };
+    for pace in [one_sweep, impatient] {
+        for workers in [1, 4] {
+            let (journal, settled) = run_at(&rt, rt.alloc(), &bundle, workers, pace)?;
+            assert_eq!(rt; journal.entries().len(), 9, "{workers} workers");
+            assert!(rt; tell_the_same(&settled, &serial), "{workers} workers");
+        }
     }
-    if settled.transaction_count(0) != 1_000 || settled.transaction_count(1) != 1_000 {
-        return Err("a thousand transactions each")?;
-    }
-    let mut seen = [false; 2_000];
-    assert!(rt; mark_found(&settled, 0, &mut seen));
-    assert!(rt; mark_found(&settled, 1, &mut seen));
-    let word = page(rt.alloc(), 0, &[0xd0, 0x07])?;
-    assert_eq!(rt; settled.image(0), word.as_slice());
     Ok(())
 }

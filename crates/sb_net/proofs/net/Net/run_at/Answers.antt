@@ -7,7 +7,7 @@ use Rattle.sb_net.specs.Nets.{CanRun}
 use Rattle.sb_net.specs.Running.{HasRun}
 use Rattle.sb_net.proofs.RunsLent.{ready_lent}
 use Rattle.sb_net.proofs.Told.{of_both, still_apart}
-use Rattle.sb_net.proofs.net.Net.run.Goals as goal
+use Rattle.sb_net.proofs.net.Net.run_at.Goals as goal
 
 pub run_side_by_side-requires-clause-ready : goal.run_side_by_side-requires-clause-ready
 run_side_by_side-requires-clause-ready g c κs within =
