@@ -14,8 +14,8 @@ use Rattle.sb_fields.specs.declared.fault.LoadFault.{LoadFault}
 use Rattle.sb_words.specs.Commands.{command_in}
 use Rattle.sb_words.specs.declared.command.Command.{Command}
 use Rattle.sb_words.specs.declared.command.Command.TheVariants as commands
-use Rattle.sb_gen.specs.GenNetworks.{gen_network}
-use Rattle.sb_gen.specs.Summaries.{gen_text}
+use Rattle.sb_gen.specs.Generated.{gen_network}
+use Rattle.sb_gen.specs.Summary.{gen_text}
 use Rattle.sb_top.specs.BundleRuns.{RanNetwork}
 use Rattle.sb_top.specs.Effects.{Effects, IsUntouched}
 use Rattle.sb_top.specs.Inputs.{HasRead, reads_input}
