@@ -7,6 +7,7 @@ pub mod StatusLemmas
 pub mod SoloExamples
 pub mod IssueLemmas
 pub mod InputLemmas
+pub mod ReadLemmas
 pub mod RowLemmas
 pub mod StepLemmas
 pub mod UnreachedLemmas

@@ -1,5 +1,5 @@
 -- What the top call did, by the status with which it ended.
-use Rattle.std.specs.Prelude.{ℕ, ◌≡◌, ◌⊎◌, ◌≤◌, ◌<◌, ◌+◌, ◌^◌, Bool, false, List, [], length, drop, codes, Option, Some, None, IfSome, option_map, Ok, Err}
+use Rattle.std.specs.Prelude.{ℕ, ◌≡◌, ◌⊎◌, ◌≤◌, ◌<◌, ◌+◌, ◌^◌, Bool, true, false, List, [], length, drop, codes, Option, Some, None, IfSome, option_map, Ok, Err}
 use Rattle.sb_packet.specs.Journals.{IsLawful}
 use Rattle.sb_packet.specs.Networks.{Network}
 use Rattle.sb_packet.specs.declared.entry.Entry.{Entry}
@@ -14,9 +14,11 @@ use Rattle.sb_fields.specs.declared.fault.LoadFault.{LoadFault}
 use Rattle.sb_words.specs.Commands.{command_in}
 use Rattle.sb_words.specs.declared.command.Command.{Command}
 use Rattle.sb_words.specs.declared.command.Command.TheVariants as commands
+use Rattle.sb_gen.specs.Generated.{gen_network}
+use Rattle.sb_gen.specs.Summary.{gen_text}
 use Rattle.sb_top.specs.BundleRuns.{RanNetwork}
 use Rattle.sb_top.specs.Effects.{Effects, IsUntouched}
-use Rattle.sb_top.specs.Inputs.{IsWholeInput}
+use Rattle.sb_top.specs.Inputs.{HasRead, reads_input}
 use Rattle.sb_top.specs.Refusals.{load_fault_words, refusal_text, script_fault_words}
 use Rattle.sb_top.specs.Solo.{solo_network, IsSoloJournal}
 
@@ -36,11 +38,18 @@ pub record RanBundle (history : Bool) (input : List ℕ) (effects : Effects) (te
   pub ran : RanNetwork network effects
   pub printed : text ≡ run_report network effects.journal history None
 
+-- The bundle that a number generates was run, and the text is the summary of that bundle.
+pub record RanGenerated (number : ℕ) (effects : Effects) (text : List ℕ) : Type 0 where
+  pub accepted : IsAccepted (gen_network number)
+  pub ran : RanNetwork (gen_network number) effects
+  pub printed : text ≡ gen_text number
+
 -- A command was done with an input; without links, no ring is made.
 abbrev pub Ran : Command → List ℕ → Effects → List ℕ → Type 0
 Ran commands.Solo input effects text = RanScript input effects.journal text × (effects.made ≡ [])
 Ran (commands.Replay order history) input effects text = RanBundle history input effects text
 Ran (commands.Run workers history) input effects text = RanBundle history input effects text
+Ran (commands.Gen number) input effects text = RanGenerated number effects text
 
 -- The input is no script, and the text names its first fault.
 pub record RefusedScript (input text : List ℕ) : Type 0 where
@@ -59,23 +68,22 @@ abbrev pub Refused : Command → List ℕ → List ℕ → Type 0
 Refused commands.Solo input text = RefusedScript input text
 Refused (commands.Replay order history) input text = RefusedBundle input text
 Refused (commands.Run workers history) input text = RefusedBundle input text
+Refused (commands.Gen number) input text = ⊥
 
--- The words ask for a command, the input was read to its end, and the command was done.
+-- The words ask for a command, what it reads was read, and it was done.
 pub record IsRun (words : List (List ℕ)) (before after : Option (List ℕ)) (effects : Effects) (text : List ℕ) : Type 0 where
   pub command : Command
   pub asked : command_in words ≡ Some command
   pub input : List ℕ
-  pub read : IsWholeInput before after input
-  pub short : length input ≤ 2 ^ 26
+  pub read : HasRead command before after input
   pub ran : Ran command input effects text
 
--- The words ask for a command, the input was read to its end, and the command refused it.
+-- The words ask for a command, what it reads was read, and it refused that.
 pub record IsRefusal (words : List (List ℕ)) (before after : Option (List ℕ)) (effects : Effects) (text : List ℕ) : Type 0 where
   pub command : Command
   pub asked : command_in words ≡ Some command
   pub input : List ℕ
-  pub read : IsWholeInput before after input
-  pub short : length input ≤ 2 ^ 26
+  pub read : HasRead command before after input
   pub refused : Refused command input text
   pub untouched : IsUntouched effects
 
@@ -86,10 +94,11 @@ pub record IsUsage (words : List (List ℕ)) (before after : Option (List ℕ)) 
   pub untouched : IsUntouched effects
   pub printed : text ≡ codes "usage\n"
 
--- The words ask for a command, the input has more than 2^26 bytes, and one more than these was read.
+-- The words ask for a command that reads, the input has more than 2^26 bytes, and one more than these was read.
 pub record IsTooLong (words : List (List ℕ)) (before after : Option (List ℕ)) (effects : Effects) (text : List ℕ) : Type 0 where
   pub command : Command
   pub asked : command_in words ≡ Some command
+  pub reads : reads_input command ≡ true
   pub long : IfSome before (λ left. 2 ^ 26 < length left)
   pub taken : after ≡ option_map (drop (2 ^ 26 + 1)) before
   pub untouched : IsUntouched effects
@@ -113,8 +122,9 @@ IsAnyText words before after effects text =
     IsUsage words before after effects text ⊎ (IsRun words before after effects text
     ⊎ (IsRefusal words before after effects text ⊎ IsTooLong words before after effects text))
 
--- An input has no fault: it spells a script, or a bundle that is accepted.
+-- An input has no fault: it spells a script, or a bundle that is accepted. What isn't read has none.
 abbrev pub IsFaultless : Command → List ℕ → Type 0
 IsFaultless commands.Solo input = (script : List Txn) × script_of_text input ≡ Ok script
 IsFaultless (commands.Replay order history) input = (network : Network) × bundle_of input ≡ Ok network
 IsFaultless (commands.Run workers history) input = (network : Network) × bundle_of input ≡ Ok network
+IsFaultless (commands.Gen number) input = Unit {0}

@@ -8,7 +8,8 @@ ghost use Rattle.sb_top.specs.Effects.{IsUntouched, effects_in};
 ghost use Rattle.sb_top.specs.TopCall.{IsAnyText, IsFaultless, IsRefusal, IsRun, IsTooLong, IsUsage, Ran, Refused, Wrote, WrotePart};
 
 use crate::bundle_command::run_input;
-use crate::input::{ReadFault, read_all};
+use crate::gen_command::generate;
+use crate::input::{ReadFault, read_for};
 use crate::schedule::Schedule;
 use crate::solo_command::solo;
 use crate::status::{
@@ -62,10 +63,11 @@ fn perform<R: Threads + Sync, K: Sink, F: MeetFabric, G: Gate + Sync>(
             let schedule = Schedule::SideBySide { workers };
             run_input(rt, alloc, input, schedule, history, sink, fabric, gate, journal)
         }
+        Command::Gen { number } => generate(rt, alloc, number, sink, fabric, gate, journal),
     }
 }
 
-/// Reads the source, and does a command with what it had. It gives the status.
+/// Reads what a command reads, and does it with that. It gives the status.
 fn carry_out<R: Threads + Sync, S: Source, K: Sink, F: MeetFabric, G: Gate + Sync>(
     rt: &R,
     alloc: Global,
@@ -100,7 +102,7 @@ fn carry_out<R: Threads + Sync, S: Source, K: Sink, F: MeetFabric, G: Gate + Syn
     ensures others { (result ≡ DONE) ⊎ (result ≡ REFUSED) ⊎ (result ≡ READ_FAILED) ⊎ (result ≡ WRITE_FAILED)
         ⊎ (result ≡ OUT_OF_MEMORY) ⊎ (result ≡ TOO_LONG) }
 {
-    match read_all(alloc, source) {
+    match read_for(alloc, command, source) {
         Ok(input) => perform(rt, alloc, command, input.as_slice(), sink, fabric, gate, journal),
         Err(ReadFault::Failed) => READ_FAILED,
         Err(ReadFault::TooLong) => {
@@ -156,8 +158,9 @@ fn answer<R: Threads + Sync, S: Source, K: Sink, F: MeetFabric, G: Gate + Sync>(
     }
 }
 
-/// Does what the words of the command line ask for: reads the source, runs the script or the bundle that it has, and
-/// writes the report, or else a line that says why there is none. The words don't hold the program's name. It gives the
+/// Does what the words of the command line ask for: reads the source where the command reads, runs the script or the
+/// bundle that it has or that a number generates, and writes the report or the summary; or else a line that says why
+/// there is none. The words don't hold the program's name. It gives the
 /// status with which the program ends.
 ///
 /// The rings of a bundle are made by the fabric, which has made none before; the journal is empty. Where its nodes run

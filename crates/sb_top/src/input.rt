@@ -1,11 +1,12 @@
 //! Reading the whole input.
 
-ghost use Rattle.std.specs.Prelude.{◌≡◌, ◌≤◌, ◌<◌, ◌^◌, ◌+◌, ◌⊎◌, IfOk, IsErrOf, IfSome, length, drop, option_map, vec_len};
+ghost use Rattle.std.specs.Prelude.{◌≡◌, ◌≤◌, ◌<◌, ◌^◌, ◌+◌, ◌⊎◌, true, IfOk, IsErrOf, IfSome, length, drop, option_map, vec_len};
 ghost use Rattle.sb_io.specs.Counts.{FaultsIncreased};
-ghost use Rattle.sb_top.specs.Inputs.{IsWholeInput};
+ghost use Rattle.sb_top.specs.Inputs.{HasRead, IsWholeInput, reads_input};
 ghost use Rattle.sb_top.specs.declared.input.ReadFault.TheVariants as faults;
 
 use sb_io::{Got, Source};
+use sb_words::Command;
 use std::alloc::Global;
 
 /// The most bytes that an input may have.
@@ -25,7 +26,7 @@ pub enum ReadFault {
 }
 
 /// Reads a source to its end, or to one byte past the limit.
-pub fn read_all<S: Source>(alloc: Global, source: &mut S) -> Result<Vec<u8>, ReadFault>
+fn read_all<S: Source>(alloc: Global, source: &mut S) -> Result<Vec<u8>, ReadFault>
     ensures limit { IfOk result (λ v. vec_len v ≤ 2 ^ 26) }
     ensures whole { IfOk result (λ v. IsWholeInput (S.left source.old) (S.left source.new) v.items) }
     ensures cause { IsErrOf result faults.Failed → FaultsIncreased (S.faults source.old) (S.faults source.new) }
@@ -48,4 +49,36 @@ pub fn read_all<S: Source>(alloc: Global, source: &mut S) -> Result<Vec<u8>, Rea
         }
     }
     Err(ReadFault::TooLong)
+}
+
+/// Whether a command reads its input.
+fn reads_input(command: Command) -> bool
+    ensures { result ≡ reads_input command }
+{
+    match command {
+        Command::Solo | Command::Replay { .. } | Command::Run { .. } => true,
+        Command::Gen { .. } => false,
+    }
+}
+
+/// Reads what a command reads: the whole source, or nothing.
+#[tactic(auto, using(crate::proofs::ReadLemmas::read_whole, crate::proofs::ReadLemmas::read_nothing))]
+pub fn read_for<S: Source>(
+    alloc: Global,
+    command: Command,
+    source: &mut S,
+) -> Result<Vec<u8>, ReadFault>
+    ensures limit { IfOk result (λ v. vec_len v ≤ 2 ^ 26) }
+    ensures read { IfOk result (λ v. HasRead command (S.left source.old) (S.left source.new) v.items) }
+    ensures cause { IsErrOf result faults.Failed → FaultsIncreased (S.faults source.old) (S.faults source.new) }
+    ensures reads { IsErrOf result faults.TooLong → reads_input command ≡ true }
+    ensures long { IsErrOf result faults.TooLong → IfSome (S.left source.old) (λ left. 2 ^ 26 < length left) }
+    ensures taken { IsErrOf result faults.TooLong → S.left source.new ≡ option_map (drop (2 ^ 26 + 1)) (S.left source.old) }
+    ensures clean { (IsErrOf result faults.Failed) ⊎ (S.faults source.new ≡ S.faults source.old) }
+{
+    if reads_input(command) {
+        read_all(alloc, source)
+    } else {
+        Ok(Vec::new(alloc))
+    }
 }

@@ -4,6 +4,7 @@
 mod bundle_command;
 mod bundle_run;
 mod command;
+mod gen_command;
 mod input;
 mod laws;
 mod outcomes;

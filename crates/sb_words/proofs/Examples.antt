@@ -1,7 +1,7 @@
 -- What some words ask for, computed.
 use Rattle.std.proofs.Common.{◌≡◌, refl, codes, Some, None, true, false, [], ◌∷◌}
 use Rattle.clap.proofs.OnLiterals.{clap_on_literals}
-use Rattle.sb_words.specs.declared.command.Command.TheVariants.{Replay, Run, Solo}
+use Rattle.sb_words.specs.declared.command.Command.TheVariants.{Gen, Replay, Run, Solo}
 use Rattle.sb_words.specs.Commands.{command_in}
 
 -- ---- what is taken
@@ -107,6 +107,34 @@ run_with_seventeen = refl
 run_with_none : command_in (codes "run" ∷ codes "--workers=0" ∷ []) ≡ None
 unfolding clap_on_literals
 run_with_none = refl
+
+gen_with_zeros : command_in (codes "gen" ∷ codes "0000000007" ∷ []) ≡ Some (Gen 7)
+unfolding clap_on_literals
+gen_with_zeros = refl
+
+gen_of_the_greatest : command_in (codes "gen" ∷ codes "4294967295" ∷ []) ≡ Some (Gen 4294967295)
+unfolding clap_on_literals
+gen_of_the_greatest = refl
+
+gen_of_more : command_in (codes "gen" ∷ codes "4294967296" ∷ []) ≡ None
+unfolding clap_on_literals
+gen_of_more = refl
+
+gen_alone : command_in (codes "gen" ∷ []) ≡ None
+unfolding clap_on_literals
+gen_alone = refl
+
+gen_of_two : command_in (codes "gen" ∷ codes "5" ∷ codes "6" ∷ []) ≡ None
+unfolding clap_on_literals
+gen_of_two = refl
+
+gen_of_no_number : command_in (codes "gen" ∷ codes "-5" ∷ []) ≡ None
+unfolding clap_on_literals
+gen_of_no_number = refl
+
+dashes_before_gen : command_in (codes "--" ∷ codes "gen" ∷ codes "5" ∷ []) ≡ None
+unfolding clap_on_literals
+dashes_before_gen = refl
 
 -- ---- words that clap refuses
 

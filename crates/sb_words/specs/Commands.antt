@@ -1,9 +1,9 @@
 -- What the words of the command line ask for. They don't hold the program's name. This project's own.
 use Rattle.std.specs.Prelude.{ℕ, ◌≤◌, ◌==◌, Bool, true, List, [], ◌∷◌, fold, find, length, codes, bytes_eq, Option, Some, None, option_map, option_and_then, if◌then◌else◌}
 use Rattle.clap.specs.Words.{App, Row, Rule, fault_of, new_app, subcommand_of, with_rule, with_subcommand}
-use Rattle.sb_words.specs.Arguments.{flag_rule, is_history_given, option_rule, order_given, workers_given}
+use Rattle.sb_words.specs.Arguments.{flag_rule, is_history_given, option_rule, order_given, seed_given, word_rule, workers_given}
 use Rattle.sb_words.specs.declared.command.Command.{Command}
-use Rattle.sb_words.specs.declared.command.Command.TheVariants.{Replay, Run, Solo}
+use Rattle.sb_words.specs.declared.command.Command.TheVariants.{Gen, Replay, Run, Solo}
 
 -- A command: its name, the arguments that may stand behind it, and what it asks for by their matches; None where a number
 -- isn't in its range.
@@ -32,9 +32,13 @@ run_form = record {
   command = λ rows. option_map (λ workers. Run workers (is_history_given rows)) (workers_given rows);
 }
 
+-- `gen N`
+abbrev pub gen_form : CommandForm
+gen_form = record { name = codes "gen"; rules = word_rule (codes "number") ∷ []; command = λ rows. option_map Gen (seed_given rows) }
+
 -- all commands
 abbrev pub command_forms : List CommandForm
-command_forms = solo_form ∷ replay_form ∷ run_form ∷ []
+command_forms = solo_form ∷ replay_form ∷ run_form ∷ gen_form ∷ []
 
 -- a command, as clap is told of it
 abbrev pub form_app : CommandForm → App
@@ -77,3 +81,4 @@ abbrev pub IsInRange : Command → Type 0
 IsInRange Solo = Unit {0}
 IsInRange (Replay order history) = Unit {0}
 IsInRange (Run workers history) = (1 ≤ workers) × (workers ≤ 16)
+IsInRange (Gen number) = Unit {0}

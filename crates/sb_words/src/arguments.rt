@@ -4,7 +4,7 @@ ghost use Rattle.std.specs.Prelude.{◌≡◌, ◌≤◌, IfSome};
 ghost use Rattle.clap.specs.Words.{found_of, rows_of};
 ghost use Rattle.sb_words.specs.Arguments.{is_flag_given as flag_given_by, is_history_given as history_given_by};
 ghost use Rattle.sb_words.specs.Arguments.{number_between as number_between_by, number_given as number_given_by, order_given as order_given_by};
-ghost use Rattle.sb_words.specs.Arguments.{workers_given as workers_given_by};
+ghost use Rattle.sb_words.specs.Arguments.{seed_given as seed_given_by, workers_given as workers_given_by};
 
 use clap::ArgMatches;
 use sb_text::number;
@@ -68,6 +68,15 @@ pub fn workers_given(found: &ArgMatches<'_>) -> Option<u32>
     ensures few { IfSome result (λ workers. workers ≤ 16) }
 {
     number_given(found, "workers", 1, 16, 4)
+}
+
+/// `N`: 0 to 4,294,967,295; None where it is no such number.
+#[tactic(auto, using(crate::proofs::Matched::first_text))]
+pub fn seed_given(found: &ArgMatches<'_>) -> Option<u32>
+    ensures { result ≡ seed_given_by (rows_of (found_of found.now)) }
+{
+    let word = found.get_str("number")?;
+    number_between(word, 0, u32::MAX)
 }
 
 /// `[--history]`

@@ -2,8 +2,8 @@
 
 ghost use Rattle.std.specs.Prelude.{◌≡◌, IfOk, false, codes};
 ghost use Rattle.clap.specs.Words.{app_of, new_app, rule_of};
-ghost use Rattle.sb_words.specs.Arguments.{flag_rule, option_rule};
-ghost use Rattle.sb_words.specs.Commands.{form_app, program_app, replay_form, run_form, solo_form, words_alone};
+ghost use Rattle.sb_words.specs.Arguments.{flag_rule, option_rule, word_rule};
+ghost use Rattle.sb_words.specs.Commands.{form_app, gen_form, program_app, replay_form, run_form, solo_form, words_alone};
 
 use clap::{Arg, ArgAction, Command};
 use std::alloc::{AllocError, Global};
@@ -22,6 +22,14 @@ fn flag<'a>(alloc: Global, name: &'a str) -> Arg<'a>
     ensures local { result.global ≡ false }
 {
     Arg::new(alloc, name).long(name).action(ArgAction::SetTrue)
+}
+
+/// A word that has to stand there.
+fn word<'a>(alloc: Global, name: &'a str) -> Arg<'a>
+    ensures rule { rule_of result ≡ word_rule name.entry.now }
+    ensures local { result.global ≡ false }
+{
+    Arg::new(alloc, name).required(true)
 }
 
 /// `solo`
@@ -49,6 +57,13 @@ fn run<'a>(alloc: Global) -> Result<Command<'a>, AllocError>
         .arg(flag(alloc, "history"))
 }
 
+/// `gen N`
+fn gen_of_number<'a>(alloc: Global) -> Result<Command<'a>, AllocError>
+    ensures { IfOk result (λ command. app_of command ≡ form_app gen_form) }
+{
+    Command::new(alloc, "gen").arg(word(alloc, "number"))
+}
+
 /// The program before it has commands.
 fn bare<'a>(alloc: Global) -> Command<'a>
     ensures { app_of result ≡ words_alone (new_app (codes "sb")) }
@@ -68,5 +83,6 @@ pub fn program<'a>(alloc: Global) -> Result<Command<'a>, AllocError>
     bare(alloc)
         .subcommand(solo(alloc))?
         .subcommand(replay(alloc)?)?
-        .subcommand(run(alloc)?)
+        .subcommand(run(alloc)?)?
+        .subcommand(gen_of_number(alloc)?)
 }

@@ -2,10 +2,10 @@
 
 ghost use Rattle.std.specs.Prelude.{◌≡◌, ◌≢◌, map, string_bytes, true, false, Some, None, IfOk, IfErr, IfSome};
 ghost use Rattle.clap.specs.Words.{found_of, rows_of, subcommand_of, subcommand_rows_of};
-ghost use Rattle.sb_words.specs.Commands.{IsInRange, command_in, clap_takes, named_command, program_app, replay_form, run_form};
+ghost use Rattle.sb_words.specs.Commands.{IsInRange, command_in, clap_takes, gen_form, named_command, program_app, replay_form, run_form};
 ghost use Rattle.sb_words.specs.declared.words_fault.WordsFault.TheVariants as faults;
 
-use crate::arguments::{is_history_given, order_given, workers_given};
+use crate::arguments::{is_history_given, order_given, seed_given, workers_given};
 use crate::command::Command;
 use crate::forms::program;
 use crate::words_fault::WordsFault;
@@ -33,6 +33,15 @@ fn run(found: &ArgMatches<'_>) -> Option<Command>
     Some(Command::Run { workers, history })
 }
 
+/// What is asked for behind the word `gen`.
+fn generated(found: &ArgMatches<'_>) -> Option<Command>
+    ensures command { result ≡ gen_form.command (rows_of (found_of found.now)) }
+    ensures range { IfSome result IsInRange }
+{
+    let number = seed_given(found)?;
+    Some(Command::Gen { number })
+}
+
 /// What the command that was matched asks for; None where a number isn't in its range.
 fn named(found: &ArgMatches<'_>) -> Option<Command>
     ensures command { result ≡ named_command (subcommand_rows_of found.now) }
@@ -45,6 +54,8 @@ fn named(found: &ArgMatches<'_>) -> Option<Command>
         replay(inner)
     } else if name == "run" {
         run(inner)
+    } else if name == "gen" {
+        generated(inner)
     } else {
         None
     }

@@ -1,6 +1,5 @@
 -- Where a write fails, what was written is a first part of a report or of a refusal, or of the line for a long input.
-use Rattle.std.proofs.Common.{◌≢◌, ◌≤◌, ◌^◌, inl, inr, refl, arith, length}
-use Rattle.std.proofs.lemmas.Grind.{common_steps}
+use Rattle.std.proofs.Common.{◌≢◌, inl, inr, refl, arith}
 use Rattle.sb_top.proofs.StatusLemmas.{was_failed}
 use Rattle.sb_top.proofs.command.carry_out.Goals as goal
 
@@ -8,12 +7,11 @@ pub returns-in-Ok-clause-part : goal.returns-in-Ok-clause-part
 returns-in-Ok-clause-part g c = λ five words asked.
     let wrote = rw c.as_slice.ensures.value at (c.perform.ensures.part five) in
     let input = c.in-Ok.input.items in
-    let short : length input ≤ 2 ^ 26 = let limit = c.in-Ok.ensures.limit in grind (arith, common_steps) in
     record {
       text = wrote.text;
       is = inr (elim wrote.is [
-        | inl ran ↦ inl (record { command = c.args.command; asked = asked; input = input; read = c.in-Ok.ensures.whole; short = short; ran = ran })
-        | inr refused ↦ inr (inl (record { command = c.args.command; asked = asked; input = input; read = c.in-Ok.ensures.whole; short = short; refused = refused.0; untouched = refused.1 }))
+        | inl ran ↦ inl (record { command = c.args.command; asked = asked; input = input; read = c.in-Ok.ensures.read; ran = ran })
+        | inr refused ↦ inr (inl (record { command = c.args.command; asked = asked; input = input; read = c.in-Ok.ensures.read; refused = refused.0; untouched = refused.1 }))
       ]);
       part = wrote.part;
     }
@@ -27,6 +25,7 @@ returns-in-Err-TooLong-clause-part g c = λ five words asked.
       is = inr (inr (inr (record {
         command = c.args.command;
         asked = asked;
+        reads = c.in-Err-TooLong.ensures.reads (rw c.in-Err-TooLong.field-0-is refl);
         long = c.in-Err-TooLong.ensures.long (rw c.in-Err-TooLong.field-0-is refl);
         taken = c.in-Err-TooLong.ensures.taken (rw c.in-Err-TooLong.field-0-is refl);
         untouched = record { no_entry = c.requires.empty; no_ring = c.requires.unused };

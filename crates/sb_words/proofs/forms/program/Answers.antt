@@ -8,4 +8,5 @@ pub returns : goal.returns
 returns c =
     let solo = added _ _ _ _ _ c.in_ok-subcommand.ensures c.bare.ensures c.solo.ensures refl in
     let replay = added _ _ _ _ _ c.in_ok-subcommand-2.ensures solo c.in_ok-replay.ensures refl in
-    IfOk-weaker c.subcommand-3.result _ _ (λ program last. added _ _ _ _ _ last replay c.in_ok-run.ensures refl) c.subcommand-3.ensures
+    let run = added _ _ _ _ _ c.in_ok-subcommand-3.ensures replay c.in_ok-run.ensures refl in
+    IfOk-weaker c.subcommand-4.result _ _ (λ program last. added _ _ _ _ _ last run c.in_ok-gen_of_number.ensures refl) c.subcommand-4.ensures
