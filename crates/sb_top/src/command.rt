@@ -2,7 +2,7 @@
 
 ghost use Rattle.std.specs.Prelude.{◌≡◌, ◌≢◌, ◌≤◌, ◌⊎◌, ◌^◌, [], List, ℕ, None, Some, length, map, string_bytes};
 ghost use Rattle.sb_io.specs.Counts.{FaultsIncreased};
-ghost use Rattle.sb_words.specs.Commands.{IsInRange, command_in};
+ghost use Rattle.sb_words.specs.Commands.{IsCommandInRange, command_in};
 ghost use Rattle.sb_words.specs.declared.command.Command.{Command as AnyCommand};
 ghost use Rattle.sb_top.specs.Effects.{IsUntouched, effects_in};
 ghost use Rattle.sb_top.specs.TopCall.{IsAnyText, IsFaultless, IsRefusal, IsRun, IsTooLong, IsUsage, Ran, Refused, Wrote, WrotePart};
@@ -35,7 +35,7 @@ fn perform<R: Threads + Sync, K: Sink, F: MeetFabric, G: Gate + Sync>(
     gate: &G,
     journal: &mut Journal,
 ) -> u8
-    requires range { IsInRange command }
+    requires range { IsCommandInRange command }
     requires short { length input.now ≤ 2 ^ 26 }
     requires empty { journal.old.entries ≡ [] }
     requires unused { F.made fabric.old ≡ [] }
@@ -78,7 +78,7 @@ fn carry_out<R: Threads + Sync, S: Source, K: Sink, F: MeetFabric, G: Gate + Syn
     gate: &G,
     journal: &mut Journal,
 ) -> u8
-    requires range { IsInRange command }
+    requires range { IsCommandInRange command }
     requires empty { journal.old.entries ≡ [] }
     requires unused { F.made fabric.old ≡ [] }
     ensures done { result ≡ DONE → (words : List (List ℕ)) → command_in words ≡ Some command

@@ -77,8 +77,8 @@ abbrev pub command_in : List (List ℕ) → Option Command
 command_in words = if clap_takes words then named_command (subcommand_of program_app words) else None
 
 -- The numbers of a command are in their ranges.
-abbrev pub IsInRange : Command → Type 0
-IsInRange Solo = Unit {0}
-IsInRange (Replay order history) = Unit {0}
-IsInRange (Run workers history) = (1 ≤ workers) × (workers ≤ 16)
-IsInRange (Gen number) = Unit {0}
+abbrev pub IsCommandInRange : Command → Type 0
+IsCommandInRange Solo = Unit {0}
+IsCommandInRange (Replay order history) = Unit {0}
+IsCommandInRange (Run workers history) = (1 ≤ workers) × (workers ≤ 16)
+IsCommandInRange (Gen number) = Unit {0}

@@ -2,7 +2,7 @@
 
 ghost use Rattle.std.specs.Prelude.{◌≡◌, ◌≢◌, map, string_bytes, true, false, Some, None, IfOk, IfErr, IfSome};
 ghost use Rattle.clap.specs.Words.{found_of, rows_of, subcommand_of, subcommand_rows_of};
-ghost use Rattle.sb_words.specs.Commands.{IsInRange, command_in, clap_takes, gen_form, named_command, program_app, replay_form, run_form};
+ghost use Rattle.sb_words.specs.Commands.{IsCommandInRange, command_in, clap_takes, gen_form, named_command, program_app, replay_form, run_form};
 ghost use Rattle.sb_words.specs.declared.words_fault.WordsFault.TheVariants as faults;
 
 use crate::arguments::{is_history_given, order_given, seed_given, workers_given};
@@ -16,7 +16,7 @@ use std::alloc::Global;
 /// What is asked for behind the word `replay`.
 fn replay(found: &ArgMatches<'_>) -> Option<Command>
     ensures command { result ≡ replay_form.command (rows_of (found_of found.now)) }
-    ensures range { IfSome result IsInRange }
+    ensures range { IfSome result IsCommandInRange }
 {
     let order = order_given(found)?;
     let history = is_history_given(found);
@@ -26,7 +26,7 @@ fn replay(found: &ArgMatches<'_>) -> Option<Command>
 /// What is asked for behind the word `run`.
 fn run(found: &ArgMatches<'_>) -> Option<Command>
     ensures command { result ≡ run_form.command (rows_of (found_of found.now)) }
-    ensures range { IfSome result IsInRange }
+    ensures range { IfSome result IsCommandInRange }
 {
     let workers = workers_given(found)?;
     let history = is_history_given(found);
@@ -36,7 +36,7 @@ fn run(found: &ArgMatches<'_>) -> Option<Command>
 /// What is asked for behind the word `gen`.
 fn generated(found: &ArgMatches<'_>) -> Option<Command>
     ensures command { result ≡ gen_form.command (rows_of (found_of found.now)) }
-    ensures range { IfSome result IsInRange }
+    ensures range { IfSome result IsCommandInRange }
 {
     let number = seed_given(found)?;
     Some(Command::Gen { number })
@@ -45,7 +45,7 @@ fn generated(found: &ArgMatches<'_>) -> Option<Command>
 /// What the command that was matched asks for; None where a number isn't in its range.
 fn named(found: &ArgMatches<'_>) -> Option<Command>
     ensures command { result ≡ named_command (subcommand_rows_of found.now) }
-    ensures range { IfSome result IsInRange }
+    ensures range { IfSome result IsCommandInRange }
 {
     let (name, inner) = found.subcommand()?;
     if name == "solo" {
@@ -85,7 +85,7 @@ fn matches<'a>(alloc: Global, words: &'a [String]) -> Result<ArgMatches<'a>, Wor
 /// `WordsFault::Memory` where memory was missing.
 pub fn command_of(alloc: Global, words: &[String]) -> Result<Command, WordsFault>
     ensures ok { IfOk result (λ command. command_in (map string_bytes words.now) ≡ Some command) }
-    ensures range { IfOk result IsInRange }
+    ensures range { IfOk result IsCommandInRange }
     ensures usage { IfErr result (λ fault. fault ≢ faults.Memory → (command_in (map string_bytes words.now) ≡ None)) }
 {
     let found = matches(alloc, words)?;
