@@ -11,7 +11,7 @@ ghost use Rattle.sb_packet.specs.Outcomes.{outcome_of};
 ghost use Rattle.sb_packet.specs.Scripts.{transaction_accesses, IsTransaction};
 ghost use Rattle.sb_top.specs.Solo.{IsSoloJournal, aimed_packets, entry_messages, solo_device, solo_host};
 ghost use Rattle.sb_top.specs.SoloRuns.{solo_answers, solo_memory_from, solo_opening, solo_outcomes_from, solo_step};
-ghost use Rattle.sb_mem.specs.AnswerPackets.{IsCommandInRange};
+ghost use Rattle.sb_mem.specs.AnswerPackets.{IsInRange};
 ghost use Rattle.sb_top.specs.Steps.{answer_room_in, answer_room_of, entries_in, entries_of, lost_outcome, packet_answers, state_by, IsFirstRound};
 
 use crate::outcomes::Outcomes;
@@ -36,7 +36,7 @@ fn is_aimed(txn: &Txn) -> bool
 /// Serves a packet, and keeps the bytes of its answer. It gives the answer's code, and 0 where there is none.
 fn step(memory: &mut Memory, journal: &mut Journal, outcomes: &mut Outcomes, packet: &Packet) -> u8
     requires request { IsTrue (is_request packet.now.cmd.op) }
-    requires within { IsCommandInRange memory.old packet.now }
+    requires within { IsInRange memory.old packet.now }
     requires spare { 0 < journal.old.spare }
     requires room { 32 ≤ outcomes.old.spare_bytes }
     ensures code { result ≡ answer_code (packet_answers memory.old packet.now) }
