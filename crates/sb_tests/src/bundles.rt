@@ -56,7 +56,10 @@ const ONE_WRITE_REPORT: &str =
 // whether the example came to its report, by as many packets as it may have
 fn is_example(ended: (u8, usize), most: usize, text: &[u8]) -> bool {
     let (status, packets) = ended;
-    status == 0 && packets >= EXAMPLE_PACKETS && packets <= most && text == EXAMPLE_REPORT.as_bytes()
+    status == 0
+        && packets >= EXAMPLE_PACKETS
+        && packets <= most
+        && text == EXAMPLE_REPORT.as_bytes()
 }
 
 /// The example's report is the same in whatever order the nodes take turns, and however wide its links are.

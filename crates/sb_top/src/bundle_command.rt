@@ -107,7 +107,9 @@ pub fn run_input<R: Threads + Sync, K: Sink, F: MeetFabric, G: Gate + Sync>(
     ensures others { (result ≡ DONE) ⊎ (result ≡ REFUSED) ⊎ (result ≡ WRITE_FAILED) ⊎ (result ≡ OUT_OF_MEMORY) }
 {
     match load(alloc, input) {
-        Ok(bundle) => report(rt, alloc, &bundle, schedule, history, sink, fabric, gate, journal),
+        Ok(bundle) => report(
+            rt, alloc, &bundle, schedule, history, sink, fabric, gate, journal,
+        ),
         Err(fault) => refuse(sink, &fault),
     }
 }

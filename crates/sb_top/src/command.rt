@@ -57,11 +57,15 @@ fn perform<R: Threads + Sync, K: Sink, F: MeetFabric, G: Gate + Sync>(
         Command::Solo => solo(alloc, input, sink, journal),
         Command::Replay { order, history } => {
             let schedule = Schedule::InTurn { order };
-            run_input(rt, alloc, input, schedule, history, sink, fabric, gate, journal)
+            run_input(
+                rt, alloc, input, schedule, history, sink, fabric, gate, journal,
+            )
         }
         Command::Run { workers, history } => {
             let schedule = Schedule::SideBySide { workers };
-            run_input(rt, alloc, input, schedule, history, sink, fabric, gate, journal)
+            run_input(
+                rt, alloc, input, schedule, history, sink, fabric, gate, journal,
+            )
         }
         Command::Gen { number } => generate(rt, alloc, number, sink, fabric, gate, journal),
     }
@@ -103,7 +107,16 @@ fn carry_out<R: Threads + Sync, S: Source, K: Sink, F: MeetFabric, G: Gate + Syn
         ⊎ (result ≡ OUT_OF_MEMORY) ⊎ (result ≡ TOO_LONG) }
 {
     match read_for(alloc, command, source) {
-        Ok(input) => perform(rt, alloc, command, input.as_slice(), sink, fabric, gate, journal),
+        Ok(input) => perform(
+            rt,
+            alloc,
+            command,
+            input.as_slice(),
+            sink,
+            fabric,
+            gate,
+            journal,
+        ),
         Err(ReadFault::Failed) => READ_FAILED,
         Err(ReadFault::TooLong) => {
             let words = [LineWord::Text(b"too"), LineWord::Text(b"long")];

@@ -14,9 +14,9 @@ can_run network net journal words built empty counted room = record { built = bu
 
 pub run_net-requires-clause-ready : goal.run_net-requires-clause-ready
 run_net-requires-clause-ready g c κs within = (
-      network_of c.args.bundle.now,
-      can_run _ c.in_ok-net.net _ _ c.in_ok-net.ensures.built (c.in_ok-reserve.ensures.entries ∙ c.requires.empty) c.bundle_words.ensures c.in_ok-reserve.ensures.room,
-    )
+  network_of c.args.bundle.now,
+  can_run _ c.in_ok-net.net _ _ c.in_ok-net.ensures.built (c.in_ok-reserve.ensures.entries ∙ c.requires.empty) c.bundle_words.ensures c.in_ok-reserve.ensures.room,
+)
 
 pub settle-requires-clause-ran : goal.settle-requires-clause-ran
 settle-requires-clause-ran g c κs within =
