@@ -1,9 +1,10 @@
 -- In an accepted network the ring of requests of a host's own link is made for the host.
-use Rattle.std.proofs.Common.{◌≡◌, ◌≤◌, ◌<◌, ◌*◌, ◌/◌, ℕ, zero, suc, arith, ap, subst, ◌∙◌, length, List, [], ◌∷◌, Bool, true, Option, Some, None}
+use Rattle.std.proofs.Common.{◌≡◌, ◌≤◌, ◌<◌, ◌*◌, ◌/◌, ℕ, zero, suc, arith, ap, refl, sym, subst, ◌∙◌, length, List, [], ◌∷◌, Bool, true, false, ◌||◌, inl, inr, Option, Some, None}
 use Rattle.std.specs.Prelude.{All, ◌==◌, nat_lt, slice_get, if◌then◌else◌}
 use Rattle.std.specs.List.{AllByRecursion}
 use Rattle.std.specs.Option.{option_and_then, option_map_or}
 use Rattle.std.proofs.Math.ListN.{get_or}
+use Rattle.std.proofs.lemmas.Bool.{eqb-true}
 use Rattle.std.proofs.lemmas.Bool.Decides.{nat_tests}
 use Rattle.std.proofs.lemmas.List.Elements.{All-get_or}
 use Rattle.std.proofs.lemmas.Option.{get_or_from_slice_get, slice_get-get_or}
@@ -14,7 +15,7 @@ use Rattle.sb_packet.specs.Sides.{leaves_from}
 use Rattle.sb_flow.specs.Ways.{first_link}
 use Rattle.sb_port.specs.Waiting.{IsWidth}
 use Rattle.sb_flow.specs.Accepted.{IsAccepted}
-use Rattle.sb_flow.specs.Ends.{is_width_now}
+use Rattle.sb_flow.specs.Ends.{is_link_width}
 use Rattle.sb_flow.specs.Limits.{is_limited, is_limited_host}
 use Rattle.sb_flow.specs.Ranges.{is_placed_device}
 use Rattle.sb_flow.proofs.AcceptedLinks.{got_below}
@@ -51,7 +52,16 @@ own_ring_made network h k host accepted got first =
       room = words_within network host accepted.placed h k there at first link lines;
     }
 
--- and as wide as a link may be now
+-- a link's width is one that ports serve
+served : (width : ℕ) → is_link_width width ≡ true → IsWidth width
+served width h = by (width == 8) (width == 16) (width == 32) refl refl refl h
+  where
+    by : (eight sixteen thirty_two : Bool) → (width == 8) ≡ eight → (width == 16) ≡ sixteen → (width == 32) ≡ thirty_two → (eight || sixteen || thirty_two) ≡ true → IsWidth width
+    by true b c e f g h = inl (eqb-true width 8 e)
+    by false true c e f g h = inr (inl (eqb-true width 16 f))
+    by false false c e f g h = inr (inr (eqb-true width 32 (g ∙ h)))
+
+-- and as wide as a link may be
 pub own_ring_wide : (network : Network) (h k : ℕ) → IsAccepted network → first_link network h ≡ Some k → IsWidth (ring_plan network (2 * k)).width
 own_ring_wide network h k accepted first =
     let there = link_there network h k first in
@@ -61,9 +71,9 @@ own_ring_wide network h k accepted first =
     ap (λ (b : Bool). if b then Some (2 * k / 2) else (if 2 * k / 2 == length network.links then network.wire else None)) inside ∙ ap (λ (n : ℕ). Some n) half in
     let any : NetLink = get_or network.links k any_link in
     let got : slice_get network.links k ≡ Some any = slice_get-get_or network.links k any_link there in
-    let test : (any.width == 32) ≡ true = pass_at (λ l. is_width_now l.width) network.links k any_link (all_pass (λ l. is_width_now l.width) 0 network.links accepted.widths) there in
-    let width : any.width ≡ 32 = grind (arith, nat_tests) in
-    ap (λ (o : Option ℕ). option_map_or (λ l. l.width) (option_and_then (slice_get network.links) o) 0) link ∙ ap (λ (o : Option NetLink). option_map_or (λ l. l.width) o 0) got ∙ width
+    let test : is_link_width any.width ≡ true = pass_at (λ l. is_link_width l.width) network.links k any_link (all_pass (λ l. is_link_width l.width) 0 network.links accepted.widths) there in
+    let width : (ring_plan network (2 * k)).width ≡ any.width = ap (λ (o : Option ℕ). option_map_or (λ l. l.width) (option_and_then (slice_get network.links) o) 0) link ∙ ap (λ (o : Option NetLink). option_map_or (λ l. l.width) o 0) got in
+    subst IsWidth (sym width) (served any.width test)
   where
     any_link : NetLink
     any_link = record { name = []; from = at_host 0; to = at_router 0; width = 0; capacity = 0 }

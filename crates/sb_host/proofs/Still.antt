@@ -4,7 +4,8 @@ use Rattle.std.specs.Prelude.{flat_map}
 use Rattle.sb_packet.specs.Accesses.{message_accesses}
 use Rattle.sb_link.specs.Traffic.{item_messages}
 use Rattle.sb_packet.specs.declared.item.Item.{Item}
-use Rattle.sb_port.specs.Waiting.{Waiting, listed}
+use Rattle.sb_cut.specs.Folds.{listed}
+use Rattle.sb_port.specs.Waiting.{Waiting}
 use Rattle.sb_port.specs.Ports.{PortSide, let_go, offered_words}
 use Rattle.sb_node.specs.Rested.{IsRestedPort}
 

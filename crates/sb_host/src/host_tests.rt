@@ -196,8 +196,8 @@ fn host_at<F: Fabric>(
     Ok(Host::new(alloc, number, bundle, leg)?)
 }
 
-/// Five turns of a host.
-fn turns<F: Fabric>(host: &mut Host<F>) -> [Turn; 5]
+/// Six turns of a host.
+fn turns<F: Fabric>(host: &mut Host<F>) -> [Turn; 6]
     requires whole { IsWholeHost host.old }
     requires lines { length host.old.transactions.asked.lines ≡ 3 }
     ensures lines { length host.new.transactions.asked.lines ≡ 3 }
@@ -208,6 +208,7 @@ fn turns<F: Fabric>(host: &mut Host<F>) -> [Turn; 5]
         host.turn(2),
         host.turn(3),
         host.turn(4),
+        host.turn(5),
     ]
 }
 
@@ -235,9 +236,12 @@ fn scripts_are_offered(rt: HostRuntime) -> Result<(), Fail> {
     let bundle = bundle(alloc)?;
     let mut fabric = SerialFabric::new(alloc);
     let mut host = host_at(alloc, &mut fabric, &bundle, 0)?;
-    // two packets of the read, the posted write, and the Close
+    // two packets of the read and the posted write are offered, each is sent in the turn behind, and then the Close
     let moved = Turn::Moved;
-    assert_eq!(rt; turns(&mut host), [moved, moved, moved, moved, waits(1)]);
+    assert_eq!(rt;
+        turns(&mut host),
+        [moved, moved, moved, moved, moved, waits(1)]
+    );
     assert_eq!(rt; states(&host), [TxnState::Waiting, LOST, TxnState::Posted]);
     assert_eq!(rt; host.requests().plan().ring, 0);
     assert_eq!(rt; host.requests().closed(), true);
@@ -254,7 +258,7 @@ fn lost_scripts_are_not_offered(rt: HostRuntime) -> Result<(), Fail> {
     // only the Close
     assert_eq!(rt;
         turns(&mut host),
-        [Turn::Moved, waits(3), waits(3), waits(3), waits(3)]
+        [Turn::Moved, waits(3), waits(3), waits(3), waits(3), waits(3)]
     );
     assert_eq!(rt; states(&host), [LOST, LOST, TxnState::Posted]);
     assert_eq!(rt; host.body(0), [0; 16].as_slice());

@@ -26,7 +26,7 @@ use Rattle.sb_laws.proofs.ExampleNetwork.{small, posted, read_back, write, writt
 use Rattle.sb_laws.proofs.ExampleRun.{end_of_small}
 use Rattle.sb_laws.proofs.ExampleStandstill.{small_stages}
 use Rattle.sb_laws.proofs.ExampleNodes.{fresh, ring_in, small_mark}
-use Rattle.sb_laws.proofs.ExamplePorts.{one_packet}
+use Rattle.sb_laws.proofs.ExamplePorts.{one_packet, small_apart, small_paged}
 
 -- a ring of one place
 abbrev pub narrow : ℕ → RingPlan
@@ -51,8 +51,10 @@ device_port = blocked_port 3 written read_back
 host_port_is_fit : IsFit (narrow 0) host_port.state
 host_port_is_fit = record {
   width = refl;
-  wide = refl;
+  wide = inr (inr refl);
   limit = lit≤ tt;
+  apart = small_apart 0;
+  paged = small_paged 0;
   close = refl;
   told = λ e. absurd (cc);
   none_owed = λ e. absurd (cc);
@@ -71,8 +73,10 @@ host_port_is_fit = record {
 device_port_is_fit : IsFit (narrow 3) device_port.state
 device_port_is_fit = record {
   width = refl;
-  wide = refl;
+  wide = inr (inr refl);
   limit = lit≤ tt;
+  apart = small_apart 3;
+  paged = small_paged 3;
   close = refl;
   told = λ e. absurd (cc);
   none_owed = λ e. absurd (cc);

@@ -28,7 +28,7 @@ use Rattle.sb_laws.proofs.ExampleNetwork.{small, posted, read, write}
 use Rattle.sb_laws.proofs.ExampleRun.{end_of_small}
 use Rattle.sb_laws.proofs.ExampleStandstill.{small_stages}
 use Rattle.sb_laws.proofs.ExampleNodes.{fresh, ring_in}
-use Rattle.sb_laws.proofs.ExamplePorts.{from_host, one_packet}
+use Rattle.sb_laws.proofs.ExamplePorts.{from_host, one_packet, small_apart, small_paged}
 use Rattle.sb_laws.proofs.ExampleRouter.{small_rows, within}
 use Rattle.sb_laws.proofs.ExampleBlocked.{blocked_port, narrow}
 
@@ -47,8 +47,10 @@ blocked = record { rows = small_rows; lane = record { inlets = holding ∷ []; o
 full_port_is_fit : IsFit (narrow 2) full_port.state
 full_port_is_fit = record {
   width = refl;
-  wide = refl;
+  wide = inr (inr refl);
   limit = lit≤ tt;
+  apart = small_apart 2;
+  paged = small_paged 2;
   close = refl;
   told = λ e. absurd (cc);
   none_owed = λ e. absurd (cc);

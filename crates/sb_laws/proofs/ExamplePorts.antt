@@ -1,5 +1,5 @@
 -- The ports and rings of the example meet all that the laws of ports and rings ask for, fresh, halfway and at the end.
-use Rattle.std.proofs.Common.{◌≡◌, ◌≤◌, ◌<◌, lit≤, lit<, ℕ, zero, suc, true, false, [], ◌∷◌, length, refl, sym, ap, ◌∙◌, subst, arith, append-nil}
+use Rattle.std.proofs.Common.{◌≡◌, ◌≤◌, ◌<◌, ◌%◌, inr, lit≤, lit<, ℕ, zero, suc, true, false, [], ◌∷◌, length, refl, sym, ap, ◌∙◌, subst, arith, append-nil}
 use Rattle.std.specs.Prelude.{flat_map, not}
 use Rattle.std.proofs.lemmas.List.Elements.{All-nil}
 use Rattle.sb_link.specs.Ends.{HaveMet}
@@ -7,7 +7,8 @@ use Rattle.sb_link.proofs.InTurn.{appended_in_turn, nothing_in_turn}
 use Rattle.sb_packet.specs.Accesses.{accesses_of, message_accesses}
 use Rattle.sb_packet.specs.Journals.{is_request}
 use Rattle.sb_packet.specs.Messages.{message_of, message_span}
-use Rattle.sb_link.specs.RingPlans.{RingPlan, is_allowed}
+use Rattle.sb_link.specs.Plans.{AreWholePages}
+use Rattle.sb_link.specs.RingPlans.{AddressRange, AreApart, RingPlan, device_ranges, is_allowed}
 use Rattle.sb_link.specs.Prefixes.{IsPrefix}
 use Rattle.sb_flow.specs.Rings.{ring_plan}
 use Rattle.sb_packet.specs.Soundness.{IsSound}
@@ -17,6 +18,7 @@ use Rattle.sb_packet.specs.declared.item.Item.TheVariants as items
 use Rattle.sb_packet.specs.declared.packet.Packet.{Packet}
 use Rattle.sb_port.specs.Ports.{IsFit, IsSendable, offered_words}
 use Rattle.sb_port.proofs.Items.{item_accesses-messages}
+use Rattle.sb_node.proofs.Answering.{one_of}
 use Rattle.sb_device.specs.Served.{AreSound}
 use Rattle.sb_laws.specs.Moments.{Moment}
 use Rattle.sb_laws.specs.RoundSides.{HasPort, HasRing}
@@ -146,6 +148,13 @@ small_ring (suc (suc zero)) here = record { width = refl; limit = lit≤ tt; pla
 small_ring (suc (suc (suc zero))) here = record { width = refl; limit = lit≤ tt; places = lit< tt }
 small_ring (suc (suc (suc (suc r)))) here = absurd (omega arith)
 
+-- the one device lies in a page
+pub small_apart : (r : ℕ) → AreApart (device_ranges (ring_plan small r).flows)
+small_apart r i j none below high = let alone : j < 1 = high in absurd (omega (arith, below, alone))
+
+pub small_paged : (r : ℕ) → AreWholePages (device_ranges (ring_plan small r).flows)
+small_paged r = one_of (λ (range : AddressRange). (range.base % 4096 ≡ 0) × (range.bytes % 4096 ≡ 0)) (record { base = 65536; bytes = 4096 }) (refl, refl)
+
 module _ (m : Moment) (settled : IsSettled m) (r : ℕ) where
   settled_words : item_accesses (m.sent r) ≡ offered_words (port_in m r)
   settled_words = item_accesses-messages (m.sent r) ∙ ap (flat_map message_accesses) (sym (append-nil (item_messages (m.sent r))))
@@ -165,8 +174,10 @@ module _ (m : Moment) (settled : IsSettled m) (r : ℕ) where
     pub is_fit : IsFit (ring_plan small r) (port_in m r).state
     is_fit = record {
       width = sym (small_ring r here).width;
-      wide = (small_ring r here).width;
+      wide = inr (inr (small_ring r here).width);
       limit = (small_ring r here).limit;
+      apart = small_apart r;
+      paged = small_paged r;
       close = refl;
       told = λ e. e;
       none_owed = λ e. refl;

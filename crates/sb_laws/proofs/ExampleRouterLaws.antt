@@ -3,7 +3,8 @@ use Rattle.std.proofs.Common.{◌≤◌, ◌<◌, ◌+◌, lit≤, lit<, ℕ, ze
 use Rattle.std.specs.Prelude.{All, Option, sum_by}
 use Rattle.sb_packet.specs.declared.packet.Packet.{Packet}
 use Rattle.sb_node.proofs.Answering.{one_of}
-use Rattle.sb_flow.proofs.AcceptedExample.{wide, wide_is_accepted}
+use Rattle.sb_packet.proofs.NetworkExample.{wired}
+use Rattle.sb_flow.proofs.AcceptedExample.{wired_is_accepted}
 use Rattle.sb_router.specs.Forwarding.{IsLaid, Passes, Words, held_for, popped_for}
 use Rattle.sb_router.specs.Lanes.{offered_at}
 use Rattle.sb_router.specs.RouteOf.{route_of}
@@ -156,5 +157,5 @@ built_routers_belong_together = (
   answers_router small small_is_routed 0 (direction_in fresh 3 1 None) (answers_are_built fresh None),
 )
 
-pub accepted_ids_are_low : All (λ host. host.id < 32) wide.hosts
-accepted_ids_are_low = low_ids wide wide_is_accepted
+pub accepted_ids_are_low : All (λ host. host.id < 32) wired.hosts
+accepted_ids_are_low = low_ids wired wired_is_accepted

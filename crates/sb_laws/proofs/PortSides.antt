@@ -12,7 +12,7 @@ use Rattle.sb_link.specs.Traffic.{has_close, item_accesses, item_messages, AreIn
 use Rattle.sb_packet.specs.declared.item.Item.{Item}
 use Rattle.sb_packet.specs.declared.item.Item.TheVariants as items
 use Rattle.sb_packet.proofs.Opcodes.{some_words}
-use Rattle.sb_port.specs.Waiting.{listed}
+use Rattle.sb_cut.specs.Folds.{listed}
 use Rattle.sb_port.specs.Ports.{PortState, port_accesses, let_go, IsFit, IsSendable}
 use Rattle.sb_port.proofs.Items.{item_accesses-messages}
 use Rattle.sb_laws.specs.Moments.{ClosesLast}

@@ -9,7 +9,6 @@ use Rattle.sb_link.specs.RingPlans.{RingFlows, RingPlan}
 use Rattle.sb_flow.specs.Rings.{flow_table, link_ways, network_ranges, ring_plan}
 use Rattle.sb_flow.specs.Ways.{NetWay}
 use Rattle.sb_port.specs.Ports.{PortSide, fresh_port}
-use Rattle.sb_port.specs.Waiting.{IsWidth}
 use Rattle.sb_port.specs.declared.leg.InLeg.{InLeg}
 use Rattle.sb_node.specs.Sides.{RingSide, ring_side}
 use Rattle.sb_device.specs.Devices.{IsWholeDevice}
@@ -32,7 +31,6 @@ use Rattle.sb_net.specs.Made.{AreLegsAt, IsInLeg, IsMadeAt}
 use Rattle.sb_net.specs.Standing.{IsDeviceBuilt, device_number}
 use Rattle.sb_net.proofs.DeviceMemories.{opening_range}
 use Rattle.sb_net.proofs.HostsMade.{only_thing, some_thing}
-use Rattle.sb_net.proofs.LinkWidths.{ring_is_wide}
 use Rattle.sb_net.proofs.NodeLinks.{device_link}
 
 any_device : NetDevice
@@ -88,9 +86,6 @@ module _ {F T U : Type 0} (tx : tx.Ghosts T) (rx : rx.Ghosts U) (network : Netwo
 
     pub device_planned : IsPlannedFor n (opening_memory network n) (rx.planned leg.requests) (tx.planned leg.answers)
     device_planned = planned_for_device network good n lt (rx.planned leg.requests) (tx.planned leg.answers) device_hears device_tells
-
-    pub device_wide : IsWidth (tx.planned leg.answers).width
-    device_wide = subst (λ (p : RingPlan). IsWidth p.width) (sym device_leg.tells) (ring_is_wide network good leg.link device_leg.there).1
 
     pub device_made : (d : DeviceSide) → IsWholeDevice d → HasServed (opening_memory network n) d → d.number ≡ n → d.journal.entries ≡ []
         → d.requests ≡ ring_side rx leg.requests → d.answers ≡ fresh_port tx leg.answers → IsMadeAt tx rx network (device_number network n) [] ins (Device d)

@@ -44,7 +44,6 @@ pub mod NodeNumbers
 pub mod NodeLinks
 pub mod HostsMade
 pub mod DeviceMemories
-pub mod LinkWidths
 pub mod DevicesMade
 pub mod RoutersMade
 pub mod DealtLegs

@@ -10,7 +10,6 @@ use Rattle.sb_link.specs.RingPlans.{RingPlan}
 use Rattle.sb_flow.specs.Rings.{ring_plan}
 use Rattle.sb_packet.specs.declared.item.Item.{Item}
 use Rattle.sb_port.specs.Ports.{PortSide, fresh_port}
-use Rattle.sb_port.specs.Waiting.{IsWidth}
 use Rattle.sb_port.specs.declared.leg.InLeg.{InLeg}
 use Rattle.sb_port.specs.declared.leg.OutLeg.{OutLeg}
 use Rattle.sb_node.specs.Sides.{ring_side}
@@ -32,7 +31,6 @@ use Rattle.sb_member.specs.declared.member.Member.TheVariants.{Router}
 use Rattle.sb_net.specs.Legs.{links_in, links_out}
 use Rattle.sb_net.specs.Made.{AreLegsAt, IsInLeg, IsMadeAt, IsOutLeg}
 use Rattle.sb_net.specs.Standing.{IsRouterBuilt, router_number}
-use Rattle.sb_net.proofs.LinkWidths.{ring_is_wide}
 use Rattle.sb_net.proofs.NodeLinks.{router_ins, router_outs}
 
 -- what is seen of things that were made of others is what is wanted of these
@@ -52,11 +50,11 @@ own_plan network p k e = e ∙ ap (ring_plan network) (sym (ap (λ (p : RingPlan
 module _ {F T U : Type 0} (tx : tx.Ghosts T) (rx : rx.Ghosts U) (network : Network) (good : IsAccepted network) where
   pub fresh_outs : (outs : List (OutLeg F T U)) → All (IsOutLeg tx rx network) outs → All (λ leg. IsFreshPair tx rx leg.requests leg.answers) outs
   fresh_outs outs all = All-weaker (IsOutLeg tx rx network) (λ (leg : OutLeg F T U). IsFreshPair tx rx leg.requests leg.answers)
-      (λ leg h. record { unsent = h.unasked; wide = subst (λ (p : RingPlan). IsWidth p.width) (sym h.asks) (ring_is_wide network good leg.link h.there).0; unreceived = h.unlearnt }) outs all
+      (λ leg h. record { unsent = h.unasked; unreceived = h.unlearnt }) outs all
 
   pub fresh_ins : (ins : List (InLeg F T U)) → All (IsInLeg tx rx network) ins → All (λ leg. IsFreshPair tx rx leg.answers leg.requests) ins
   fresh_ins ins all = All-weaker (IsInLeg tx rx network) (λ (leg : InLeg F T U). IsFreshPair tx rx leg.answers leg.requests)
-      (λ leg h. record { unsent = h.untold; wide = subst (λ (p : RingPlan). IsWidth p.width) (sym h.tells) (ring_is_wide network good leg.link h.there).1; unreceived = h.unheard }) ins all
+      (λ leg h. record { unsent = h.untold; unreceived = h.unheard }) ins all
 
   module _ (n : ℕ) (lt : n < length network.routers) (outs : List (OutLeg F T U)) (ins : List (InLeg F T U)) (legs : AreLegsAt tx rx network (router_number network n) outs ins)
       (r : RouterSide) (whole : IsWholeRouter r)

@@ -104,7 +104,7 @@ module _ {route : Route} {s a b d t : LaneState} {popped turned : Findings} {han
   busy_since : (o : ℕ) → WasBusy (outlet_at a o) (outlet_at b o) → WasBusy (outlet_at s o) (outlet_at t o)
   busy_since o (inl owed) = inl (ap (λ (l : List PortSide). owes (get_or l o no_port).state) (sym pops.outlets) ∙ owed)
   busy_since o (inr offered) = inr (subst (λ (y : PortSide). WasOffered y (outlet_at t o)) (ap (λ (l : List PortSide). get_or l o no_port) pops.outlets)
-      (record { packet = offered.packet; passes = offered.passes; words = turns.words o ∙ closes.words o ∙ offered.words }))
+      (record { packet = offered.packet; others = offered.others; pass = offered.pass; words = turns.words o ∙ closes.words o ∙ offered.words }))
 
   busy_still : HeldAwaitsBusy route s t
   busy_still i p lt held =

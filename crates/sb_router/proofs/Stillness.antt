@@ -5,7 +5,8 @@ use Rattle.sb_packet.specs.Accesses.{message_accesses}
 use Rattle.sb_link.specs.Prefixes.{IsPrefix}
 use Rattle.sb_link.specs.Traffic.{item_messages}
 use Rattle.sb_port.specs.Ports.{PortSide, offered_words}
-use Rattle.sb_port.specs.Waiting.{Waiting, listed}
+use Rattle.sb_cut.specs.Folds.{listed}
+use Rattle.sb_port.specs.Waiting.{Waiting}
 use Rattle.sb_node.specs.Kept.{IsKeptPort}
 use Rattle.sb_node.specs.Rested.{IsRestedPort}
 use Rattle.sb_node.specs.Sides.{port_moves}

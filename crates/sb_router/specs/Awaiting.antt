@@ -1,7 +1,8 @@
 -- For what a packet that a router holds waits: for the port to which it goes.
-use Rattle.std.specs.Prelude.{◌≡◌, ◌<◌, ◌⊎◌, ◌++◌, ℕ, true, length, Option, Some}
+use Rattle.std.specs.Prelude.{◌≡◌, ◌<◌, ◌⊎◌, ◌+◌, ◌++◌, ℕ, true, List, [], ◌∷◌, flat_map, length, Option, Some, ⊤}
 use Rattle.sb_packet.specs.Accesses.{accesses_of}
 use Rattle.sb_packet.specs.Messages.{message_of}
+use Rattle.sb_link.specs.RingPlans.{RingPlan}
 use Rattle.sb_link.specs.Traffic.{MayPass}
 use Rattle.sb_packet.specs.declared.packet.Packet.{Packet}
 use Rattle.sb_port.specs.Ports.{PortSide, offered_words, owes}
@@ -16,11 +17,17 @@ pub record AwaitsFullPort (route : Route) (s : LaneState) (i : ℕ) (p : Packet)
   pub owing : owes (outlet_at s place).state ≡ true
   pub full : is_full (outlet_at s place) ≡ true
 
--- a port was offered one packet in a turn, which passed
+-- packets may be handed on over a ring one after another, behind so many words
+abbrev pub MayPassEach : RingPlan → ℕ → List Packet → Type 0
+MayPassEach plan words [] = ⊤
+MayPassEach plan words (p ∷ others) = MayPass plan words (message_of p) × MayPassEach plan (words + length (accesses_of p)) others
+
+-- a port was offered a packet in a turn, and maybe others behind it, each of which passed
 pub record WasOffered (before after : PortSide) : Type 0 where
   pub packet : Packet
-  pub passes : MayPass before.plan (length (offered_words before)) (message_of packet)
-  pub words : offered_words after ≡ offered_words before ++ accesses_of packet
+  pub others : List Packet
+  pub pass : MayPassEach before.plan (length (offered_words before)) (packet ∷ others)
+  pub words : offered_words after ≡ offered_words before ++ flat_map accesses_of (packet ∷ others)
 
 -- A port was busy in a turn: it owed an item before, or was offered a packet.
 abbrev pub WasBusy : PortSide → PortSide → Type 0

@@ -2,7 +2,6 @@
 use Rattle.std.specs.Prelude.{◌≡◌, false, [], None}
 use Rattle.sb_link.specs.declared.ends.RxEnd as rx
 use Rattle.sb_link.specs.declared.ends.TxEnd as tx
-use Rattle.sb_port.specs.Waiting.{IsWidth}
 use Rattle.sb_router.specs.Lanes.{InletState}
 
 -- a ring that comes in, at whose end nothing was received
@@ -13,8 +12,7 @@ fresh_inlet receiving end = record {
   held = None;
 }
 
--- nothing was sent over a ring of the width that ports serve, and nothing received over the other one
+-- nothing was sent over a ring, and nothing received over the other one
 pub record IsFreshPair {T U : Type 0} (sending : tx.Ghosts T) (receiving : rx.Ghosts U) (to : T) (from : U) : Type 0 where
   pub unsent : sending.sent to ≡ []
-  pub wide : IsWidth (sending.planned to).width
   pub unreceived : receiving.received from ≡ []

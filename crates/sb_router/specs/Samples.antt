@@ -16,8 +16,9 @@ crossing_hosts = record { name = label 104 0; id = 5; qos = 0; prot = 0; script 
 abbrev pub crossing_router : NetRouter
 crossing_router = record { name = label 114 0; side = 0; routes = Some 2 ∷ Some 3 ∷ [] }
 
+-- the link of the first host is 8 bytes wide, and the others 32
 abbrev pub crossing_links : List NetLink
-crossing_links = plain_link 0 (at_host 0) (at_router 0) ∷ plain_link 1 (at_host 1) (at_router 0) ∷ plain_link 2 (at_router 0) (at_device 0) ∷ plain_link 3 (at_router 0) (at_device 1) ∷ []
+crossing_links = record (plain_link 0 (at_host 0) (at_router 0)) { width = 8 } ∷ plain_link 1 (at_host 1) (at_router 0) ∷ plain_link 2 (at_router 0) (at_device 0) ∷ plain_link 3 (at_router 0) (at_device 1) ∷ []
 
 abbrev pub crossing : Network
 crossing = record { hosts = crossing_hosts; routers = crossing_router ∷ []; devices = page_device 0 ∷ page_device 1 ∷ []; links = crossing_links; wire = None }

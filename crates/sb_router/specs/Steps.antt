@@ -7,6 +7,7 @@ use Rattle.sb_packet.specs.declared.packet.Packet.{Packet}
 use Rattle.sb_packet.specs.declared.item.Item.{Item}
 use Rattle.sb_port.specs.Ports.{IsFit, offered_words, PortSide, owes}
 use Rattle.sb_node.specs.Kept.{IsKeptPort, IsKeptRing}
+use Rattle.sb_node.specs.Sides.{has_rest}
 use Rattle.sb_router.specs.Lanes.{InletState, LaneState, Route, inlet_at, outlet_at, next_place}
 use Rattle.sb_packet.specs.declared.item.Item.TheVariants as items
 
@@ -36,10 +37,10 @@ pub record IsUnmoved (before after : InletState) : Type 0 where
 abbrev pub emptied : InletState → InletState
 emptied x = record x { held = None }
 
--- a port that owed nothing took a packet, and owes it now
+-- a port that owed nothing took a packet: it has something left to send now, which it owes, or holds for merging
 pub record IsGiven (before after : PortSide) (p : Packet) : Type 0 where
   pub ready : owes before.state ≡ false
-  pub owing : owes after.state ≡ true
+  pub rest : has_rest after ≡ true
   pub passes : MayPass before.plan (length (offered_words before)) (message_of p)
   pub words : offered_words after ≡ offered_words before ++ accesses_of p
   pub sent : after.state.sent ≡ before.state.sent

@@ -96,14 +96,14 @@ fn devices(alloc: Global) -> Result<Vec<DevicePlan>, Fail>
     Ok(Vec::from_array(alloc, [first, second])?)
 }
 
-fn link(number: u8, from: Place, to: Place) -> Result<LinkRow, Fail>
-    ensures { IfOk result (λ link. link_of link ≡ plain_link_at number (place_of from) (place_of to)) }
+fn link(number: u8, width: u8, from: Place, to: Place) -> Result<LinkRow, Fail>
+    ensures { IfOk result (λ link. link_of link ≡ record (plain_link_at number (place_of from) (place_of to)) { width = width }) }
 {
     Ok(LinkRow {
         name: label(108, number)?,
         from,
         to,
-        width: 32,
+        width,
         capacity: 4,
     })
 }
@@ -111,10 +111,10 @@ fn link(number: u8, from: Place, to: Place) -> Result<LinkRow, Fail>
 fn links(alloc: Global) -> Result<Vec<LinkRow>, Fail>
     ensures { IfOk result (λ links. map link_of links.items ≡ crossing_links) }
 {
-    let first_host = link(0, Place::Host(0), Place::Router(0))?;
-    let second_host = link(1, Place::Host(1), Place::Router(0))?;
-    let first_device = link(2, Place::Router(0), Place::Device(0))?;
-    let second_device = link(3, Place::Router(0), Place::Device(1))?;
+    let first_host = link(0, 8, Place::Host(0), Place::Router(0))?;
+    let second_host = link(1, 32, Place::Host(1), Place::Router(0))?;
+    let first_device = link(2, 32, Place::Router(0), Place::Device(0))?;
+    let second_device = link(3, 32, Place::Router(0), Place::Device(1))?;
     Ok(Vec::from_array(
         alloc,
         [first_host, second_host, first_device, second_device],

@@ -3,9 +3,8 @@
 ghost use Rattle.std.specs.Prelude.{◌≡◌, ◌≤◌, ◌<◌, ◌+◌, ◌*◌, All, IfOk, IsSome, [], ◌∷◌, length};
 ghost use Rattle.sb_flow.specs.NetworkOf.{network_of};
 ghost use Rattle.sb_flow.specs.Tables.{paths_of};
-ghost use Rattle.sb_flow.specs.Rings.{ring_link, ring_plan};
+ghost use Rattle.sb_flow.specs.Rings.{ring_link};
 ghost use Rattle.sb_port.specs.Ports.{fresh_port};
-ghost use Rattle.sb_port.specs.Waiting.{IsWidth};
 ghost use Rattle.sb_router.specs.Fresh.{IsFreshPair};
 ghost use Rattle.sb_router.specs.Ends.{router_port};
 ghost use Rattle.sb_router.specs.Routers.{IsWholeRouter, router_ports};
@@ -28,6 +27,29 @@ struct Seen {
     items: Vec<Option<Item>>,
 }
 
+// what goes with a packet of one word or two, which may end its transaction
+fn words(op: Op, host: u8, two: bool, eom: bool) -> Cmd
+    requires host { host ≤ 31 }
+    ensures op { result.op ≡ op }
+    ensures size { result.size ≡ 3 }
+    ensures len { result.len ≡ if two then 1 else 0 }
+    ensures host { result.host ≡ host }
+{
+    let len = if two { 1 } else { 0 };
+    Cmd {
+        op,
+        size: 3,
+        len,
+        qos: 0,
+        prot: 0,
+        eom,
+        eof: false,
+        ex: false,
+        tail: 0,
+        host,
+    }
+}
+
 // what goes with a packet of one word
 fn word(op: Op, host: u8) -> Cmd
     requires host { host ≤ 31 }
@@ -36,17 +58,34 @@ fn word(op: Op, host: u8) -> Cmd
     ensures len { result.len ≡ 0 }
     ensures host { result.host ≡ host }
 {
-    Cmd {
-        op,
-        size: 3,
-        len: 0,
-        qos: 0,
-        prot: 0,
-        eom: true,
-        eof: false,
-        ex: false,
-        tail: 0,
-        host,
+    words(op, host, false, true)
+}
+
+// the first host reads two words of the second device: the packet of the first, that of the second, and one of both
+fn first_part() -> Packet {
+    Packet {
+        cmd: words(Op::ReqRd, 5, false, false),
+        dst: 8192,
+        src: 5 << 40,
+        body: [0; 32],
+    }
+}
+
+fn second_part() -> Packet {
+    Packet {
+        cmd: words(Op::ReqRd, 5, false, true),
+        dst: 8200,
+        src: (5 << 40) + 8,
+        body: [0; 32],
+    }
+}
+
+fn both_parts() -> Packet {
+    Packet {
+        cmd: words(Op::ReqRd, 5, true, true),
+        dst: 8192,
+        src: 5 << 40,
+        body: [0; 32],
     }
 }
 
@@ -97,7 +136,6 @@ fn told(host: u8, device: u8, byte: u8) -> Option<Item>
 // sends packets and a Close over a ring, and hands them over
 fn send<F: Fabric>(tx: F::Tx, rx: &mut F::Rx, packets: &[Packet])
     requires unsent { F.Tx.sent tx ≡ [] }
-    requires wide { IsWidth (F.Tx.planned tx).width }
     requires ring { F.Tx.mark tx ≡ F.Rx.mark rx.old }
     ensures received { F.Rx.received rx.new ≡ F.Rx.received rx.old }
 {
@@ -124,10 +162,8 @@ fn ring<F: Fabric>(
     requires made { paths.now ≡ paths_of (network_of bundle.now) }
     requires network { network_of bundle.now ≡ crossing_network }
     requires there { IsSome (ring_link crossing_network ring) }
-    requires wide { IsWidth (ring_plan crossing_network ring).width }
     requires before { All (λ plan. plan.ring < ring) (F.made fabric.old) }
     ensures after { IfOk result (λ ends. All (λ plan. plan.ring < ring + 1) (F.made fabric.new)) }
-    ensures wide { IfOk result (λ ends. IsWidth (F.Tx.planned ends.0).width) }
     ensures unsent { IfOk result (λ ends. F.Tx.sent ends.0 ≡ []) }
     ensures unreceived { IfOk result (λ ends. F.Rx.received ends.1 ≡ []) }
     ensures marks { IfOk result (λ ends. F.Tx.mark ends.0 ≡ F.Rx.mark ends.1) }
@@ -262,7 +298,7 @@ fn take_turn<F: Fabric>(router: &mut Router<F>, place: usize, round: u32) -> Tur
     router.turn(round)
 }
 
-// turns the router five times, and takes out what comes by the port at a place after each turn
+// turns the router six times, and takes out what comes by the port at a place after each turn
 fn watch<F: Fabric>(
     alloc: Global,
     router: &mut Router<F>,
@@ -275,27 +311,32 @@ fn watch<F: Fabric>(
 {
     let mut turns = Vec::new(alloc);
     let mut items = Vec::new(alloc);
-    for round in 0..5 {
+    for round in 0..6 {
         turns.push(take_turn(router, place, round))?;
         items.push(meet(router, place, far))?;
     }
     Ok(Seen { turns, items })
 }
 
-// makes the network's rings and its router, and watches one of the rings by which it sends
-fn see<F: Fabric>(alloc: Global, fabric: &mut F, ring: u16) -> Result<Seen, Fail>
+// makes the network's rings and its router, and watches one of the rings by which it sends, while these packets come by
+// each of its links
+fn see<F: Fabric>(
+    alloc: Global,
+    fabric: &mut F,
+    ring: u16,
+    first: &[Packet],
+    second: &[Packet],
+    third: &[Packet],
+    fourth: &[Packet],
+) -> Result<Seen, Fail>
     requires none { F.made fabric.old ≡ [] }
 {
     let bundle = crossing(alloc)?;
     let paths = Paths::new(alloc, &bundle)?;
-    let first = [request(5, 0), request(5, 1), request(5, 0)];
-    let second = [request(2, 0)];
-    let third = [answer(5, 0, 1), answer(2, 0, 2)];
-    let fourth = [answer(5, 1, 3)];
-    let (first, mut to_first) = in_leg(alloc, fabric, &bundle, &paths, 0, &first)?;
-    let (second, mut to_second) = in_leg(alloc, fabric, &bundle, &paths, 1, &second)?;
-    let (third, mut to_third) = out_leg(alloc, fabric, &bundle, &paths, 2, &third)?;
-    let (fourth, mut to_fourth) = out_leg(alloc, fabric, &bundle, &paths, 3, &fourth)?;
+    let (first, mut to_first) = in_leg(alloc, fabric, &bundle, &paths, 0, first)?;
+    let (second, mut to_second) = in_leg(alloc, fabric, &bundle, &paths, 1, second)?;
+    let (third, mut to_third) = out_leg(alloc, fabric, &bundle, &paths, 2, third)?;
+    let (fourth, mut to_fourth) = out_leg(alloc, fabric, &bundle, &paths, 3, fourth)?;
     let mut router = router::<F>(alloc, &bundle, &paths, first, second, third, fourth)?;
     let seen = match ring {
         4 => watch(alloc, &mut router, 0, &mut to_third)?,
@@ -307,25 +348,30 @@ fn see<F: Fabric>(alloc: Global, fabric: &mut F, ring: u16) -> Result<Seen, Fail
 }
 
 /// The requests of both hosts for one device come at once: that of the ring of the lower number goes first, and the
-/// other waits until the port is ready. A second request of the first host at this device is beyond the ring's budget,
-/// and is dropped. So it is with the answers of both devices to one host, and a Close goes out once both rings of that
-/// direction gave theirs.
+/// other behind it. What was offered last to a port is held for merging as long as something comes, and goes out with the
+/// Close. A second request of the first host at this device is beyond the ring's budget, and is dropped. So it is with the
+/// answers of both devices to one host, and a Close goes out once both rings of that direction gave theirs.
 #[test]
 fn each_flow_goes_its_way(rt: HostRuntime) -> Result<(), Fail> {
     let none: Option<Item> = None;
     let close = Some(Item::Close);
+    let first = [request(5, 0), request(5, 1), request(5, 0)];
+    let second = [request(2, 0)];
+    let third = [answer(5, 0, 1), answer(2, 0, 2)];
+    let fourth = [answer(5, 1, 3)];
     for (ring, items) in [
         // requests for the first device, and for the second
-        (4, [asked(5, 0), asked(2, 0), none, close, none]),
-        (6, [none, asked(5, 1), none, close, none]),
+        (4, [asked(5, 0), none, none, asked(2, 0), close, none]),
+        (6, [none, none, none, asked(5, 1), close, none]),
         // answers to the first host, and to the second
-        (1, [told(5, 0, 1), told(5, 1, 3), close, none, none]),
-        (3, [none, told(2, 0, 2), close, none, none]),
+        (1, [told(5, 0, 1), none, told(5, 1, 3), close, none, none]),
+        (3, [none, none, told(2, 0, 2), close, none, none]),
     ] {
         let mut fabric = SerialFabric::new(rt.alloc());
-        let seen = see(rt.alloc(), &mut fabric, ring)?;
+        let seen = see(rt.alloc(), &mut fabric, ring, &first, &second, &third, &fourth)?;
         assert!(rt; seen.items.as_slice() == items.as_slice(), "ring {ring}");
         let turns = [
+            Turn::Moved,
             Turn::Moved,
             Turn::Moved,
             Turn::Moved,
@@ -334,5 +380,19 @@ fn each_flow_goes_its_way(rt: HostRuntime) -> Result<(), Fail> {
         ];
         assert_eq!(rt; seen.turns.as_slice(), turns.as_slice(), "ring {ring}");
     }
+    Ok(())
+}
+
+/// A read of two words comes over a link of 8 bytes in two packets, and goes on over one of 32 bytes in one.
+#[test]
+fn parts_are_joined(rt: HostRuntime) -> Result<(), Fail> {
+    let none: Option<Item> = None;
+    let both = Some(Item::Packet(both_parts()));
+    let close = Some(Item::Close);
+    let mut fabric = SerialFabric::new(rt.alloc());
+    let parts = [first_part(), second_part()];
+    let seen = see(rt.alloc(), &mut fabric, 6, &parts, &[], &[], &[])?;
+    let items = [none, none, both, close, none, none];
+    assert!(rt; seen.items.as_slice() == items.as_slice());
     Ok(())
 }

@@ -5,7 +5,6 @@ use Rattle.std.proofs.lemmas.List.Elements.{All-from_recursion}
 use Rattle.sb_link.specs.Ends.{IsNewRing}
 use Rattle.sb_link.specs.RingPlans.{RingPlan}
 use Rattle.sb_flow.specs.Rings.{ring_plan}
-use Rattle.sb_port.specs.Waiting.{IsWidth}
 use Rattle.sb_tests.specs.Samples.{sample}
 
 -- the plans of its rings, in order
@@ -33,10 +32,3 @@ ring_2 made plan same is = new_among made (sample_plan 0 ∷ sample_plan 1 ∷ [
 pub ring_3 : (made : List RingPlan) (plan : RingPlan) → made ≡ sample_plan 0 ∷ sample_plan 1 ∷ sample_plan 2 ∷ [] → plan ≡ sample_plan 3 → IsNewRing plan.ring made
 ring_3 made plan same is = new_among made (sample_plan 0 ∷ sample_plan 1 ∷ sample_plan 2 ∷ []) plan (sample_plan 3) same is
     (All-from_recursion (λ (p : RingPlan). p.ring ≢ 3) (sample_plan 0 ∷ sample_plan 1 ∷ sample_plan 2 ∷ []) ((λ e. cc), ((λ e. cc), ((λ e. cc), tt))))
-
--- those that the router sends on are as wide as ports serve
-pub wide_1 : (plan : RingPlan) → plan ≡ sample_plan 1 → IsWidth plan.width
-wide_1 plan is = subst (λ (p : RingPlan). IsWidth p.width) (sym is) refl
-
-pub wide_2 : (plan : RingPlan) → plan ≡ sample_plan 2 → IsWidth plan.width
-wide_2 plan is = subst (λ (p : RingPlan). IsWidth p.width) (sym is) refl

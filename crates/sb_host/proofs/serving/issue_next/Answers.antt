@@ -4,6 +4,7 @@ use Rattle.std.specs.Prelude.{not}
 use Rattle.sb_packet.specs.Accesses.{message_accesses}
 use Rattle.sb_link.specs.Prefixes.{IsPrefix}
 use Rattle.sb_port.specs.Ports.{PortSide, offered_words}
+use Rattle.sb_node.specs.Kept.{IsKeptPort, kept_port_same}
 use Rattle.sb_host.specs.Progress.{left_of}
 use Rattle.sb_host.proofs.Ordered.{some_left}
 use Rattle.sb_host.proofs.serving.issue_next.Goals.{then-any_left, else-any_left, then-offers, else-offers}
@@ -33,3 +34,9 @@ returns-else-not-any_left-clause-next_offered g c = λ ready m rest here.
         | else-any_left v ↦ absurd (some_left c.pass_over.new.self m rest c.pass_over.ensures.come (c.any_left.ensures.none v.if-any_left.false) left)
       ]
     ]
+
+pub returns-else-not-any_left-clause-kept : goal.returns-else-not-any_left-clause-kept
+returns-else-not-any_left-clause-kept g c = elim c.if-offers.branch [
+  | then-offers w ↦ subst (λ (p : PortSide). IsKeptPort c.args.requests.now p) (sym w.requests-is) w.offer_next.ensures.kept
+  | else-offers w ↦ subst (λ (p : PortSide). IsKeptPort c.args.requests.now p) (sym w.requests-is) (kept_port_same c.args.requests.now)
+]

@@ -10,7 +10,7 @@ use Rattle.sb_router.specs.Fresh.{fresh_inlet}
 use Rattle.sb_member.specs.Joints.{IsJoined}
 use Rattle.sb_tests.specs.Lines.{sample_joints}
 use Rattle.sb_tests.proofs.NewLine.{AreEnds, fresh_ends, new_line, seen_ends, two_ports, two_rings}
-use Rattle.sb_tests.proofs.NewRings.{one_more, ring_0, ring_1, ring_2, ring_3, sample_plan, wide_1, wide_2}
+use Rattle.sb_tests.proofs.NewRings.{one_more, ring_0, ring_1, ring_2, ring_3, sample_plan}
 use Rattle.sb_tests.specs.Samples.{sample}
 use Rattle.sb_tests.proofs.line.nodes_of.Goals as goal
 
@@ -61,14 +61,12 @@ router_at-requires-clause-made g c κs within = c.in_ok-paths.ensures
 pub router_at-requires-clause-near : goal.router_at-requires-clause-near
 router_at-requires-clause-near g c κs within = record {
   unsent = c.in_ok-host_leg.ensures.answers_unsent;
-  wide = wide_1 _ (c.in_ok-host_leg.ensures.answers_out ∙ planned _ 1 _ c.requires.network c.plan-near_up.ensures);
   unreceived = c.in_ok-host_leg.ensures.requests_unreceived;
 }
 
 pub router_at-requires-clause-far : goal.router_at-requires-clause-far
 router_at-requires-clause-far g c κs within = record {
   unsent = c.in_ok-leg_out.ensures.requests_unsent;
-  wide = wide_2 _ (c.in_ok-leg_out.ensures.requests_out ∙ planned _ 2 _ c.requires.network c.plan-far_down.ensures);
   unreceived = c.in_ok-leg_out.ensures.answers_unreceived;
 }
 

@@ -18,13 +18,8 @@ use Rattle.sb_host.specs.Issuing.{IsMadeFor}
 use Rattle.sb_host.specs.Places.{AreIssuable, asked_of}
 use Rattle.sb_host.specs.Progress.{TransactionsSide}
 use Rattle.sb_host.proofs.Beginning.{begins_in_order, orders_issuable}
-use Rattle.sb_host.proofs.OwnRings.{own_ring_made, own_ring_wide}
+use Rattle.sb_host.proofs.OwnRings.{own_ring_made}
 use Rattle.sb_host.proofs.host.Host.new.Goals as goal
-
-pub new-requires-2-clause-wide : goal.new-requires-2-clause-wide
-new-requires-2-clause-wide g c =
-    let network = network_of c.args.bundle.now in
-    ap (λ (p : RingPlan). p.width) c.requires.planned ∙ own_ring_wide network c.args.number c.args.leg.link (accepted c.args.bundle.now) c.requires.own
 
 pub returns-clause-whole : goal.returns-clause-whole
 returns-clause-whole g c =

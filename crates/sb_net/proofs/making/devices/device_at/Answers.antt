@@ -5,7 +5,7 @@ use Rattle.sb_device.specs.Plans.{IsPlannedFor}
 use Rattle.sb_device.specs.Served.{HasServed}
 use Rattle.sb_flow.specs.NetworkOf.{network_of}
 use Rattle.sb_flow.proofs.Bundles.{accepted}
-use Rattle.sb_net.proofs.DevicesMade.{device_leg, device_made, device_planned, device_some, device_wide}
+use Rattle.sb_net.proofs.DevicesMade.{device_leg, device_made, device_planned, device_some}
 use Rattle.sb_net.proofs.making.devices.device_at.Goals as goal
 
 pub unreachable-requires : goal.unreachable-requires
@@ -30,11 +30,6 @@ new-requires-clause-planned g c κs within =
     let b = c.args.bundle.now in
     subst (λ (m : MemoryState). IsPlannedFor c.args.number m (g.F.Rx.RxEnd.planned c.in-Some.leg.requests) (g.F.Tx.TxEnd.planned c.in-Some.leg.answers)) (sym c.in_ok-memory.ensures.memory)
     (device_planned g.F.Tx.TxEnd g.F.Rx.RxEnd (network_of b) (accepted b) c.args.number c.requires.number c.args.ins.items c.requires.legs c.pop.new.self.items c.in-Some.leg c.in-Some.ensures.items)
-
-pub new-requires-clause-wide : goal.new-requires-clause-wide
-new-requires-clause-wide g c κs within =
-    let b = c.args.bundle.now in
-    device_wide g.F.Tx.TxEnd g.F.Rx.RxEnd (network_of b) (accepted b) c.args.number c.requires.number c.args.ins.items c.requires.legs c.pop.new.self.items c.in-Some.leg c.in-Some.ensures.items
 
 pub returns : goal.returns
 returns g c =
