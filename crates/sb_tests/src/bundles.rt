@@ -171,14 +171,42 @@ fn side_by_side(rt: HostRuntime) -> Result<(), Fail> {
     Ok(())
 }
 
+/// A generated network is run, and its summary is of the network alone. Nothing is read: a source that would fail is not
+/// asked.
+#[test]
+fn generated(rt: HostRuntime) -> Result<(), Fail> {
+    let mut source = ByteSource::new(rt.alloc(), b"?", 1, &[0])?;
+    let mut sink = ByteSink::new(rt.alloc(), 4096, 4096, &[])?;
+    let mut fabric = RingFabric::new(rt.alloc());
+    let (status, packets) = call(
+        &rt,
+        rt.alloc(),
+        &["gen", "0000000007"],
+        &mut source,
+        &mut sink,
+        &mut fabric,
+        &FreeGate,
+    )?;
+    assert_eq!(rt; status, 0);
+    // each transaction is aimed at a device, and is one packet at least
+    assert!(rt; packets >= 8_192);
+    assert_eq!(rt;
+        sink.as_slice(),
+        b"gen 7\nhosts 4 transactions 8192\nwords 45584\nbytes 171413\ndone\n".as_slice()
+    );
+    Ok(())
+}
+
 /// What ends with a line of its own, and runs nothing.
 #[test]
 fn lines_in_place_of_reports(rt: HostRuntime) -> Result<(), Fail> {
-    let rows: [(&[&str], &str, u8, &str); 16] = [
+    let rows: [(&[&str], &str, u8, &str); 18] = [
         (&[], "", 2, "usage\n"),
         (&["Solo"], "", 2, "usage\n"),
         (&["solo", "solo"], "", 2, "usage\n"),
         (&["--help"], "", 2, "usage\n"),
+        (&["gen"], "", 2, "usage\n"),
+        (&["gen", "-1"], "", 2, "usage\n"),
         (&["replay", "--workers", "2"], EXAMPLE, 2, "usage\n"),
         (&["replay", "--order", "4294967296"], EXAMPLE, 2, "usage\n"),
         (&["replay", "--order", "-1"], EXAMPLE, 2, "usage\n"),
