@@ -1,0 +1,5 @@
+pub mod LineLemmas
+pub mod MatchLemmas
+pub mod WordLemmas
+pub mod DigitLemmas
+pub mod EntryLemmas
