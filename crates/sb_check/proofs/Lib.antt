@@ -3,3 +3,4 @@ pub mod MatchLemmas
 pub mod WordLemmas
 pub mod DigitLemmas
 pub mod EntryLemmas
+pub mod HeadingLemmas

@@ -290,7 +290,7 @@ fn is_line_of(bundle: &Bundle, line: &[u8], entry: &Entry) -> bool
 }
 
 /// What the types of a round and of a body say of them. It does nothing.
-fn fit_their_types(round: u32, body: &[u8])
+pub fn fit_their_types(round: u32, body: &[u8])
     ensures round { round < 2 ^ 32 }
     ensures bytes { All (λ b. b < 256) body.now }
 {

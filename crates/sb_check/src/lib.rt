@@ -3,6 +3,7 @@
 #![tactic(auto)]
 
 mod entry_line;
+mod heading;
 mod line_piece;
 mod line_words;
 mod lines;
@@ -10,4 +11,5 @@ mod unread;
 mod verdict;
 
 pub use entry_line::read_entry;
+pub use heading::{announced, is_first_line};
 pub use verdict::{Reason, Verdict};
