@@ -1,5 +1,5 @@
 -- What reading an entry's line comes to.
-use Rattle.std.proofs.Common.{◌≡◌, ◌<◌, ◌≤◌, ◌+◌, ◌-◌, ◌*◌, ◌%◌, ◌^◌, ℕ, zero, suc, Bool, true, false, List, [], ◌∷◌, ◌++◌, length, get_or, take, drop, replicate, ap, sym, refl, ◌∙◌, arith, rules, Option, Some, None, subst, append_assoc}
+use Rattle.std.proofs.Common.{◌≡◌, ◌<◌, ◌≤◌, ◌+◌, ◌-◌, ◌*◌, ◌%◌, ◌^◌, ℕ, zero, suc, Bool, true, false, List, [], ◌∷◌, ◌++◌, length, get_or, take, drop, replicate, ap, sym, refl, ◌∙◌, arith, Option, Some, None, subst, append_assoc}
 use Rattle.std.proofs.Props.{props}
 use Rattle.std.specs.Bool.{OnFalse, OnTrue}
 use Rattle.std.specs.Prelude.{All, ◌==◌, ◌≢◌, IsSomeAnd, codes, decimal, unwrap_or, bytes_eq, map}
@@ -19,20 +19,18 @@ use Rattle.sb_check.specs.Spelling.{IsPlain}
 use Rattle.std.specs.Prelude.{Result, Ok, Err, MatchResult}
 use Rattle.std.specs.Result.{result_unwrap_or}
 use Rattle.std.proofs.lemmas.List.{length-take, take-append-drop}
-use Rattle.std.proofs.lemmas.List.Elements.{All-head, All-tail, All-get_or}
+use Rattle.std.proofs.lemmas.List.Elements.{All-head, All-tail}
 use Rattle.std.proofs.Math.Seq.{take-append_seam}
-use Rattle.hex.specs.Hex.{IsBytes, decode_sized, encode_lower, encode_with}
+use Rattle.hex.specs.Hex.{IsBytes, decode_sized, encode_lower}
 use Rattle.hex.specs.declared.error.FromHexError.{FromHexError}
 use Rattle.hex.proofs.HexLemmas.{decode_sized-encode_lower}
 use Rattle.sb_word.specs.Words.{IsWordOf, bit_of, opcode_of, word_of}
 use Rattle.sb_word.specs.declared.fault.WordFault.{WordFault}
 use Rattle.sb_packet.specs.Messages.{message_of}
-use Rattle.sb_packet.specs.Spans.{carried_by}
 use Rattle.sb_packet.proofs.Opcodes.{carries_none_or_all}
 use Rattle.sb_text.specs.Numerals.{digits_number}
 use Rattle.sb_text.specs.TextLines.{body_text, hex_number, text_line}
 use Rattle.sb_flow.specs.Firsts.{first_clash}
-use Rattle.sb_flow.specs.Names.{repeated_name}
 use Rattle.sb_flow.specs.NetworkOf.{network_of}
 use Rattle.sb_flow.specs.Rows.{device_of}
 use Rattle.sb_flow.specs.declared.bundle.Bundle.{Bundle}

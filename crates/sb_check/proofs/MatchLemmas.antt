@@ -1,13 +1,11 @@
 -- Texts that are compared one after another.
-use Rattle.std.proofs.Common.{◌≡◌, ◌<◌, ◌≤◌, ◌+◌, ◌*◌, ◌/◌, ◌%◌, ℕ, zero, suc, List, [], ◌∷◌, ◌++◌, length, get_or, ap, sym, refl, ◌∙◌, arith, append_assoc, take, drop, subst, add-one, drop-cons, ◌-◌}
-use Rattle.std.specs.Prelude.{Result, Ok, Err, IsErr, bytes_eq, false, map, slice_index, OnOk, OnErr, flat_map}
-use Rattle.std.proofs.lemmas.List.{append-nil, length-append}
+use Rattle.std.proofs.Common.{◌≡◌, ◌<◌, ◌≤◌, ◌+◌, ◌*◌, ◌/◌, ◌%◌, ℕ, zero, suc, List, [], ◌∷◌, ◌++◌, length, get_or, ap, sym, refl, ◌∙◌, arith, append_assoc, take, drop, subst, ◌-◌}
+use Rattle.std.specs.Prelude.{Result, Ok, Err, IsErr, map, slice_index, flat_map}
+use Rattle.std.proofs.lemmas.List.{length-append}
 use Rattle.std.proofs.Math.Seq.{drop-append_seam, take-append_seam}
 use Rattle.hex.specs.Hex.{encode_lower, encode_with, lower_digits}
 use Rattle.std.proofs.lemmas.Bool.{false≢true}
-use Rattle.std.proofs.lemmas.List.{take-append-drop, take_all}
-use Rattle.std.proofs.lemmas.List.Concat.{flat_map-cons}
-use Rattle.std.proofs.lemmas.Grind.{flat_map-append}
+use Rattle.std.proofs.lemmas.List.{take_all}
 use Rattle.sb_text.specs.TextLines.{text_line}
 use Rattle.sb_check.specs.declared.line_piece.LinePiece.{LinePiece}
 use Rattle.sb_check.specs.Beginnings.{BeginsList}

@@ -1,6 +1,5 @@
 -- When do the entries so far begin a lawful journal?
 use Rattle.std.specs.Prelude.{ℕ, ◌≡◌, ◌++◌, List, All, IsTrue}
-use Rattle.sb_packet.specs.Accesses.{Access}
 use Rattle.sb_packet.specs.Journals.{IsPlaced, flow_part, is_in_round_order, journal_accesses}
 use Rattle.sb_packet.specs.Networks.{Network}
 use Rattle.sb_packet.specs.Scripts.{script_accesses}

@@ -1,5 +1,5 @@
 -- The history with which a report begins.
-use Rattle.std.specs.Prelude.{ℕ, zero, suc, ◌≡◌, ◌<◌, ◌≤◌, ◌+◌, ◌^◌, ◌⊎◌, List, [], ◌∷◌, All, length, map, take, slice_get, Option, None, Some}
+use Rattle.std.specs.Prelude.{ℕ, zero, suc, ◌≡◌, ◌<◌, ◌+◌, ◌^◌, ◌⊎◌, List, ◌∷◌, All, length, map, take, slice_get, None, Some}
 use Rattle.sb_packet.specs.Networks.{Network}
 use Rattle.sb_text.specs.Reports.{entry_line, first_line}
 use Rattle.sb_check.specs.ReportLines.{report_lines}

@@ -1,5 +1,5 @@
 -- What a line of a report spells: it is the line that is printed for it, byte by byte.
-use Rattle.std.specs.Prelude.{ℕ, ◌==◌, false, ◌≡◌, ◌<◌, ◌^◌, List, [], ◌∷◌, ◌++◌, All, length, codes, decimal}
+use Rattle.std.specs.Prelude.{ℕ, ◌==◌, false, ◌≡◌, ◌<◌, ◌^◌, List, [], ◌∷◌, All, length, codes, decimal}
 use Rattle.sb_packet.specs.Networks.{Network}
 use Rattle.sb_text.specs.Reports.{entry_line}
 use Rattle.sb_text.specs.TextLines.{body_text, hex_number, text_line}

@@ -1,5 +1,5 @@
 -- What may be said of a report.
-use Rattle.std.specs.Prelude.{ℕ, ◌≡◌, ◌<◌, ◌+◌, List, All, length, take, true, Option, None}
+use Rattle.std.specs.Prelude.{ℕ, ◌≡◌, ◌<◌, ◌+◌, List, All, length, take, true, None}
 use Rattle.sb_packet.specs.Journals.{IsLawful}
 use Rattle.sb_packet.specs.Networks.{Network}
 use Rattle.sb_text.specs.Reports.{run_report}

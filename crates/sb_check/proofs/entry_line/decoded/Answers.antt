@@ -1,5 +1,5 @@
 -- Digits of bytes are decoded to them.
-use Rattle.std.proofs.Common.{◌≡◌, ◌∙◌, ℕ, List, sym, ap, arith, Option, Some, length}
+use Rattle.std.proofs.Common.{◌∙◌, ℕ, List, ap, arith, Some}
 use Rattle.std.proofs.lemmas.Grind.{common_steps}
 use Rattle.sb_check.proofs.EntryLemmas.{decode_gives, padded_as}
 use Rattle.sb_check.proofs.entry_line.decoded.Goals as goal

@@ -1,5 +1,5 @@
 -- The line that is printed for an entry is read as that entry.
-use Rattle.std.proofs.Common.{◌≡◌, ◌∙◌, ◌∷◌, ◌++◌, ℕ, sym, ap, refl, Some}
+use Rattle.std.proofs.Common.{◌≡◌, ◌∙◌, ◌∷◌, ◌++◌, sym, refl}
 use Rattle.sb_flow.specs.NetworkOf.{network_of}
 use Rattle.sb_check.specs.Spelling.{packet_words}
 use Rattle.sb_check.proofs.EntryLemmas.{device_name_at, entry_words, not_both, one_number, option_same}

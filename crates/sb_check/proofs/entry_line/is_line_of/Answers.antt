@@ -3,7 +3,6 @@ use Rattle.std.proofs.Common.{◌≡◌, ◌∙◌, ℕ, List, ap, subst, sym}
 use Rattle.std.specs.Bool.{OnFalse, OnTrue}
 use Rattle.std.specs.Prelude.{◌≢◌}
 use Rattle.sb_flow.specs.NetworkOf.{network_of}
-use Rattle.sb_flow.specs.declared.bundle.Bundle.{Bundle}
 use Rattle.sb_text.specs.TextLines.{hex_number}
 use Rattle.sb_text.proofs.ToldLemmas.{read_at}
 use Rattle.sb_check.proofs.EntryLemmas.{line_is, name_read}

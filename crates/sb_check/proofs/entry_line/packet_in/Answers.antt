@@ -1,5 +1,5 @@
 -- The last four words of an entry's line are its packet.
-use Rattle.std.proofs.Common.{◌≡◌, ◌∙◌, ◌∷◌, [], ◌++◌, ℕ, List, sym, ap, arith, Option, Some}
+use Rattle.std.proofs.Common.{◌∙◌, ◌∷◌, [], ◌++◌, ℕ, List, sym, ap}
 use Rattle.sb_word.specs.Words.{word_of}
 use Rattle.sb_packet.specs.Messages.{message_of}
 use Rattle.sb_text.specs.TextLines.{body_text}

@@ -1,5 +1,5 @@
 -- The packet of the numbers and the body that are printed for it is itself.
-use Rattle.std.proofs.Common.{◌≡◌, ◌≤◌, ◌+◌, ◌^◌, ◌%◌, ◌∙◌, ℕ, List, sym, ap, subst, arith, Option, Some, [], ◌++◌, ◌-◌, replicate}
+use Rattle.std.proofs.Common.{◌≡◌, ◌^◌, ◌∙◌, ℕ, List, sym, ap, arith, Option, Some, [], ◌++◌, ◌-◌, replicate}
 use Rattle.std.specs.Prelude.{unwrap_or}
 use Rattle.sb_word.specs.declared.command.Cmd.{Cmd}
 use Rattle.sb_packet.specs.Spans.{carried_of, span_of}

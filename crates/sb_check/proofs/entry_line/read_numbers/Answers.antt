@@ -1,5 +1,5 @@
 -- The last three words are the command word and both addresses.
-use Rattle.std.proofs.Common.{◌≡◌, ◌<◌, ◌∙◌, ◌∷◌, [], ◌++◌, ℕ, List, sym, ap, refl, arith, length, Option, Some, None}
+use Rattle.std.proofs.Common.{◌≡◌, ◌∙◌, ◌∷◌, ◌++◌, refl, arith}
 use Rattle.sb_check.proofs.EntryLemmas.{last_of_two, last_of_three, not_both, one_number}
 use Rattle.sb_check.proofs.entry_line.read_numbers.Goals as goal
 

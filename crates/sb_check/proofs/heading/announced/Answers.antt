@@ -1,5 +1,5 @@
 -- Only the line of a count announces it.
-use Rattle.std.proofs.Common.{◌≡◌, ◌∙◌, ℕ, ap, sym}
+use Rattle.std.proofs.Common.{◌≡◌, ◌∙◌, ap, sym}
 use Rattle.sb_check.specs.Spelling.{count_line}
 use Rattle.sb_check.proofs.EntryLemmas.{one_number}
 use Rattle.sb_check.proofs.heading.announced.Goals as goal

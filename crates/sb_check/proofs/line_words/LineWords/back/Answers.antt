@@ -1,5 +1,5 @@
 -- A plain word begins behind the last blank.
-use Rattle.std.proofs.Common.{◌≡◌, ◌∙◌, ◌∷◌, ◌++◌, ℕ, List, sym, ap, subst, length, drop, Option, Some, None}
+use Rattle.std.proofs.Common.{◌≡◌, ◌∙◌, ℕ, List, sym, ap, subst, length, drop, Option, Some}
 use Rattle.std.specs.Prelude.{unwrap_or}
 use Rattle.memchr.specs.Find.{IsLastByte, is_byte}
 use Rattle.sb_check.proofs.WordLemmas.{back_part, front_part, last_blank}

@@ -1,5 +1,5 @@
 -- There are too few digits, or others.
-use Rattle.std.proofs.Common.{ℕ, ◌≡◌, ◌∙◌, sym, ap, subst, take, length, arith}
+use Rattle.std.proofs.Common.{ℕ, ◌≡◌, ◌∙◌, subst, take, arith}
 use Rattle.hex.specs.Hex.{encode_lower}
 use Rattle.sb_check.proofs.MatchLemmas.{begins_front, differs_short, length-encode_lower}
 use Rattle.sb_check.proofs.unread.Unread.digits.Goals as goal

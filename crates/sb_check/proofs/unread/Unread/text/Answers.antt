@@ -1,5 +1,5 @@
 -- The front is another text.
-use Rattle.std.proofs.Common.{◌≡◌, ◌∙◌, sym, arith}
+use Rattle.std.proofs.Common.{arith}
 use Rattle.std.proofs.lemmas.Slice.Eq.{bytes_eq-Decides}
 use Rattle.sb_check.proofs.MatchLemmas.{differs_front}
 use Rattle.sb_check.proofs.unread.Unread.text.Goals as goal
