@@ -1,0 +1,6 @@
+pub mod ReportLines
+pub mod Spelling
+pub mod Histories
+pub mod Beginnings
+pub mod Verdicts
+pub mod Matching
