@@ -258,7 +258,14 @@ fn lost_scripts_are_not_offered(rt: HostRuntime) -> Result<(), Fail> {
     // only the Close
     assert_eq!(rt;
         turns(&mut host),
-        [Turn::Moved, waits(3), waits(3), waits(3), waits(3), waits(3)]
+        [
+            Turn::Moved,
+            waits(3),
+            waits(3),
+            waits(3),
+            waits(3),
+            waits(3)
+        ]
     );
     assert_eq!(rt; states(&host), [LOST, LOST, TxnState::Posted]);
     assert_eq!(rt; host.body(0), [0; 16].as_slice());

@@ -59,12 +59,15 @@ offered_more {before} {now} {then} {p} (inl same) given = inr (subst (λ (port :
   where
     first : WasOffered now then
     first = record { packet = p; others = []; pass = (given.passes, tt); words = given.words ∙ ap (λ (l : List Access). offered_words now ++ l) (sym (append-nil (accesses_of p))) }
-offered_more {before} {now} {then} {p} (inr offered) given = inr (record {
+offered_more {before} {now} {then} {p} (inr offered) given = inr (
+  record {
     packet = so_far.packet;
     others = so_far.others ++ p ∷ [];
     pass = pass_then before.plan (length (offered_words before)) all p so_far.pass (subst (λ (plan : RingPlan). MayPass plan (length (offered_words before) + length (flat_map accesses_of all)) (message_of p)) offered.1 (subst (λ (n : ℕ). MayPass now.plan n (message_of p)) count given.passes));
     words = given.words ∙ ap (λ (l : List Access). l ++ accesses_of p) so_far.words ∙ append_assoc (offered_words before) (flat_map accesses_of all) (accesses_of p) ∙ ap (λ (l : List Access). offered_words before ++ l) (words_then all p);
-  }, given.kept.plan ∙ offered.1)
+  },
+  given.kept.plan ∙ offered.1,
+)
   where
     so_far : WasOffered before now
     so_far = offered.0

@@ -368,7 +368,15 @@ fn each_flow_goes_its_way(rt: HostRuntime) -> Result<(), Fail> {
         (3, [none, none, told(2, 0, 2), close, none, none]),
     ] {
         let mut fabric = SerialFabric::new(rt.alloc());
-        let seen = see(rt.alloc(), &mut fabric, ring, &first, &second, &third, &fourth)?;
+        let seen = see(
+            rt.alloc(),
+            &mut fabric,
+            ring,
+            &first,
+            &second,
+            &third,
+            &fourth,
+        )?;
         assert!(rt; seen.items.as_slice() == items.as_slice(), "ring {ring}");
         let turns = [
             Turn::Moved,
