@@ -28,18 +28,19 @@ struct Seen {
 }
 
 // what goes with a packet of one word or two, which may end its transaction
-fn words(op: Op, host: u8, two: bool, eom: bool) -> Cmd
+fn words(op: Op, host: u8, count: u8, eom: bool) -> Cmd
     requires host { host ≤ 31 }
+    requires some { 1 ≤ count }
+    requires few { count ≤ 2 }
     ensures op { result.op ≡ op }
     ensures size { result.size ≡ 3 }
-    ensures len { result.len ≡ if two then 1 else 0 }
+    ensures len { result.len + 1 ≡ count }
     ensures host { result.host ≡ host }
 {
-    let len = if two { 1 } else { 0 };
     Cmd {
         op,
         size: 3,
-        len,
+        len: count - 1,
         qos: 0,
         prot: 0,
         eom,
@@ -58,13 +59,13 @@ fn word(op: Op, host: u8) -> Cmd
     ensures len { result.len ≡ 0 }
     ensures host { result.host ≡ host }
 {
-    words(op, host, false, true)
+    words(op, host, 1, true)
 }
 
 // the first host reads two words of the second device: the packet of the first, that of the second, and one of both
 fn first_part() -> Packet {
     Packet {
-        cmd: words(Op::ReqRd, 5, false, false),
+        cmd: words(Op::ReqRd, 5, 1, false),
         dst: 8192,
         src: 5 << 40,
         body: [0; 32],
@@ -73,7 +74,7 @@ fn first_part() -> Packet {
 
 fn second_part() -> Packet {
     Packet {
-        cmd: words(Op::ReqRd, 5, false, true),
+        cmd: words(Op::ReqRd, 5, 1, true),
         dst: 8200,
         src: (5 << 40) + 8,
         body: [0; 32],
@@ -82,7 +83,7 @@ fn second_part() -> Packet {
 
 fn both_parts() -> Packet {
     Packet {
-        cmd: words(Op::ReqRd, 5, true, true),
+        cmd: words(Op::ReqRd, 5, 2, true),
         dst: 8192,
         src: 5 << 40,
         body: [0; 32],
