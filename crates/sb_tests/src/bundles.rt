@@ -120,7 +120,7 @@ fn workers(rt: HostRuntime) -> Result<(), Fail> {
 /// packets that come to fewer. The memory is read back over the same links.
 #[test]
 fn joined_on_a_wide_link(rt: HostRuntime) -> Result<(), Fail> {
-    let pushes = Pushes::new();
+    let pushes = Pushes::counted();
     let mut source = CleanSource::new(rt.alloc(), WIDENING.as_bytes(), 4096)?;
     let mut sink = ByteSink::new(rt.alloc(), 4096, 4096, &[])?;
     let mut fabric = Watched {
@@ -148,7 +148,7 @@ fn joined_on_a_wide_link(rt: HostRuntime) -> Result<(), Fail> {
 #[test]
 fn side_by_side(rt: HostRuntime) -> Result<(), Fail> {
     let gate = Rendezvous::new();
-    let pushes = Rendezvous::new();
+    let pushes = Pushes::met();
     let mut source = CleanSource::new(rt.alloc(), EXAMPLE.as_bytes(), 4096)?;
     let mut sink = ByteSink::new(rt.alloc(), 4096, 4096, &[])?;
     let mut fabric = Watched {
@@ -167,7 +167,7 @@ fn side_by_side(rt: HostRuntime) -> Result<(), Fail> {
     assert_eq!(rt; ended, (0, EXAMPLE_PACKETS));
     assert_eq!(rt; sink.as_slice(), EXAMPLE_REPORT.as_bytes());
     assert!(rt; gate.met());
-    assert!(rt; pushes.met());
+    assert!(rt; pushes.have_met());
     Ok(())
 }
 

@@ -6,36 +6,26 @@ use sb_packet::Item;
 use std::alloc::{AllocError, Global};
 use std::sync::atomic::{AtomicU32, Ordering};
 
-/// What is told of the pushes on rings.
-pub trait Watch: Sync {
-    /// An item is about to be pushed on the ring of that number.
-    fn before(&self, ring: u16);
-
-    /// It was pushed, and the ring had room.
-    fn sent(&self, ring: u16, item: &Item);
-}
-
-/// The first pushes on rings 0 and 2 see each other.
-impl Watch for Rendezvous {
-    fn before(&self, ring: u16) {
-        match ring {
-            0 => self.wait(0),
-            2 => self.wait(1),
-            _ => {}
-        }
-    }
-
-    fn sent(&self, _ring: u16, _item: &Item) {}
-}
-
-/// Counts the packets that are sent over the first four rings.
+/// What is told of the pushes on the first four rings: how many packets were sent over each, and, where that is asked for,
+/// that the first pushes on rings 0 and 2 see each other.
 #[derive(Drop)]
 pub struct Pushes {
     counts: [AtomicU32; 4],
+    firsts: Option<Rendezvous>,
 }
 
 impl Pushes {
-    pub fn new() -> Pushes {
+    /// Counts packets alone.
+    pub fn counted() -> Pushes {
+        Pushes::of(None)
+    }
+
+    /// Lets the first pushes on rings 0 and 2 see each other, too.
+    pub fn met() -> Pushes {
+        Pushes::of(Some(Rendezvous::new()))
+    }
+
+    fn of(firsts: Option<Rendezvous>) -> Pushes {
         Pushes {
             counts: [
                 AtomicU32::new(0),
@@ -43,6 +33,7 @@ impl Pushes {
                 AtomicU32::new(0),
                 AtomicU32::new(0),
             ],
+            firsts,
         }
     }
 
@@ -53,11 +44,27 @@ impl Pushes {
             None => 0,
         }
     }
-}
 
-impl Watch for Pushes {
-    fn before(&self, _ring: u16) {}
+    /// Whether the first pushes on rings 0 and 2 saw each other.
+    pub fn have_met(&self) -> bool {
+        match &self.firsts {
+            Some(firsts) => firsts.met(),
+            None => false,
+        }
+    }
 
+    // an item is about to be pushed
+    fn before(&self, ring: u16) {
+        if let Some(firsts) = &self.firsts {
+            match ring {
+                0 => firsts.wait(0),
+                2 => firsts.wait(1),
+                _ => {}
+            }
+        }
+    }
+
+    // it was pushed, and the ring had room
     fn sent(&self, ring: u16, item: &Item) {
         if let (Item::Packet(_), Some(count)) = (item, self.counts.get(usize::from(ring))) {
             count.fetch_add(1, Ordering::SeqCst);
@@ -67,12 +74,12 @@ impl Watch for Pushes {
 
 /// A sending end that is watched.
 #[derive(Drop)]
-pub struct WatchedTx<'a, T: TxEnd, W: Watch> {
+pub struct WatchedTx<'a, T: TxEnd> {
     inner: T,
-    watch: &'a W,
+    watch: &'a Pushes,
 }
 
-impl<'a, T: TxEnd, W: Watch> TxEnd for WatchedTx<'a, T, W> {
+impl<'a, T: TxEnd> TxEnd for WatchedTx<'a, T> {
     ghost planned = { λ end. T.planned end.inner };
 
     ghost sent = { λ end. T.sent end.inner };
@@ -130,13 +137,13 @@ impl<U: RxEnd> RxEnd for WatchedRx<U> {
 
 /// The fabric, with what is told of its pushes.
 #[derive(Drop)]
-pub struct Watched<'a, F: Fabric + Drop, W: Watch> {
+pub struct Watched<'a, F: Fabric + Drop> {
     pub inner: F,
-    pub watch: &'a W,
+    pub watch: &'a Pushes,
 }
 
-impl<'a, F: Fabric + Drop, W: Watch> Fabric for Watched<'a, F, W> {
-    type Tx = WatchedTx<'a, F::Tx, W>;
+impl<'a, F: Fabric + Drop> Fabric for Watched<'a, F> {
+    type Tx = WatchedTx<'a, F::Tx>;
 
     type Rx = WatchedRx<F::Rx>;
 
@@ -152,17 +159,17 @@ impl<'a, F: Fabric + Drop, W: Watch> Fabric for Watched<'a, F, W> {
         &mut self,
         alloc: Global,
         plan: &LinkPlan,
-    ) -> Result<(WatchedTx<'a, F::Tx, W>, WatchedRx<F::Rx>), AllocError> {
+    ) -> Result<(WatchedTx<'a, F::Tx>, WatchedRx<F::Rx>), AllocError> {
         let (tx, rx) = self.inner.make(alloc, plan)?;
         let watch = self.watch;
         Ok((WatchedTx { inner: tx, watch }, WatchedRx { inner: rx }))
     }
 
-    fn hand(tx: &mut WatchedTx<'a, F::Tx, W>, rx: &mut WatchedRx<F::Rx>) {
+    fn hand(tx: &mut WatchedTx<'a, F::Tx>, rx: &mut WatchedRx<F::Rx>) {
         F::hand(&mut tx.inner, &mut rx.inner);
     }
 
-    fn settle(&mut self, tx: WatchedTx<'a, F::Tx, W>, rx: WatchedRx<F::Rx>) {
+    fn settle(&mut self, tx: WatchedTx<'a, F::Tx>, rx: WatchedRx<F::Rx>) {
         let WatchedTx {
             inner: tx,
             watch: _,
@@ -172,8 +179,8 @@ impl<'a, F: Fabric + Drop, W: Watch> Fabric for Watched<'a, F, W> {
     }
 }
 
-impl<'a, F: MeetFabric + Drop, W: Watch> MeetFabric for Watched<'a, F, W> {
-    fn meet(tx: &mut WatchedTx<'a, F::Tx, W>, rx: &mut WatchedRx<F::Rx>) {
+impl<'a, F: MeetFabric + Drop> MeetFabric for Watched<'a, F> {
+    fn meet(tx: &mut WatchedTx<'a, F::Tx>, rx: &mut WatchedRx<F::Rx>) {
         F::meet(&mut tx.inner, &mut rx.inner);
     }
 }
