@@ -1,3 +1,0 @@
-pub mod NewRings
-pub mod NewLine
-pub mod SampleRings
