@@ -4,3 +4,5 @@ pub mod WordLemmas
 pub mod DigitLemmas
 pub mod EntryLemmas
 pub mod HeadingLemmas
+pub mod UnendedLemmas
+pub mod CompareLemmas

@@ -4,3 +4,4 @@ pub mod Histories
 pub mod Beginnings
 pub mod Verdicts
 pub mod Matching
+pub mod Comparing

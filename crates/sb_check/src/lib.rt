@@ -2,13 +2,17 @@
 //! say of a report stands among the definitions (`Verdicts` in specs/); no function says it yet.
 #![tactic(auto)]
 
+mod closing_text;
+mod device_lines;
 mod entry_line;
 mod heading;
+mod host_lines;
 mod line_piece;
 mod line_words;
 mod lines;
 mod unread;
 mod verdict;
+mod whole_lines;
 
 pub use entry_line::read_entry;
 pub use heading::{announced, is_first_line};
