@@ -4,3 +4,9 @@ pub mod WordLemmas
 pub mod DigitLemmas
 pub mod EntryLemmas
 pub mod HeadingLemmas
+pub mod MessageParts
+pub mod ScriptWords
+pub mod JournalGrowth
+pub mod Admitted
+pub mod WholeScripts
+pub mod BundleLookups

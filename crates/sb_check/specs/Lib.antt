@@ -4,3 +4,5 @@ pub mod Histories
 pub mod Beginnings
 pub mod Verdicts
 pub mod Matching
+pub mod Parts
+pub mod Progresses

@@ -4,12 +4,18 @@
 
 mod entry_line;
 mod heading;
+mod host_progress;
 mod line_piece;
 mod line_words;
 mod lines;
+mod lookups;
+mod next_word;
+mod part;
+mod progress;
 mod unread;
 mod verdict;
 
 pub use entry_line::read_entry;
 pub use heading::{announced, is_first_line};
+pub use progress::Progress;
 pub use verdict::{Reason, Verdict};
