@@ -6,3 +6,9 @@ pub mod EntryLemmas
 pub mod HeadingLemmas
 pub mod UnendedLemmas
 pub mod CompareLemmas
+pub mod MessageParts
+pub mod ScriptWords
+pub mod JournalGrowth
+pub mod Admitted
+pub mod WholeScripts
+pub mod BundleLookups

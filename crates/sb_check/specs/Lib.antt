@@ -5,3 +5,5 @@ pub mod Beginnings
 pub mod Verdicts
 pub mod Matching
 pub mod Comparing
+pub mod Parts
+pub mod Progresses
