@@ -4,3 +4,13 @@ pub mod WordLemmas
 pub mod DigitLemmas
 pub mod EntryLemmas
 pub mod HeadingLemmas
+pub mod NoteLemmas
+pub mod OwnWords
+pub mod ReplyLemmas
+pub mod UnreachedLemmas
+pub mod NextEntries
+pub mod OpeningMemories
+pub mod GatheredSteps
+pub mod GatheredEntries
+pub mod GatheredOpening
+pub mod GatheredResults

@@ -4,3 +4,6 @@ pub mod Histories
 pub mod Beginnings
 pub mod Verdicts
 pub mod Matching
+pub mod NotedAnswers
+pub mod AnswerNotes
+pub mod Gathering

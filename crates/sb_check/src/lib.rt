@@ -2,7 +2,10 @@
 //! say of a report stands among the definitions (`Verdicts` in specs/); no function says it yet.
 #![tactic(auto)]
 
+mod answer_note;
+mod answer_notes;
 mod entry_line;
+mod gathered;
 mod heading;
 mod line_piece;
 mod line_words;
@@ -11,5 +14,6 @@ mod unread;
 mod verdict;
 
 pub use entry_line::read_entry;
+pub use gathered::Gathered;
 pub use heading::{announced, is_first_line};
 pub use verdict::{Reason, Verdict};
