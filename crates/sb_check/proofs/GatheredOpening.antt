@@ -5,7 +5,7 @@ use Rattle.std.specs.List.{range_with_len}
 use Rattle.std.specs.Option.{option_map_or}
 use Rattle.std.proofs.lemmas.List.{get_or-map, length-map, length-replicate, map-append}
 use Rattle.std.proofs.Math.Seq.{take-suc}
-use Rattle.std.proofs.lemmas.List.FromFn.{get_or-map-range_with_len, length-map-range_with_len}
+use Rattle.std.proofs.lemmas.List.FromFn.{get_or-map-range_with_len, length-map-range_with_len, map-range_with_len_more}
 use Rattle.std.proofs.lemmas.Option.{get_or_from_slice_get, slice_get_within}
 use Rattle.sb_packet.specs.Accesses.{Access}
 use Rattle.sb_packet.specs.Answers.{answer_body, answer_code, unreached_by}
@@ -89,3 +89,8 @@ row_more {A} {B} f xs k x before after y joined so_far here inside at =
     joined ∙ ap (λ (l : List B). l ++ y ∷ []) so_far ∙ ap (λ (z : B). map f (take k xs) ++ z ∷ []) (here ∙ ap f at)
     ∙ sym (map-append f (take k xs) (get_or xs k x ∷ []))
     ∙ ap (map f) (sym (take-suc xs k x inside)) ∙ ap (λ (n : ℕ). map f (take n xs)) (sym next)
+
+-- one more of those that are made of numbers
+pub number_more : {A : Type 0} (f : ℕ → A) (n : ℕ) (before after : List A) (x : A) → after ≡ before ++ x ∷ [] → before ≡ map f (range_with_len 0 n) → x ≡ f n → after ≡ map f (range_with_len 0 (n + 1))
+number_more {A} f n before after x joined so_far here =
+    joined ∙ ap (λ (l : List A). l ++ x ∷ []) so_far ∙ ap (λ (y : A). map f (range_with_len 0 n) ++ y ∷ []) here ∙ sym (map-range_with_len_more f 0 n n (omega arith))
