@@ -12,3 +12,13 @@ pub mod JournalGrowth
 pub mod Admitted
 pub mod WholeScripts
 pub mod BundleLookups
+pub mod NoteLemmas
+pub mod OwnWords
+pub mod ReplyLemmas
+pub mod UnreachedLemmas
+pub mod NextEntries
+pub mod OpeningMemories
+pub mod GatheredSteps
+pub mod GatheredEntries
+pub mod GatheredOpening
+pub mod GatheredResults

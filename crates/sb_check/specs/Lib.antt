@@ -7,3 +7,6 @@ pub mod Matching
 pub mod Comparing
 pub mod Parts
 pub mod Progresses
+pub mod NotedAnswers
+pub mod AnswerNotes
+pub mod Gathering

@@ -2,9 +2,12 @@
 //! say of a report stands among the definitions (`Verdicts` in specs/); no function says it yet.
 #![tactic(auto)]
 
+mod answer_note;
+mod answer_notes;
 mod closing_text;
 mod device_lines;
 mod entry_line;
+mod gathered;
 mod heading;
 mod host_lines;
 mod host_progress;
@@ -20,6 +23,7 @@ mod verdict;
 mod whole_lines;
 
 pub use entry_line::read_entry;
+pub use gathered::Gathered;
 pub use heading::{announced, is_first_line};
 pub use progress::Progress;
 pub use verdict::{Reason, Verdict};
