@@ -19,14 +19,14 @@ abbrev pub line_ends : List ℕ → ℕ
 line_ends text = length (filter is_line_end text)
 
 -- the lines of a text, joined, are the text
-abbrev joined_lines : List (List ℕ) → List ℕ
+abbrev pub joined_lines : List (List ℕ) → List ℕ
 joined_lines ls = flat_map (λ (l : List ℕ). l) ls
 
 begun_joined : (b : ℕ) (ls : List (List ℕ)) → joined_lines (begun_by b ls) ≡ b ∷ joined_lines ls
 begun_joined b [] = refl
 begun_joined b (l ∷ ls) = refl
 
-lines_joined : (text : List ℕ) → joined_lines (report_lines text) ≡ text
+pub lines_joined : (text : List ℕ) → joined_lines (report_lines text) ≡ text
 lines_joined [] = refl
 lines_joined (b ∷ text) = by (is_line_end b) refl (lines_joined text)
   where

@@ -22,3 +22,7 @@ pub mod GatheredSteps
 pub mod GatheredEntries
 pub mod GatheredOpening
 pub mod GatheredResults
+pub mod HistoryLemmas
+pub mod ReadingLemmas
+pub mod FollowLemmas
+pub mod TellingLaw

@@ -9,4 +9,7 @@ pub mod Parts
 pub mod Progresses
 pub mod NotedAnswers
 pub mod AnswerNotes
+pub mod EntriesRead
+pub mod Followed
+pub mod Faulty
 pub mod Gathering
