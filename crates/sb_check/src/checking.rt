@@ -23,12 +23,12 @@ use crate::verdict::{Reason, Verdict};
 use sb_flow::Bundle;
 use std::alloc::{AllocError, Global};
 
-/// What the types of a bundle's names say of them. It does nothing.
-fn names_fit_their_types(bundle: &Bundle)
+/// What is known of the names of a bundle's devices. It does nothing.
+fn names_are_names(bundle: &Bundle)
     ensures { All (λ d. is_name d.name ≡ true) (network_of bundle.now).devices }
 {
     for device in &bundle.devices {
-        device.name.fits_its_type();
+        let _name = device.name.as_slice();
     }
 }
 
@@ -45,7 +45,7 @@ fn follow_history(
         × IsFollowed (network_of bundle.now) journal course.new) }
     ensures form { IfErr result (IsFaulty (network_of bundle.now) lines.old.rest.now) }
 {
-    names_fit_their_types(bundle);
+    names_are_names(bundle);
     let count = match read_heading(lines) {
         Ok(count) => count,
         Err(line) => return Err(fault_at(line, Reason::Form)),
@@ -73,7 +73,7 @@ fn compare_closing(
         → IsLawful (network_of bundle.now) journal → Gathers (network_of bundle.now) journal gathered.now
         → length journal ≡ count → length report ≤ 2 ^ 26 → IfErr result (IsFaulty (network_of bundle.now) report) }
 {
-    names_fit_their_types(bundle);
+    names_are_names(bundle);
     match closing_difference(bundle, gathered, rest) {
         None => Ok(()),
         Some(line) => Err(fault_at(2 + count + line, Reason::Text)),
@@ -87,7 +87,7 @@ fn judge(bundle: &Bundle, course: &mut Course, report: &[u8]) -> Result<(), Faul
     ensures lawful { OnOk result (IsLawfulReport (network_of bundle.now) report.now) }
     ensures faulty { IfErr result (IsFaulty (network_of bundle.now) report.now) }
 {
-    names_fit_their_types(bundle);
+    names_are_names(bundle);
     let mut lines = ReportLines { rest: report };
     let count = follow_history(&mut lines, bundle, course)?;
     match course.ended(bundle, count) {

@@ -85,7 +85,6 @@ fn take_device_name(text: &mut Unread<'_>, plan: &DevicePlan) -> Result<(), Diff
     ensures compared { IsCompared result text.old.rest.now text.new.rest.now
         (text_line (codes "device" ∷ plan.now.name ∷ decimal plan.now.pages ∷ [])) }
 {
-    plan.name.fits_its_type();
     let pieces = [
         LinePiece::Text(b"device"),
         LinePiece::Text(plan.name.as_slice()),

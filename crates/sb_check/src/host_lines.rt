@@ -85,7 +85,6 @@ fn take_host_name(text: &mut Unread<'_>, plan: &HostPlan, count: u32) -> Result<
     ensures compared { IsCompared result text.old.rest.now text.new.rest.now
         (text_line (codes "host" ∷ plan.now.name ∷ decimal count ∷ [])) }
 {
-    plan.name.fits_its_type();
     let pieces = [
         LinePiece::Text(b"host"),
         LinePiece::Text(plan.name.as_slice()),

@@ -54,13 +54,6 @@ impl Name {
     {
         &self.text[..usize::from(self.len)]
     }
-
-    /// What its type says of a name: it is one. It does nothing.
-    pub fn fits_its_type(&self)
-        ensures { IsTrue (name_test self.now) }
-    {
-        let _len = self.len;
-    }
 }
 
 fn is_letter(byte: u8) -> bool

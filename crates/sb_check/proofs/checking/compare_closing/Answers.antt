@@ -19,5 +19,5 @@ returns-in-None-clause-lawful c = λ report journal r lawful gathers.
 pub returns-in-Some-clause-text : goal.returns-in-Some-clause-text
 returns-in-Some-clause-text c = λ report journal r lawful gathers many short.
     let network = network_of c.args.bundle.now in
-    text_faulty network report c.args.rest.now journal c.fault_at.result c.args.count c.in-Some.line c.fault_at.ensures.reason c.fault_at.ensures.line c.names_fit_their_types.ensures short r lawful many
+    text_faulty network report c.args.rest.now journal c.fault_at.result c.args.count c.in-Some.line c.fault_at.ensures.reason c.fault_at.ensures.line c.names_are_names.ensures short r lawful many
     (c.in-Some.ensures.compared (run_results network journal) (tells_gathered c.args.bundle.now journal c.args.gathered.now gathers lawful))

@@ -9,7 +9,7 @@ use Rattle.sb_check.proofs.checking.follow_history.Goals as goal
 pub returns-in-Err-clause-form : goal.returns-in-Err-clause-form
 returns-in-Err-clause-form c =
     let network = network_of c.args.bundle.now in
-    form_faulty network c.args.lines.now.rest.now c.fault_at.result c.in-Err.line c.fault_at.ensures.reason c.fault_at.ensures.line c.names_fit_their_types.ensures c.requires.short (c.in-Err.ensures.form network)
+    form_faulty network c.args.lines.now.rest.now c.fault_at.result c.in-Err.line c.fault_at.ensures.reason c.fault_at.ensures.line c.names_are_names.ensures c.requires.short (c.in-Err.ensures.form network)
 
 pub overflow_add-place : goal.overflow_add-place
 overflow_add-place c =
@@ -45,5 +45,5 @@ returns-in-Err-read_entries-clause-form c =
     let network = network_of c.args.bundle.now in
     let report = c.args.lines.now.rest.now in
     let read = c.in-Err-read_entries.ensures.form in
-    form_faulty network report c.fault_at-in-Err-read_entries.result (2 + c.in-Err-read_entries.place) c.fault_at-in-Err-read_entries.ensures.reason c.fault_at-in-Err-read_entries.ensures.line c.names_fit_their_types.ensures c.requires.short
+    form_faulty network report c.fault_at-in-Err-read_entries.result (2 + c.in-Err-read_entries.place) c.fault_at-in-Err-read_entries.ensures.reason c.fault_at-in-Err-read_entries.ensures.line c.names_are_names.ensures c.requires.short
     (form_fault_read network report c.read_heading.new.lines.rest.now read.1 read.0 c.in-Ok.count c.in-Err-read_entries.place c.in-Ok.ensures.headed read.4 read.3 read.2 read.5)

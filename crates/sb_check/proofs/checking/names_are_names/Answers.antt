@@ -7,7 +7,7 @@ use Rattle.sb_packet.specs.Names.{is_name}
 use Rattle.sb_packet.specs.Networks.{NetDevice}
 use Rattle.sb_flow.specs.Rows.{device_of}
 use Rattle.sb_flow.specs.declared.device_plan.DevicePlan.{DevicePlan}
-use Rattle.sb_check.proofs.checking.names_fit_their_types.Goals as goal
+use Rattle.sb_check.proofs.checking.names_are_names.Goals as goal
 
 pub loop-device-preserved : goal.loop-device-preserved
 loop-device-preserved c =
@@ -17,7 +17,7 @@ loop-device-preserved c =
     let same = c.deref-device-items.ensures.value in
     let at : d ≡ get_or items i d = subst (λ (l : List DevicePlan). d ≡ get_or l i d) same c.device-item.is in
     let below : i < length items = subst (λ (l : List DevicePlan). i < length l) same c.loop-device-test.true in
-    All-more (λ (x : DevicePlan). is_name x.name ≡ true) items i d below c.loop-device.invariant (subst (λ (x : DevicePlan). is_name x.name ≡ true) at c.fits_its_type.ensures)
+    All-more (λ (x : DevicePlan). is_name x.name ≡ true) items i d below c.loop-device.invariant (subst (λ (x : DevicePlan). is_name x.name ≡ true) at c.as_slice.ensures.named)
 
 pub returns : goal.returns
 returns c =
