@@ -24,7 +24,7 @@ use sb_flow::Bundle;
 use std::alloc::{AllocError, Global};
 
 /// What the types of a bundle's names say of them. It does nothing.
-fn names_fit_their_types(bundle: &Bundle)
+pub fn names_fit_their_types(bundle: &Bundle)
     ensures { All (λ d. is_name d.name ≡ true) (network_of bundle.now).devices }
 {
     for device in &bundle.devices {
