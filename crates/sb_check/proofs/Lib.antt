@@ -28,3 +28,4 @@ pub mod FollowLemmas
 pub mod TellingLaw
 pub mod OneJournal
 pub mod LawfulReports
+pub mod OneFault

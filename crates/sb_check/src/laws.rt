@@ -20,6 +20,15 @@ pub fn reports_spell_one_journal()
     words_are_exact();
 }
 
+/// A report goes wrong first for one reason, and in one line.
+pub fn reports_have_one_fault()
+    ensures { (bundle : AnyBundle) (report : List ℕ) (reason other : Reason) (k line : ℕ)
+        → IsFault (network_of bundle) report reason k → IsFault (network_of bundle) report other line
+        → (reason ≡ other) × (k ≡ line) }
+{
+    words_are_exact();
+}
+
 /// Where a report goes wrong in any way, it isn't that of a lawful run.
 pub fn faulty_reports_are_no_lawful_ones(bundle: &Bundle)
     ensures { (report : List ℕ) (reason : Reason) (k : ℕ) → length report < 2 ^ 32
