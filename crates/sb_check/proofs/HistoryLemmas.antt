@@ -197,6 +197,10 @@ spelled_formed network report journal (suc (suc i)) s below =
       form = entry.2;
     }
 
+-- the second line announces as many entries as it has
+pub spelled_count : (network : Network) (report : List ℕ) (journal : List Entry) → SpellsJournal network report journal → slice_get (report_lines report) 1 ≡ Some (count_line (length journal))
+spelled_count network report journal s = sym (get_taken (report_lines report) (2 + length journal) 1 (omega arith)) ∙ ap (λ (ls : List (List ℕ)). slice_get ls 1) s.lines
+
 -- what spells a journal has no fault of form
 pub spelled_no_form_fault : (network : Network) (report : List ℕ) (journal : List Entry) (k : ℕ) → SpellsJournal network report journal → ¬ IsFormFault network report k
 spelled_no_form_fault network report journal k s fault = fault.here (spelled_formed network report journal k s (elim fault.announced [

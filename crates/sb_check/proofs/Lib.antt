@@ -26,3 +26,6 @@ pub mod HistoryLemmas
 pub mod ReadingLemmas
 pub mod FollowLemmas
 pub mod TellingLaw
+pub mod OneJournal
+pub mod LawfulReports
+pub mod OneFault

@@ -24,7 +24,7 @@ use Rattle.sb_check.proofs.HistoryLemmas.{announced_once, entry_there}
 use mathlib.Core.Logic.{inl, inr}
 
 -- the front of a lawful journal is lawful so far
-flow-append : (network : Network) (host : NetHost) (d : ℕ) (a b : List Entry)
+pub flow-append : (network : Network) (host : NetHost) (d : ℕ) (a b : List Entry)
     → flow_part network host d (journal_accesses (a ++ b) d) ≡ flow_part network host d (journal_accesses a d) ++ flow_part network host d (journal_accesses b d)
 flow-append network host d a b =
     ap (flow_part network host d) (ap (flat_map (λ (e : Entry). accesses_of e.packet)) (filter-append (λ (e : Entry). e.device == d) a b)
@@ -38,7 +38,7 @@ flow_begins network host d k journal same = record {
   joined = sym (flow-append network host d (take k journal) (drop k journal)) ∙ ap (λ (j : List Entry). flow_part network host d (journal_accesses j d)) (take-append-drop k journal) ∙ same;
 }
 
-order_front : (k : ℕ) (journal : List Entry) → is_in_round_order journal ≡ true → is_in_round_order (take k journal) ≡ true
+pub order_front : (k : ℕ) (journal : List Entry) → is_in_round_order journal ≡ true → is_in_round_order (take k journal) ≡ true
 order_front zero journal order = refl
 order_front (suc k) [] order = refl
 order_front (suc zero) (a ∷ rest) order = refl

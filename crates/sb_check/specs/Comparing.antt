@@ -23,7 +23,8 @@ pub record DifferBehind (a b after : List ℕ) : Type 0 where
   pub joined : a ≡ alike ++ after
   pub differs : IsFirstDifference a b (length (filter is_line_end alike))
 
--- What comparing a text with what is left of a report comes to: it was there and was taken off; or it differs, whatever may stand behind it, in the line that is reached.
+-- What comparing a text with what is left of a report comes to: it was there and was taken off; or it differs, whatever may
+-- stand behind it, in the line that is reached.
 pub record IsCompared {T E : Type 0} (result : Result T E) (before after text : List ℕ) : Type 0 where
   pub there : OnOk result (before ≡ text ++ after)
   pub differs : OnErr result ((behind : List ℕ) → DifferBehind before (text ++ behind) after)

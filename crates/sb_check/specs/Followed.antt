@@ -14,6 +14,7 @@ abbrev pub IsFollowedTo : Option ℕ → Network → List Entry → Progress →
 IsFollowedTo None network journal progress gathered = HasReached network progress journal × Gathers network journal gathered
 IsFollowedTo (Some place) network journal progress gathered = IsFirstWrong network journal place
 
--- A journal was followed: it is known how far the scripts are in it and what it comes to; or which is the first entry that doesn't come rightly.
+-- A journal was followed: it is known how far the scripts are in it and what it comes to; or which is the first entry that
+-- doesn't come rightly.
 abbrev pub IsFollowed : Network → List Entry → Course → Type 0
 IsFollowed network journal course = IsFollowedTo course.wrong network journal course.progress course.gathered

@@ -24,7 +24,7 @@ use sb_flow::Bundle;
 use std::alloc::{AllocError, Global};
 
 /// What is known of the names of a bundle's devices. It does nothing.
-fn names_are_names(bundle: &Bundle)
+pub fn names_are_names(bundle: &Bundle)
     ensures { All (λ d. is_name d.name ≡ true) (network_of bundle.now).devices }
 {
     for device in &bundle.devices {

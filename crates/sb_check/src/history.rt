@@ -55,7 +55,8 @@ pub fn read_heading(lines: &mut ReportLines<'_>) -> Result<u32, u32>
 
 /// Reads the next entry. None says that no line is left, or that the next one spells none.
 fn next_entry(lines: &mut ReportLines<'_>, bundle: &Bundle) -> Option<Entry>
-    ensures read { IfSome result (λ e. AreEntriesOf (network_of bundle.now) (report_lines lines.old.rest.now) (report_lines lines.new.rest.now) (e ∷ [])) }
+    ensures read { IfSome result (λ e. AreEntriesOf (network_of bundle.now)
+        (report_lines lines.old.rest.now) (report_lines lines.new.rest.now) (e ∷ [])) }
     ensures none { result ≡ None → IsEntryNext (network_of bundle.now) (report_lines lines.old.rest.now) → ⊥ }
 {
     let line = lines.next_line()?;

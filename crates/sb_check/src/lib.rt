@@ -15,6 +15,7 @@ mod heading;
 mod history;
 mod host_lines;
 mod host_progress;
+pub mod laws;
 mod line_piece;
 mod line_words;
 mod lines;
