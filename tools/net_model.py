@@ -157,33 +157,50 @@ def kept(bundle, made):
     return bundle[made]
 
 
+class Replay:
+    """A replay of a journal, entry by entry: the memories, the answer of each word by its source, and the words that are due."""
+
+    def __init__(self, bundle):
+        self.bundle, self.memories, self.answers, self.before = bundle, [Memory(device) for device in bundle["devices"]], {}, (0, 0)
+        self.widths = {link["to"]: link["width"] for link in bundle["links"]}
+        self.left = {key: iter(words) for key, words in kept(bundle, wanted_words).items()}
+
+    def take(self, when, device, command, dst, src, body):
+        """Serves an entry; raises Unlawful where it can't follow those before it."""
+        if (when, device) < self.before:
+            raise Unlawful(f"it is of round {when}, device {device}, and stands behind one of {self.before}")
+        self.before, spoken = (when, device), 0
+        for word in packet_words(command, dst, src, body):
+            if device_of(self.bundle, word.address) != device:
+                raise Unlawful(f"it is at device {device}, and has a word at {word.address:#x}")
+            due = next(self.left.get((device, word.host), iter(())), None)
+            if due is None or due.fields != word.fields:
+                raise Unlawful(f"it has the word {word.fields}, where {due and due.fields} is due")
+            self.answers[word.source] = self.memories[device].serve(word)
+            spoken += word.length
+        if spoken > self.widths[self.bundle["devices"][device]["name"]]:
+            raise Unlawful(f"it speaks of {spoken} bytes, more than its device's link is wide")
+
+    def end(self):
+        """Raises Unlawful where a word was never served."""
+        for (device, host), words in self.left.items():
+            missing = next(words, None)
+            if missing is not None:
+                raise Unlawful(f"device {device} never served the word {missing.fields} of host id {host}")
+
+
 def replayed(bundle, entries):
     """Replays a journal. Gives the answer of each word by its source, and the memories; raises Unlawful where it isn't lawful."""
-    memories = [Memory(device) for device in bundle["devices"]]
-    widths = {link["to"]: link["width"] for link in bundle["links"]}
-    left = {key: iter(words) for key, words in kept(bundle, wanted_words).items()}
-    answers, before, bound = {}, (0, 0), kept(bundle, round_bound)
-    for number, (when, device, command, dst, src, body) in enumerate(entries):
-        if (when, device) < before:
-            raise Unlawful(f"entry {number} of round {when}, device {device} stands behind one of {before}")
-        if when >= bound:
-            raise Unlawful(f"entry {number} is of round {when}, where {bound} is the bound")
-        before, spoken = (when, device), 0
-        for word in packet_words(command, dst, src, body):
-            if device_of(bundle, word.address) != device:
-                raise Unlawful(f"entry {number} is at device {device}, and has a word at {word.address:#x}")
-            due = next(left.get((device, word.host), iter(())), None)
-            if due is None or due.fields != word.fields:
-                raise Unlawful(f"entry {number} has the word {word.fields}, where {due and due.fields} is due")
-            answers[word.source] = memories[device].serve(word)
-            spoken += word.length
-        if spoken > widths[bundle["devices"][device]["name"]]:
-            raise Unlawful(f"entry {number} speaks of {spoken} bytes, more than its device's link is wide")
-    for (device, host), words in left.items():
-        missing = next(words, None)
-        if missing is not None:
-            raise Unlawful(f"device {device} never served the word {missing.fields} of host id {host}")
-    return answers, memories
+    replay, bound = Replay(bundle), kept(bundle, round_bound)
+    for number, entry in enumerate(entries):
+        if entry[0] >= bound:
+            raise Unlawful(f"entry {number} is of round {entry[0]}, where {bound} is the bound")
+        try:
+            replay.take(*entry)
+        except Unlawful as fault:
+            raise Unlawful(f"entry {number}: {fault}") from fault
+    replay.end()
+    return replay.answers, replay.memories
 
 
 def outcome(host, index, t, answers):
@@ -212,11 +229,14 @@ def result_lines(bundle, answers, memories):
             yield f"m {offset:05x} {row}"
 
 
+def text_of(lines):
+    return "".join(line + "\n" for line in lines).encode()
+
+
 def report(bundle, entries, history):
     """The report of the run that has this journal; raises Unlawful where it is no lawful one."""
     told = result_lines(bundle, *replayed(bundle, entries))
-    lines = ["sb 1", *(history_lines(bundle, entries) if history else ()), *told, "end"]
-    return "".join(line + "\n" for line in lines).encode()
+    return text_of(["sb 1", *(history_lines(bundle, entries) if history else ()), *told, "end"])
 
 
 def entries_in(bundle, text):
@@ -263,7 +283,7 @@ def in_turn(bundle):
 
 
 def report_in_turn(bundle):
-    return "".join(line + "\n" for line in ("sb 1", *result_lines(bundle, *in_turn(bundle)), "end")).encode()
+    return text_of(["sb 1", *result_lines(bundle, *in_turn(bundle)), "end"])
 
 
 def main():
