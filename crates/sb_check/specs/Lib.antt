@@ -4,3 +4,12 @@ pub mod Histories
 pub mod Beginnings
 pub mod Verdicts
 pub mod Matching
+pub mod Comparing
+pub mod Parts
+pub mod Progresses
+pub mod NotedAnswers
+pub mod AnswerNotes
+pub mod EntriesRead
+pub mod Followed
+pub mod Faulty
+pub mod Gathering

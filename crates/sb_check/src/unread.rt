@@ -22,7 +22,7 @@ pub struct Unread<'a> {
 
 /// The lower-case digit of a number below 16.
 #[inline(always)]
-fn lower_digit(n: u8) -> u8
+pub fn lower_digit(n: u8) -> u8
     requires { n < 16 }
     ensures { result ≡ slice_index lower_digits n }
 {
