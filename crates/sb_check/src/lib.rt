@@ -31,5 +31,6 @@ pub use checking::check;
 pub use entry_line::read_entry;
 pub use gathered::Gathered;
 pub use heading::{announced, is_first_line};
+pub use lines::ReportLines;
 pub use progress::Progress;
 pub use verdict::{Reason, Verdict};
