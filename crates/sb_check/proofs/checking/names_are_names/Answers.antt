@@ -17,7 +17,7 @@ loop-device-preserved c =
     let same = c.deref-device-items.ensures.value in
     let at : d ≡ get_or items i d = subst (λ (l : List DevicePlan). d ≡ get_or l i d) same c.device-item.is in
     let below : i < length items = subst (λ (l : List DevicePlan). i < length l) same c.loop-device-test.true in
-    All-more (λ (x : DevicePlan). is_name x.name ≡ true) items i d below c.loop-device.invariant (subst (λ (x : DevicePlan). is_name x.name ≡ true) at c.as_slice.ensures.named)
+    All-more (λ (x : DevicePlan). is_name x.name ≡ true) items i d below c.loop-device.invariant (subst (λ (x : DevicePlan). is_name x.name ≡ true) at c.as_slice-name.ensures.named)
 
 pub returns : goal.returns
 returns c =
