@@ -10,6 +10,7 @@ use sb_top::{
 use std::alloc::AllocError;
 use std::io::ErrorKind;
 use std::process::ExitCode;
+use std::thread::Threads;
 use std::{env, io};
 
 /// `replay` runs on one thread, over rings that need no more than one.
@@ -36,14 +37,19 @@ fn words_of(rt: &HostRuntime) -> Result<Vec<String>, AllocError> {
 }
 
 /// Does what the words ask for, over rings of that fabric. It gives the status.
-fn run<F: MeetFabric>(rt: &HostRuntime, words: &[String], fabric: &mut F) -> u8
+fn run<R: Threads + Sync, F: MeetFabric>(
+    rt: &HostRuntime,
+    threads: &R,
+    words: &[String],
+    fabric: &mut F,
+) -> u8
     requires unused { F.made fabric.old ≡ [] }
 {
     let mut source = ReaderSource::new(rt.reader());
     let mut sink = WriterSink::new(io::writer(rt));
     let mut journal = Journal::new(rt.alloc());
     top(
-        rt,
+        threads,
         rt.alloc(),
         words,
         &mut source,
@@ -60,9 +66,9 @@ fn main(rt: HostRuntime) -> ExitCode {
     };
     let words = words.as_slice();
     let status = if is_replay(words) {
-        run(&rt, words, &mut SerialFabric::new(rt.alloc()))
+        run(&rt, &rt, words, &mut SerialFabric::new(rt.alloc()))
     } else {
-        run(&rt, words, &mut RingFabric::new(rt.alloc()))
+        run(&rt, &rt, words, &mut RingFabric::new(rt.alloc()))
     };
     ExitCode::from(status)
 }
