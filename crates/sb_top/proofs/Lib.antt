@@ -11,3 +11,6 @@ pub mod ReadLemmas
 pub mod RowLemmas
 pub mod StepLemmas
 pub mod UnreachedLemmas
+pub mod EvidenceLemmas
+pub mod EvidenceExamples
+pub mod JudgementLemmas

@@ -10,6 +10,7 @@ pub read_whole : (command : Command) {before after : Option (List ℕ)} {bytes :
 read_whole commands.Solo reads input = input
 read_whole (commands.Replay order history) reads input = input
 read_whole (commands.Run workers history) reads input = input
+read_whole commands.Check reads input = input
 read_whole (commands.Gen number) reads input = absurd (true≢false (sym reads))
 
 -- a command that doesn't read has read nothing
@@ -17,4 +18,5 @@ pub read_nothing : (command : Command) {before after : Option (List ℕ)} {bytes
 read_nothing commands.Solo reads nothing = absurd (true≢false reads)
 read_nothing (commands.Replay order history) reads nothing = absurd (true≢false reads)
 read_nothing (commands.Run workers history) reads nothing = absurd (true≢false reads)
+read_nothing commands.Check reads nothing = absurd (true≢false reads)
 read_nothing (commands.Gen number) reads nothing = nothing

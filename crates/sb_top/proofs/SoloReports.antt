@@ -1,5 +1,5 @@
 -- What a script's run tells is what its journal comes to, and of the size of its network.
-use Rattle.std.proofs.Common.{◌≡◌, ℕ, List, [], ◌∷◌, length, sym, ap, subst, arith}
+use Rattle.std.proofs.Common.{◌≡◌, List, [], ◌∷◌, length, sym, ap, subst, arith}
 use Rattle.std.specs.Prelude.{All, get_or, map}
 use Rattle.sb_packet.specs.Outcomes.{RunResults, run_results}
 use Rattle.sb_packet.specs.Scripts.{IsTransaction}
@@ -10,7 +10,7 @@ use Rattle.sb_flow.specs.Rows.{host_of}
 use Rattle.sb_flow.specs.declared.host_plan.HostPlan.{HostPlan}
 use Rattle.sb_text.specs.Told.{FitsNetwork}
 use Rattle.sb_top.specs.Solo.{solo_host, solo_network, IsSoloJournal}
-use Rattle.sb_top.specs.SoloRuns.{solo_memory_from, solo_opening, solo_outcomes_from, solo_results}
+use Rattle.sb_top.specs.SoloRuns.{solo_memory_from, solo_opening, solo_results}
 use Rattle.sb_top.proofs.SoloCounts.{length-solo_outcomes_from}
 use Rattle.sb_top.proofs.SoloResults.{solo_results_are}
 

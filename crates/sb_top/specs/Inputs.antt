@@ -13,6 +13,7 @@ abbrev pub reads_input : Command → Bool
 reads_input commands.Solo = true
 reads_input (commands.Replay order history) = true
 reads_input (commands.Run workers history) = true
+reads_input commands.Check = true
 reads_input (commands.Gen number) = false
 
 -- the bytes are the whole input, of 2^26 bytes at most
@@ -30,4 +31,5 @@ abbrev pub HasRead : Command → Option (List ℕ) → Option (List ℕ) → Lis
 HasRead commands.Solo before after bytes = IsShortInput before after bytes
 HasRead (commands.Replay order history) before after bytes = IsShortInput before after bytes
 HasRead (commands.Run workers history) before after bytes = IsShortInput before after bytes
+HasRead commands.Check before after bytes = IsShortInput before after bytes
 HasRead (commands.Gen number) before after bytes = IsUnread before after bytes

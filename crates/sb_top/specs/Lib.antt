@@ -5,6 +5,8 @@ pub mod Collected
 pub mod Rows
 pub mod Steps
 pub mod Refusals
+pub mod Evidence
+pub mod Judgements
 pub mod Effects
 pub mod BundleRuns
 pub mod Schedules

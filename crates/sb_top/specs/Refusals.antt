@@ -1,7 +1,8 @@
--- The lines that say why an input was refused: `refused`, the fault's name, and what it speaks of. This project's own.
-use Rattle.std.specs.Prelude.{ℕ, List, [], ◌∷◌, codes, decimal}
+-- Why an input was refused, and the line that says so: `refused`, the fault's name, and what it speaks of. This project's own.
+use Rattle.std.specs.Prelude.{ℕ, ◌≡◌, List, [], ◌∷◌, codes, decimal, Err}
 use Rattle.sb_flow.specs.declared.place.Place.{Place}
 use Rattle.sb_flow.specs.declared.place.Place.TheVariants as places
+use Rattle.sb_text.specs.Scripts.{script_of_text}
 use Rattle.sb_text.specs.TextLines.{text_line}
 use Rattle.sb_text.specs.declared.line_fault.LineFault.{LineFault}
 use Rattle.sb_text.specs.declared.line_fault.LineFault.TheVariants as line_faults
@@ -9,6 +10,7 @@ use Rattle.sb_text.specs.declared.script_fault.ScriptFault.{ScriptFault}
 use Rattle.sb_text.specs.declared.script_fault.ScriptFault.TheVariants as script_faults
 use Rattle.sb_fields.specs.declared.fault.LoadFault.{LoadFault}
 use Rattle.sb_fields.specs.declared.fault.LoadFault.TheVariants as load_faults
+use Rattle.sb_topology.specs.Bundles.{bundle_of}
 
 -- the name of a line's fault
 abbrev pub line_fault_text : LineFault → List ℕ
@@ -57,3 +59,15 @@ load_fault_words load_faults.Memory = codes "memory" ∷ []
 -- The line that says why an input was refused.
 abbrev pub refusal_text : List (List ℕ) → List ℕ
 refusal_text fault_words = text_line (codes "refused" ∷ fault_words)
+
+-- The input is no script, and the text names its first fault.
+pub record RefusedScript (input text : List ℕ) : Type 0 where
+  pub fault : ScriptFault
+  pub found : script_of_text input ≡ Err fault
+  pub printed : text ≡ refusal_text (script_fault_words fault)
+
+-- The input is no bundle that is accepted, and the text names its first fault.
+pub record RefusedBundle (input text : List ℕ) : Type 0 where
+  pub fault : LoadFault
+  pub found : bundle_of input ≡ Err fault
+  pub printed : text ≡ refusal_text (load_fault_words fault)

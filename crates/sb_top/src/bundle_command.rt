@@ -8,9 +8,9 @@ ghost use Rattle.sb_flow.specs.NetworkOf.{network_of};
 ghost use Rattle.sb_text.specs.Reports.{run_report};
 ghost use Rattle.sb_top.specs.BundleRuns.{RanNetwork};
 ghost use Rattle.sb_top.specs.Effects.{IsUntouched, effects_in};
-ghost use Rattle.sb_top.specs.Refusals.{load_fault_words, refusal_text};
+ghost use Rattle.sb_top.specs.Refusals.{RefusedBundle, load_fault_words, refusal_text};
 ghost use Rattle.sb_top.specs.Schedules.{HasWorkers};
-ghost use Rattle.sb_top.specs.TopCall.{RanBundle, RefusedBundle, Wrote, WrotePart};
+ghost use Rattle.sb_top.specs.TopCall.{RanBundle, Wrote, WrotePart};
 
 use crate::bundle_run::run_bundle;
 use crate::refusal::refuse_bundle;
@@ -59,8 +59,8 @@ fn report<R: Threads + Sync, K: Sink, F: MeetFabric, G: Gate + Sync>(
     }
 }
 
-/// Says why an input is refused, unless memory was missing. It gives the status.
-fn refuse<K: Sink>(sink: &mut K, fault: &LoadFault) -> u8
+/// Says why the text of a bundle is refused, unless memory was missing. It gives the status.
+pub fn refuse<K: Sink>(sink: &mut K, fault: &LoadFault) -> u8
     ensures refused { result ≡ REFUSED → (fault.now ≢ faults.Memory)
         × Gains (K.held sink.old) (K.held sink.new) (refusal_text (load_fault_words fault.now)) }
     ensures part { result ≡ WRITE_FAILED → (fault.now ≢ faults.Memory)

@@ -56,7 +56,7 @@ fn reads_input(command: Command) -> bool
     ensures { result ≡ reads_input command }
 {
     match command {
-        Command::Solo | Command::Replay { .. } | Command::Run { .. } => true,
+        Command::Solo | Command::Replay { .. } | Command::Run { .. } | Command::Check => true,
         Command::Gen { .. } => false,
     }
 }

@@ -3,7 +3,9 @@
 
 mod bundle_command;
 mod bundle_run;
+mod check_command;
 mod command;
+mod evidence;
 mod gen_command;
 mod input;
 mod laws;
@@ -25,4 +27,6 @@ pub use sb_io::{ReaderSource, WriterSink};
 pub use sb_link::{MeetFabric, SerialFabric};
 pub use sb_packet::Journal;
 pub use sb_ring::RingFabric;
-pub use status::{DONE, OUT_OF_MEMORY, READ_FAILED, REFUSED, TOO_LONG, USAGE, WRITE_FAILED};
+pub use status::{
+    DONE, OUT_OF_MEMORY, READ_FAILED, REFUSED, REJECTED, TOO_LONG, USAGE, WRITE_FAILED,
+};

@@ -8,9 +8,10 @@ ghost use Rattle.sb_packet.specs.Scripts.{IsTransaction};
 ghost use Rattle.sb_flow.specs.NetworkOf.{network_of};
 ghost use Rattle.sb_text.specs.Reports.{run_report};
 ghost use Rattle.sb_text.specs.Told.{FitsNetwork};
+ghost use Rattle.sb_top.specs.Refusals.{RefusedScript};
 ghost use Rattle.sb_top.specs.Solo.{IsSoloJournal, solo_network};
 ghost use Rattle.sb_top.specs.SoloRuns.{TellsAlone};
-ghost use Rattle.sb_top.specs.TopCall.{RanScript, RefusedScript, Wrote, WrotePart};
+ghost use Rattle.sb_top.specs.TopCall.{RanScript, Wrote, WrotePart};
 
 use crate::refusal::refuse_script;
 use crate::solo::{ScriptRun, run_script};

@@ -26,6 +26,9 @@ pub const OUT_OF_MEMORY: u8 = 6;
 /// The input is too long: `too long` was written.
 pub const TOO_LONG: u8 = 7;
 
+/// The report that was to be judged isn't that of a lawful run: `no`, the number of a line, and a reason were written.
+pub const REJECTED: u8 = 8;
+
 /// The status of a text that was to be written.
 pub fn status_of(written: Printed, status: u8) -> u8
     ensures done { written ≡ printed.Done → result ≡ status }

@@ -1,7 +1,7 @@
 -- What some words ask for, computed.
 use Rattle.std.proofs.Common.{◌≡◌, refl, codes, Some, None, true, false, [], ◌∷◌}
 use Rattle.clap.proofs.OnLiterals.{clap_on_literals}
-use Rattle.sb_words.specs.declared.command.Command.TheVariants.{Gen, Replay, Run, Solo}
+use Rattle.sb_words.specs.declared.command.Command.TheVariants.{Check, Gen, Replay, Run, Solo}
 use Rattle.sb_words.specs.Commands.{command_in}
 
 -- ---- what is taken
@@ -107,6 +107,14 @@ run_with_seventeen = refl
 run_with_none : command_in (codes "run" ∷ codes "--workers=0" ∷ []) ≡ None
 unfolding clap_on_literals
 run_with_none = refl
+
+check : command_in (codes "check" ∷ []) ≡ Some Check
+unfolding clap_on_literals
+check = refl
+
+check_before_dashes : command_in (codes "check" ∷ codes "--" ∷ []) ≡ Some Check
+unfolding clap_on_literals
+check_before_dashes = refl
 
 gen_with_zeros : command_in (codes "gen" ∷ codes "0000000007" ∷ []) ≡ Some (Gen 7)
 unfolding clap_on_literals
@@ -221,6 +229,14 @@ history_with_a_value = refl
 history_of_solo : command_in (codes "solo" ∷ codes "--history" ∷ []) ≡ None
 unfolding clap_on_literals
 history_of_solo = refl
+
+history_of_check : command_in (codes "check" ∷ codes "--history" ∷ []) ≡ None
+unfolding clap_on_literals
+history_of_check = refl
+
+word_behind_check : command_in (codes "check" ∷ codes "report.txt" ∷ []) ≡ None
+unfolding clap_on_literals
+word_behind_check = refl
 
 word_behind : command_in (codes "replay" ∷ codes "5" ∷ []) ≡ None
 unfolding clap_on_literals

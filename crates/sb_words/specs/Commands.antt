@@ -3,7 +3,7 @@ use Rattle.std.specs.Prelude.{ℕ, ◌≤◌, ◌==◌, Bool, true, List, [], �
 use Rattle.clap.specs.Words.{App, Row, Rule, fault_of, new_app, subcommand_of, with_rule, with_subcommand}
 use Rattle.sb_words.specs.Arguments.{flag_rule, is_history_given, option_rule, order_given, seed_given, word_rule, workers_given}
 use Rattle.sb_words.specs.declared.command.Command.{Command}
-use Rattle.sb_words.specs.declared.command.Command.TheVariants.{Gen, Replay, Run, Solo}
+use Rattle.sb_words.specs.declared.command.Command.TheVariants.{Check, Gen, Replay, Run, Solo}
 
 -- A command: its name, the arguments that may stand behind it, and what it asks for by their matches; None where a number
 -- isn't in its range.
@@ -32,13 +32,17 @@ run_form = record {
   command = λ rows. option_map (λ workers. Run workers (is_history_given rows)) (workers_given rows);
 }
 
+-- `check`
+abbrev pub check_form : CommandForm
+check_form = record { name = codes "check"; rules = []; command = λ rows. Some Check }
+
 -- `gen N`
 abbrev pub gen_form : CommandForm
 gen_form = record { name = codes "gen"; rules = word_rule (codes "number") ∷ []; command = λ rows. option_map Gen (seed_given rows) }
 
 -- all commands
 abbrev pub command_forms : List CommandForm
-command_forms = solo_form ∷ replay_form ∷ run_form ∷ gen_form ∷ []
+command_forms = solo_form ∷ replay_form ∷ run_form ∷ check_form ∷ gen_form ∷ []
 
 -- a command, as clap is told of it
 abbrev pub form_app : CommandForm → App
@@ -81,4 +85,5 @@ abbrev pub IsCommandInRange : Command → Type 0
 IsCommandInRange Solo = Unit {0}
 IsCommandInRange (Replay order history) = Unit {0}
 IsCommandInRange (Run workers history) = (1 ≤ workers) × (workers ≤ 16)
+IsCommandInRange Check = Unit {0}
 IsCommandInRange (Gen number) = Unit {0}

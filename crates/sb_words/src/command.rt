@@ -15,6 +15,8 @@ pub enum Command {
     /// `workers` is the number of groups that the nodes are dealt to, each of which has a thread: 1 to 16; it is 4 where the
     /// words don't give it. `history` says whether the report has the journal.
     Run { workers: u32, history: bool },
+    /// Judge a report by its bundle: the word `check`.
+    Check,
     /// Run the bundle that is generated from a number, and print a summary of it: `gen N`.
     ///
     /// `number` is that number, 0 to 4,294,967,295.

@@ -3,7 +3,7 @@
 ghost use Rattle.std.specs.Prelude.{◌≡◌, IfOk, false, codes};
 ghost use Rattle.clap.specs.Words.{app_of, new_app, rule_of};
 ghost use Rattle.sb_words.specs.Arguments.{flag_rule, option_rule, word_rule};
-ghost use Rattle.sb_words.specs.Commands.{form_app, gen_form, program_app, replay_form, run_form, solo_form, words_alone};
+ghost use Rattle.sb_words.specs.Commands.{check_form, form_app, gen_form, program_app, replay_form, run_form, solo_form, words_alone};
 
 use clap::{Arg, ArgAction, Command};
 use std::alloc::{AllocError, Global};
@@ -57,6 +57,13 @@ fn run<'a>(alloc: Global) -> Result<Command<'a>, AllocError>
         .arg(flag(alloc, "history"))
 }
 
+/// `check`
+fn check<'a>(alloc: Global) -> Command<'a>
+    ensures { app_of result ≡ form_app check_form }
+{
+    Command::new(alloc, "check")
+}
+
 /// `gen N`
 fn gen_of_number<'a>(alloc: Global) -> Result<Command<'a>, AllocError>
     ensures { IfOk result (λ command. app_of command ≡ form_app gen_form) }
@@ -84,5 +91,6 @@ pub fn program<'a>(alloc: Global) -> Result<Command<'a>, AllocError>
         .subcommand(solo(alloc))?
         .subcommand(replay(alloc)?)?
         .subcommand(run(alloc)?)?
+        .subcommand(check(alloc))?
         .subcommand(gen_of_number(alloc)?)
 }

@@ -54,6 +54,8 @@ fn named(found: &ArgMatches<'_>) -> Option<Command>
         replay(inner)
     } else if name == "run" {
         run(inner)
+    } else if name == "check" {
+        Some(Command::Check)
     } else if name == "gen" {
         generated(inner)
     } else {

@@ -42,6 +42,8 @@ fn lines_ask(rt: HostRuntime) -> Result<(), Fail> {
         ("run --workers 0", Err(WordsFault::Usage)),
         ("run --workers 17", Err(WordsFault::Usage)),
         ("run --order 1", Err(WordsFault::Usage)),
+        ("check", Ok(Command::Check)),
+        ("check --history", Err(WordsFault::Usage)),
         ("gen 007", Ok(Command::Gen { number: 7 })),
         ("gen", Err(WordsFault::Usage)),
         ("gen 4294967296", Err(WordsFault::Usage)),

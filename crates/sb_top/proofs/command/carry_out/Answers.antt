@@ -1,4 +1,4 @@
--- Where a write fails, what was written is a first part of a report or of a refusal, or of the line for a long input.
+-- Where a write fails, what was written is a first part of a report, a refusal or a rejection, or of the line for a long input.
 use Rattle.std.proofs.Common.{◌≢◌, inl, inr, refl, arith}
 use Rattle.sb_top.proofs.StatusLemmas.{was_failed}
 use Rattle.sb_top.proofs.command.carry_out.Goals as goal
@@ -11,7 +11,10 @@ returns-in-Ok-clause-part g c = λ five words asked.
       text = wrote.text;
       is = inr (elim wrote.is [
         | inl ran ↦ inl (record { command = c.args.command; asked = asked; input = input; read = c.in-Ok.ensures.read; ran = ran })
-        | inr refused ↦ inr (inl (record { command = c.args.command; asked = asked; input = input; read = c.in-Ok.ensures.read; refused = refused.0; untouched = refused.1 }))
+        | inr other ↦ inr (elim other.0 [
+          | inl refused ↦ inl (record { command = c.args.command; asked = asked; input = input; read = c.in-Ok.ensures.read; refused = refused; untouched = other.1 })
+          | inr rejected ↦ inr (inl (record { command = c.args.command; asked = asked; input = input; read = c.in-Ok.ensures.read; rejected = rejected; untouched = other.1 }))
+        ])
       ]);
       part = wrote.part;
     }
@@ -22,7 +25,7 @@ returns-in-Err-TooLong-clause-part g c = λ five words asked.
     let broken = was_failed c.print_line.result 7 c.status_of.result c.status_of.ensures.done other five in
     record {
       text = _;
-      is = inr (inr (inr (record {
+      is = inr (inr (inr (inr (record {
         command = c.args.command;
         asked = asked;
         reads = c.in-Err-TooLong.ensures.reads (rw c.in-Err-TooLong.field-0-is refl);
@@ -30,6 +33,6 @@ returns-in-Err-TooLong-clause-part g c = λ five words asked.
         taken = c.in-Err-TooLong.ensures.taken (rw c.in-Err-TooLong.field-0-is refl);
         untouched = record { no_entry = c.requires.empty; no_ring = c.requires.unused };
         printed = refl;
-      })));
+      }))));
       part = c.print_line.ensures.part broken;
     }
