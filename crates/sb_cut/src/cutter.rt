@@ -69,6 +69,13 @@ impl Cutter {
         }
     }
 
+    /// Whether a packet is its only part, so that it needs no cutter.
+    pub fn is_one_part(&self, packet: &Packet) -> bool
+        ensures one { result ≡ is_one_part self.now.width (message_of packet.now) }
+    {
+        is_one_part(self.width, packet)
+    }
+
     /// Takes a packet, where no part is left of the one before. An atomic or exclusive packet, which is never cut, has to
     /// fit the width.
     pub fn take(&mut self, packet: &Packet)
@@ -87,16 +94,16 @@ impl Cutter {
         ensures narrow { IfSome result (λ p. span_of p.cmd ≤ self.old.width) }
         ensures width { self.new.width ≡ self.old.width }
     {
-        let Some(packet) = self.rest else {
+        let Some(packet) = &self.rest else {
             return None;
         };
-        if is_one_part(self.width, &packet) {
-            self.rest = None;
-            return Some(packet);
+        if is_one_part(self.width, packet) {
+            return self.rest.take();
         }
-        let count = first_words(self.width, &packet);
+        let count = first_words(self.width, packet);
         let others = word_count(&packet.cmd) - count;
-        self.rest = Some(part(&packet, count, others, packet.cmd.eom));
-        Some(part(&packet, 0, count, false))
+        let first = part(packet, 0, count, false);
+        self.rest = Some(part(packet, count, others, packet.cmd.eom));
+        Some(first)
     }
 }

@@ -13,6 +13,7 @@ ghost use Rattle.sb_cut.specs.Works.{out_by};
 use crate::shapes::{is_indivisible, sum};
 use sb_packet::{Op, Packet, span};
 use std::marker::Model;
+use std::mem;
 
 /// What became of a packet that a merger took.
 #[derive(Clone, Copy, Debug, PartialEq, Eq)]
@@ -121,16 +122,15 @@ impl Merger {
         ensures out { out_by result ≡ (take_one self.old.width self.old.held (message_of packet.now)).out }
         ensures width { self.new.width ≡ self.old.width }
     {
-        let Some(first) = self.kept else {
+        let Some(first) = &mut self.kept else {
             self.kept = Some(*packet);
             return Merged::Held;
         };
-        if is_mergeable(self.width, &first, packet) {
-            self.kept = Some(sum(&first, packet));
+        if is_mergeable(self.width, first, packet) {
+            *first = sum(first, packet);
             return Merged::Held;
         }
-        self.kept = Some(*packet);
-        Merged::Out(first)
+        Merged::Out(mem::replace(first, *packet))
     }
 
     /// Lets go what is held. None exactly where nothing is held.

@@ -26,6 +26,7 @@ fn answer_len(op: Op, len: u8) -> u8
 }
 
 /// The answer to a request, with that code and body.
+#[inline(always)]
 pub fn answer(p: &Packet, code: Code, body: [u8; BODY_BYTES]) -> Packet
     requires { drop (carried_by (op_of_answer p.now.cmd.op) (span_of p.now.cmd)) body
         ≡ replicate (32 - carried_by (op_of_answer p.now.cmd.op) (span_of p.now.cmd)) 0 }

@@ -73,6 +73,7 @@ impl Memory {
     /// Steps the memory by each word of a request, in order, and gives the packet that answers it. A posted write has no
     /// answer. Where the memory may not be written, all but reads change nothing, and their answers say that the device refused. It takes
     /// no memory.
+    #[inline(always)]
     pub fn step(&mut self, p: &Packet) -> Option<Packet>
         requires request { IsTrue (is_request p.now.cmd.op) }
         requires within { IsInRange self.old p.now }
@@ -105,6 +106,7 @@ impl Memory {
     }
 
     /// What a read is answered by.
+    #[inline(always)]
     fn read(&self, p: &Packet) -> Packet
         requires op { p.now.cmd.op ≡ ReqRd }
         requires within { IsInRange self.now p.now }
@@ -117,6 +119,7 @@ impl Memory {
     }
 
     /// Stores what a write carries, where the memory may be written.
+    #[inline(always)]
     fn write(&mut self, p: &Packet)
         requires op { (p.now.cmd.op ≡ ReqWr) ⊎ (p.now.cmd.op ≡ ReqWrPosted) }
         requires within { IsInRange self.old p.now }
@@ -131,6 +134,7 @@ impl Memory {
     }
 
     /// Changes the word of an atomic, where the memory may be written, and gives the packet that answers it.
+    #[inline(always)]
     fn combine(&mut self, p: &Packet) -> Packet
         requires op { p.now.cmd.op ≡ ReqAtomic }
         requires within { IsInRange self.old p.now }

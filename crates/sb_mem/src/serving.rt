@@ -12,6 +12,7 @@ use sb_packet::{Entry, Journal, Packet};
 
 /// Steps a memory by the request of an entry, puts the entry into the journal, and gives the packet that answers the
 /// request. A posted write has no answer. Takes no memory.
+#[inline(always)]
 pub fn serve(memory: &mut Memory, journal: &mut Journal, entry: &Entry) -> Option<Packet>
     requires request { IsTrue (is_request entry.now.packet.cmd.op) }
     requires within { IsInRange memory.old entry.now.packet }

@@ -49,7 +49,8 @@ impl Name {
 
     /// The name's bytes.
     pub fn as_slice(&self) -> &[u8]
-        ensures { result.now ≡ self.now }
+        ensures text { result.now ≡ self.now }
+        ensures named { IsTrue (name_test self.now) }
     {
         &self.text[..usize::from(self.len)]
     }

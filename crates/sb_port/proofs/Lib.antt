@@ -5,4 +5,5 @@ pub mod Planned
 pub mod Fitness
 pub mod SameState
 pub mod Seen
+pub mod Straight
 pub mod Turned

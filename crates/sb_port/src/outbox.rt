@@ -1,6 +1,6 @@
 //! What a port has to send.
 
-ghost use Rattle.std.specs.Prelude.{◌≡◌, ◌≢◌, ◌++◌, MatchOption, None, Some, [], ◌∷◌, drop};
+ghost use Rattle.std.specs.Prelude.{◌≡◌, ◌≢◌, ◌↔◌, ◌++◌, IsTrue, MatchOption, None, [], ◌∷◌, drop};
 ghost use Rattle.sb_packet.specs.Messages.{message_of};
 ghost use Rattle.sb_cut.specs.Folds.{fold_all};
 ghost use Rattle.sb_cut.specs.Works.{FitsIfIndivisible};
@@ -63,10 +63,10 @@ impl Outbox {
     }
 
     /// The first packet that is owed.
-    pub fn first(&self) -> Option<Packet>
-        ensures first { MatchOption result (self.now.owed ≡ []) (λ p. self.now.owed ≡ message_of p ∷ drop 1 self.now.owed) }
+    pub fn first(&self) -> Option<&Packet>
+        ensures first { MatchOption result (self.now.owed ≡ []) (λ p. self.now.owed ≡ message_of p.now ∷ drop 1 self.now.owed) }
     {
-        self.ready
+        self.ready.as_ref()
     }
 
     /// The first packet was sent.
@@ -83,17 +83,24 @@ impl Outbox {
         requires fits { FitsIfIndivisible self.old.width packet.now }
         ensures offered { self.new ≡ offered self.old (message_of packet.now) }
     {
-        self.cutter.take(packet);
-        self.ready = draw(&mut self.cutter, &mut self.merger);
+        if self.cutter.is_one_part(packet) {
+            match self.merger.take(packet) {
+                Merged::Held => {}
+                Merged::Out(first) => self.ready = Some(first),
+            }
+        } else {
+            self.cutter.take(packet);
+            self.ready = draw(&mut self.cutter, &mut self.merger);
+        }
     }
 
-    /// Lets go what is held: the first packet that is owed then. None where nothing was held.
-    pub fn let_go(&mut self) -> Option<Packet>
+    /// Lets go what is held: the first packet that is owed then. Says whether a packet was held.
+    pub fn let_go(&mut self) -> bool
         requires ready { self.old.owed ≡ [] }
         ensures released { self.new ≡ released self.old }
-        ensures held { MatchOption result (self.old.held ≡ None) (λ p. self.old.held ≡ Some (message_of p)) }
+        ensures held { IsTrue result ↔ (self.old.held ≢ None) }
     {
         self.ready = self.merger.flush();
-        self.ready
+        self.ready.is_some()
     }
 }

@@ -1,6 +1,6 @@
 //! The port through which a node sends over a ring.
 
-ghost use Rattle.std.specs.Prelude.{◌≡◌, ◌≤◌, ◌+◌, true, false, not, [], ◌∷◌, ◌++◌, None, drop, length};
+ghost use Rattle.std.specs.Prelude.{◌≡◌, ◌≢◌, ◌≤◌, ◌+◌, true, false, not, [], ◌++◌, None, length};
 ghost use Rattle.std.specs.Borrow.{sem, Lends};
 ghost use Rattle.sb_packet.specs.Accesses.{accesses_of};
 ghost use Rattle.sb_packet.specs.Journals.{is_request};
@@ -153,15 +153,16 @@ impl<T: TxEnd> OutPort<T> {
     }
 
     // sends the first packet that is owed, where the ring has room
-    fn send(&mut self, packet: &Packet) -> PortTurn
+    fn send(&mut self) -> PortTurn
         requires fit { IsFit self.old.plan self.old.state }
-        requires first { self.old.state.waiting.owed ≡ message_of packet.now ∷ drop 1 self.old.state.waiting.owed }
+        requires some { self.old.state.waiting.owed ≢ [] }
         ensures tried { TriesFirst self.old self.new result }
         ensures plan { self.new.plan ≡ self.old.plan }
         ensures mark { self.new.mark ≡ self.old.mark }
         ensures learnt { self.old.taken ≤ self.new.taken }
         ensures fit { IsFit self.new.plan self.new.state }
     {
+        let packet = self.outbox.first().unwrap();
         match self.tx.try_push(&Item::Packet(*packet)) {
             Push::Done => {
                 self.outbox.advance();
@@ -211,15 +212,15 @@ impl<T: TxEnd> OutPort<T> {
         ensures mark { self.new.mark ≡ self.old.mark }
         ensures fit { IsFit self.new.plan self.new.state }
     {
-        if let Some(packet) = self.outbox.first() {
-            return self.send(&packet);
+        if self.outbox.first().is_some() {
+            return self.send();
         }
         if more && !self.close_requested {
             self.tx.flush();
             return PortTurn::Clear;
         }
-        if let Some(packet) = self.outbox.let_go() {
-            let _ = self.send(&packet);
+        if self.outbox.let_go() {
+            let _ = self.send();
             return PortTurn::Moved;
         }
         self.send_close()

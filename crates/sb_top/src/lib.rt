@@ -22,7 +22,7 @@ pub use laws::{
 };
 pub use sb_drive::FreeGate;
 pub use sb_io::{ReaderSource, WriterSink};
-pub use sb_link::SerialFabric;
+pub use sb_link::{MeetFabric, SerialFabric};
 pub use sb_packet::Journal;
 pub use sb_ring::RingFabric;
 pub use status::{DONE, OUT_OF_MEMORY, READ_FAILED, REFUSED, TOO_LONG, USAGE, WRITE_FAILED};

@@ -27,6 +27,7 @@ use sb_packet::TxnState;
 const FRONT_ROOM: usize = 64;
 
 /// Prints the front of a transaction's line.
+#[inline(always)]
 fn print_state<K: Sink>(
     sink: &mut K,
     buffer: &mut LineBuffer,
@@ -41,6 +42,7 @@ fn print_state<K: Sink>(
 }
 
 /// Prints the rest of it.
+#[inline(always)]
 fn print_rest<K: Sink>(
     sink: &mut K,
     buffer: &mut LineBuffer,
@@ -53,6 +55,7 @@ fn print_rest<K: Sink>(
 }
 
 /// Prints the line of a transaction.
+#[inline(always)]
 fn print_outcome<K: Sink>(
     sink: &mut K,
     buffer: &mut LineBuffer,

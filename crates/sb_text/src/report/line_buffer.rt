@@ -99,6 +99,7 @@ pub fn flush<K: Sink>(sink: &mut K, buffer: &mut LineBuffer) -> Result<(), Write
 }
 
 /// Makes room for so many bytes, by writing what waits where there is too little.
+#[inline(always)]
 pub fn make_room<K: Sink>(
     sink: &mut K,
     buffer: &mut LineBuffer,

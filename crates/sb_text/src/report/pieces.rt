@@ -102,6 +102,7 @@ fn state_word(state: TxnState) -> &'static [u8]
 
 /// Puts the front of a transaction's line, up to its body.
 #[tactic(auto, unfolding(crate::specs::ReportParts::state_front))]
+#[inline(always)]
 pub fn push_state(buffer: &mut LineBuffer, index: u32, state: TxnState)
     requires { length buffer.old + 64 ≤ 8192 }
     ensures { buffer.new ≡ buffer.old ++ state_front index state }

@@ -13,6 +13,7 @@ use sb_io::{Sink, WriteFailed};
 const DIGIT_BYTES: usize = 32;
 
 /// Prints a text of at most 8,192 bytes.
+#[inline(always)]
 pub fn print_short<K: Sink>(
     sink: &mut K,
     buffer: &mut LineBuffer,
@@ -27,6 +28,7 @@ pub fn print_short<K: Sink>(
 }
 
 /// Prints at most 32 bytes in hexadecimal digits.
+#[inline(always)]
 fn print_digits<K: Sink>(
     sink: &mut K,
     buffer: &mut LineBuffer,
@@ -41,6 +43,7 @@ fn print_digits<K: Sink>(
 }
 
 /// Prints any number of bytes in hexadecimal digits.
+#[inline(always)]
 fn print_hex<K: Sink>(
     sink: &mut K,
     buffer: &mut LineBuffer,
@@ -58,6 +61,7 @@ fn print_hex<K: Sink>(
 }
 
 /// Prints a body, or a dash where it is empty.
+#[inline(always)]
 pub fn print_body<K: Sink>(
     sink: &mut K,
     buffer: &mut LineBuffer,

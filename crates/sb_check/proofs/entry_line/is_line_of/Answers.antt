@@ -15,7 +15,7 @@ returns c =
     let row = c.index-device.result.now in
     let at = read_at b.devices.items c.from.result e.device row c.index-device.ensures c.from.ensures in
     let text = line_is (network_of b) e c.as_slice.result.now c.word_bytes-word.result c.address_bytes-dst.result c.address_bytes-src.result c.carried.result.now
-    (name_read b e.device row c.requires.there at ∙ sym c.as_slice.ensures)
+    (name_read b e.device row c.requires.there at ∙ sym c.as_slice.ensures.text)
     (c.word_bytes-word.ensures ∙ ap (hex_number 8) c.encode.ensures.sum) c.address_bytes-dst.ensures c.address_bytes-src.ensures c.carried.ensures in
     record {
       yes = subst (λ (t : List ℕ). OnTrue c.has_words.result (c.args.line.now ≡ t)) text c.has_words.ensures.yes;

@@ -6,8 +6,8 @@ use Rattle.sb_port.proofs.Fitness.{fit_released}
 use Rattle.sb_port.proofs.Seen.{fit_seen}
 use Rattle.sb_port.proofs.port.OutPort.step.Goals as goal
 
-pub send-requires-in-Some-let_go-clause-fit : goal.send-requires-in-Some-let_go-clause-fit
-send-requires-in-Some-let_go-clause-fit g c =
+pub send-requires-then-let_go-clause-fit : goal.send-requires-then-let_go-clause-fit
+send-requires-then-let_go-clause-fit g c =
     let q = c.self.inside in
     let plan = g.T.TxEnd.planned q.tx in
     let s : PortState = record { sent = g.T.TxEnd.sent q.tx; waiting = q.outbox; close_requested = q.close_requested; close_sent = q.close_sent; words_offered = q.words_offered } in

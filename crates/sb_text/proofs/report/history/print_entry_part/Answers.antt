@@ -15,6 +15,6 @@ returns g c =
     let e = c.args.entry.now in
     let row = c.index-device.result.now in
     let at = read_at b.devices.items c.from.result e.device row c.index-device.ensures c.from.ensures in
-    let named = ap (λ (name : List ℕ). entry_front e.round ++ (name ++ packet_text e.packet)) c.as_slice.ensures in
+    let named = ap (λ (name : List ℕ). entry_front e.round ++ (name ++ packet_text e.packet)) c.as_slice.ensures.text in
     let shown = ap (λ (s : Bool). if s then entry_line (network_of b) e else []) (sym c.if-not-is_shown.false ∙ c.is_shown.ensures) in
     record { printed = printed_as g.K.Sink c.print_entry.result _ _ _ _ _ _ (named ∙ entry_parts b e row c.requires at ∙ shown) c.print_entry.ensures.printed }
