@@ -12,6 +12,8 @@ mod calls;
 #[cfg(test)]
 mod example;
 #[cfg(test)]
+mod judged;
+#[cfg(test)]
 mod line;
 #[cfg(test)]
 mod nets;
