@@ -18,6 +18,8 @@ mod nets;
 #[cfg(test)]
 mod network;
 #[cfg(test)]
+mod refusals;
+#[cfg(test)]
 mod rendezvous;
 #[cfg(test)]
 mod sample;

@@ -15,8 +15,11 @@ use std::alloc::{AllocError, Global};
 use std::test::Fail;
 use std::thread::Threads;
 
-// one host and one memory, behind links with one place
+// one host that reads 256 bytes of one memory, behind links with one place: of 8 bytes, and of 32
 const NARROW: &str =
+    r#"{"version":1,"hosts":[{"name":"cpu","id":0,"script":["rd 0x10000 3 32"]}],"routers":[{"name":"hub","routes":{"ram":"down"}}],"devices":[{"name":"ram","base":"0x10000","pages":1}],"links":[{"name":"up","from":"cpu","to":"hub","width":8,"capacity":1},{"name":"down","from":"hub","to":"ram","width":8,"capacity":1}]}"#;
+
+const WIDE: &str =
     r#"{"version":1,"hosts":[{"name":"cpu","id":0,"script":["rd 0x10000 3 32"]}],"routers":[{"name":"hub","routes":{"ram":"down"}}],"devices":[{"name":"ram","base":"0x10000","pages":1}],"links":[{"name":"up","from":"cpu","to":"hub","width":32,"capacity":1},{"name":"down","from":"hub","to":"ram","width":32,"capacity":1}]}"#;
 
 // the beginning, the middle and the end of a bundle with two hosts at one memory
@@ -226,19 +229,22 @@ fn example_runs_on_threads(rt: HostRuntime) -> Result<(), Fail> {
     Ok(())
 }
 
-/// A read of 256 bytes comes back whole over links of one place, as eight packets each way.
+/// A read of 256 bytes comes back as one answer over links of one place, as so many packets each way as these have room
+/// for: 32 of 8 bytes, and 8 of 32.
 #[test]
 fn narrow_links_are_enough(rt: HostRuntime) -> Result<(), Fail> {
-    let Ok(bundle) = load(rt.alloc(), NARROW.as_bytes()) else {
-        return Err("the bundle is accepted")?;
-    };
-    let (journal, settled) = run(rt.alloc(), &bundle, 0)?;
-    assert_eq!(rt; journal.entries().len(), 8);
-    if settled.host_count() != 1 || settled.transaction_count(0) != 1 {
-        return Err("one host with one transaction")?;
+    for (text, packets) in [(NARROW, 32), (WIDE, 8)] {
+        let Ok(bundle) = load(rt.alloc(), text.as_bytes()) else {
+            return Err("the bundle is accepted")?;
+        };
+        let (journal, settled) = run(rt.alloc(), &bundle, 0)?;
+        assert_eq!(rt; journal.entries().len(), packets);
+        if settled.host_count() != 1 || settled.transaction_count(0) != 1 {
+            return Err("one host with one transaction")?;
+        }
+        assert_eq!(rt; settled.state(0, 0), TxnState::Answered { code: Code::Ok });
+        assert_eq!(rt; settled.body(0, 0), [0u8; 256].as_slice());
     }
-    assert_eq!(rt; settled.state(0, 0), TxnState::Answered { code: Code::Ok });
-    assert_eq!(rt; settled.body(0, 0), [0u8; 256].as_slice());
     Ok(())
 }
 

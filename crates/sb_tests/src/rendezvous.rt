@@ -7,18 +7,20 @@ use std::hint;
 use std::sync::atomic::{AtomicBool, AtomicU32, Ordering};
 
 /// Two places in a run. What comes first to each of them waits until it sees that something came to the other one, or
-/// has looked for it for long.
+/// has looked for it `tries` times.
 #[derive(Drop)]
 pub struct Rendezvous {
     here: [AtomicBool; 2],
     seen: AtomicU32,
+    tries: u32,
 }
 
 impl Rendezvous {
-    pub fn new() -> Rendezvous {
+    pub fn new(tries: u32) -> Rendezvous {
         Rendezvous {
             here: [AtomicBool::new(false), AtomicBool::new(false)],
             seen: AtomicU32::new(0),
+            tries,
         }
     }
 
@@ -29,7 +31,7 @@ impl Rendezvous {
         if self.here[place].swap(true, Ordering::SeqCst) {
             return;
         }
-        for _ in 0..100_000_000 {
+        for _ in 0..self.tries {
             if self.here[1 - place].load(Ordering::SeqCst) {
                 self.seen.fetch_add(1, Ordering::SeqCst);
                 return;

@@ -9,6 +9,60 @@ use std::alloc::{AllocError, Global};
 use std::test::Fail;
 use std::thread::Threads;
 
+// scripts, what they end with, how many packets are served, and what is printed
+const SCRIPTS: [(&str, u8, usize, &str); 8] = [
+    // An empty script.
+    ("", 0, 0, "sb 1\nhost host 0\ndevice mem 16\nend\n"),
+    // A first write and read.
+    (
+        "wr 0x10 2 0102030405060708\nrd 0x10 2 2\n",
+        0,
+        2,
+        "sb 1\nhost host 2\nt 0 ok -\nt 1 ok 0102030405060708\ndevice mem 16\nm 00000 0000000000000000000000000000000001020304050607080000000000000000\nend\n",
+    ),
+    // A write over the border of a page, and one up to it.
+    (
+        "wr 0xff8 3 00112233445566778899aabbccddeeff",
+        3,
+        0,
+        "refused line 1 page\n",
+    ),
+    (
+        "# up to a page's border\r\n\n\twr 0xff8 3 0011223344556677",
+        0,
+        1,
+        "sb 1\nhost host 1\nt 0 ok -\ndevice mem 16\nm 00fe0 0000000000000000000000000000000000000000000000000011223344556677\nend\n",
+    ),
+    // A byte that wraps around.
+    (
+        "wr 0 0 01\nadd 0 0 ff\n",
+        0,
+        2,
+        "sb 1\nhost host 2\nt 0 ok -\nt 1 ok 01\ndevice mem 16\nend\n",
+    ),
+    // The greater in two's complement, and without sign.
+    (
+        "wr 0 0 7f\nmax 0 0 80\nmaxu 0 0 80\n",
+        0,
+        3,
+        "sb 1\nhost host 3\nt 0 ok -\nt 1 ok 7f\nt 2 ok 7f\ndevice mem 16\nm 00000 8000000000000000000000000000000000000000000000000000000000000000\nend\n",
+    ),
+    // Addresses of no device.
+    (
+        "rd 0x10000 1 2\nwp 0x10000 0 ff\n",
+        0,
+        0,
+        "sb 1\nhost host 2\nt 0 neterr 00000000\nt 1 posted -\ndevice mem 16\nend\n",
+    ),
+    // A transaction of 40 bytes is two packets.
+    (
+        "rd 0x100 3 5",
+        0,
+        2,
+        "sb 1\nhost host 1\nt 0 ok 00000000000000000000000000000000000000000000000000000000000000000000000000000000\ndevice mem 16\nend\n",
+    ),
+];
+
 /// What `solo` ended with, and how many packets its memory stepped.
 fn solo<R: Threads + Sync, S: Source, K: Sink>(
     rt: &R,
@@ -17,64 +71,12 @@ fn solo<R: Threads + Sync, S: Source, K: Sink>(
     sink: &mut K,
 ) -> Result<(u8, usize), AllocError> {
     let mut fabric = SerialFabric::new(alloc);
-    call(rt, alloc, &["solo"], source, sink, &mut fabric, &FreeGate)
+    call(rt, alloc, "solo", source, sink, &mut fabric, &FreeGate)
 }
 
 #[test]
 fn scripts(rt: HostRuntime) -> Result<(), Fail> {
-    let rows = [
-        // An empty script.
-        ("", 0, 0, "sb 1\nhost host 0\ndevice mem 16\nend\n"),
-        // A first write and read.
-        (
-            "wr 0x10 2 0102030405060708\nrd 0x10 2 2\n",
-            0,
-            2,
-            "sb 1\nhost host 2\nt 0 ok -\nt 1 ok 0102030405060708\ndevice mem 16\nm 00000 0000000000000000000000000000000001020304050607080000000000000000\nend\n",
-        ),
-        // A write over the border of a page, and one up to it.
-        (
-            "wr 0xff8 3 00112233445566778899aabbccddeeff",
-            3,
-            0,
-            "refused line 1 page\n",
-        ),
-        (
-            "# up to a page's border\r\n\n\twr 0xff8 3 0011223344556677",
-            0,
-            1,
-            "sb 1\nhost host 1\nt 0 ok -\ndevice mem 16\nm 00fe0 0000000000000000000000000000000000000000000000000011223344556677\nend\n",
-        ),
-        // A byte that wraps around.
-        (
-            "wr 0 0 01\nadd 0 0 ff\n",
-            0,
-            2,
-            "sb 1\nhost host 2\nt 0 ok -\nt 1 ok 01\ndevice mem 16\nend\n",
-        ),
-        // The greater in two's complement, and without sign.
-        (
-            "wr 0 0 7f\nmax 0 0 80\nmaxu 0 0 80\n",
-            0,
-            3,
-            "sb 1\nhost host 3\nt 0 ok -\nt 1 ok 7f\nt 2 ok 7f\ndevice mem 16\nm 00000 8000000000000000000000000000000000000000000000000000000000000000\nend\n",
-        ),
-        // Addresses of no device.
-        (
-            "rd 0x10000 1 2\nwp 0x10000 0 ff\n",
-            0,
-            0,
-            "sb 1\nhost host 2\nt 0 neterr 00000000\nt 1 posted -\ndevice mem 16\nend\n",
-        ),
-        // A transaction of 40 bytes is two packets.
-        (
-            "rd 0x100 3 5",
-            0,
-            2,
-            "sb 1\nhost host 1\nt 0 ok 00000000000000000000000000000000000000000000000000000000000000000000000000000000\ndevice mem 16\nend\n",
-        ),
-    ];
-    for (script, status, packets, text) in rows {
+    for (script, status, packets, text) in SCRIPTS {
         for piece in PIECES {
             let mut source = ByteSource::new(rt.alloc(), script.as_bytes(), piece, &[])?;
             let mut sink = ByteSink::new(rt.alloc(), 4096, piece, &[])?;

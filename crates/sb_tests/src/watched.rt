@@ -20,9 +20,9 @@ impl Pushes {
         Pushes::of(None)
     }
 
-    /// Lets the first pushes on rings 0 and 2 see each other, too.
-    pub fn met() -> Pushes {
-        Pushes::of(Some(Rendezvous::new()))
+    /// Lets the first pushes on rings 0 and 2 look for each other so many times, too.
+    pub fn met(tries: u32) -> Pushes {
+        Pushes::of(Some(Rendezvous::new(tries)))
     }
 
     fn of(firsts: Option<Rendezvous>) -> Pushes {
