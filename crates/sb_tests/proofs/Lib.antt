@@ -1,0 +1,3 @@
+pub mod NewRings
+pub mod NewLine
+pub mod SampleRings
