@@ -15,7 +15,6 @@ use sb_packet::{Kind, Txn};
 use std::alloc::Global;
 
 /// A transaction from the words behind its verb, which are to be three.
-#[inline(always)]
 fn arguments(alloc: Global, kind: Kind, mut words: Words) -> Result<Txn, LineFault>
     ensures transaction { IfOk result IsTransaction }
     ensures value { IfOk result (λ txn. arguments_of kind (words_in_line words.entry.rest.now) ≡ Ok txn) }
@@ -38,7 +37,6 @@ fn arguments(alloc: Global, kind: Kind, mut words: Words) -> Result<Txn, LineFau
 }
 
 /// What words say that aren't a comment's; nothing, where there are none.
-#[inline(always)]
 fn sentence(alloc: Global, mut words: Words) -> Result<Option<Txn>, LineFault>
     ensures transaction { IfOk result (λ txn. IfSome txn IsTransaction) }
     ensures value { IfOk result (λ txn. sentence_of (words_in_line words.entry.rest.now) ≡ Ok txn) }
@@ -67,7 +65,6 @@ fn without_carriage_return(line: &[u8]) -> &[u8]
 ///
 /// None says that the line is blank or a comment. An error is the first fault of the line, or `LineFault::Memory`
 /// where memory was missing. Memory is taken only for the body of a transaction.
-#[inline(always)]
 pub fn read_line(alloc: Global, line: &[u8]) -> Result<Option<Txn>, LineFault>
     ensures transaction { IfOk result (λ txn. IfSome txn IsTransaction) }
     ensures value { IfOk result (λ txn. line_of line.now ≡ Ok txn) }

@@ -22,7 +22,6 @@ fn told_count(kind: Kind, last: &[u8]) -> Option<u64>
 }
 
 /// The bytes that a line brings; a read brings none.
-#[inline(always)]
 fn body(alloc: Global, kind: Kind, last: &[u8]) -> Result<Bytes, LineFault>
     ensures ok { IfOk result (λ body. body_of kind last.now ≡ Ok body) }
     ensures err { IfErr result (λ fault. (fault ≡ faults.Memory) ⊎ (body_of kind last.now ≡ Err fault)) }
@@ -97,7 +96,6 @@ fn placed(kind: Kind, addr: u64, size: u8, count: u64, body: Bytes) -> Result<Tx
 }
 
 /// A transaction from the three words behind its verb, or its first fault.
-#[inline(always)]
 pub fn transaction(
     alloc: Global,
     kind: Kind,

@@ -6,7 +6,6 @@ ghost use Rattle.sb_text.specs.Sentences.{kind_of as kind_by};
 use sb_packet::{AtomicOp, Kind};
 
 /// What a verb asks for; None where the word is no verb.
-#[inline(always)]
 pub fn kind_of(verb: &[u8]) -> Option<Kind>
     ensures { result ≡ kind_by verb.now }
 {
