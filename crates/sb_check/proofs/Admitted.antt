@@ -2,21 +2,21 @@
 use Rattle.std.proofs.Common.{◌≡◌, ◌≤◌, ◌<◌, ℕ, Bool, true, false, List, [], ◌∷◌, ◌++◌, length, get_or, refl, ap, sym, ◌∙◌, subst, arith, inl, inr, Option, Some, None, append-nil, append_assoc, eq-eqb, ne_eqb}
 use Rattle.std.specs.Prelude.{◌==◌, ◌≢◌, ◌&&◌, All, Contains, IsSomeAnd, map, slice_get}
 use Rattle.std.proofs.lemmas.Bool.{and_parts, cases_eq, cases_lt, false≢true}
-use Rattle.std.proofs.lemmas.List.{append_cancel_left, get_or_push, length_push}
+use Rattle.std.proofs.lemmas.List.{append_cancel_left, get_or_push, length_push, get_or-map, length-map}
 use Rattle.std.proofs.lemmas.List.Elements.{All-push, Contains-get_or, filter-append, filter_passes}
-use Rattle.std.proofs.lemmas.List.{get_or-map, length-map}
 use Rattle.std.proofs.lemmas.Option.{get_or_from_slice_get, slice_get-get_or, slice_get_within}
 use Rattle.sb_packet.specs.Accesses.{Access, access_at, accesses_of}
 use Rattle.sb_packet.specs.Messages.{message_of}
+use Rattle.sb_packet.specs.Spans.{span_of}
 use Rattle.sb_packet.specs.Networks.{NetHost, Network, width_to}
 use Rattle.sb_packet.specs.Scripts.{script_accesses}
-use Rattle.sb_packet.specs.Spans.{span_of}
 use Rattle.sb_packet.specs.Journals.{IsPlaced, flow_part, is_at, is_in_round_order, journal_accesses}
 use Rattle.sb_packet.specs.declared.entry.Entry.{Entry}
 use Rattle.sb_packet.proofs.Lists.{All-left, All-made, filter_all, filter_none}
-use Rattle.sb_flow.specs.Names.{repeated_id}
+use Rattle.sb_flow.specs.Accepted.{repeated_id}
 use Rattle.sb_flow.proofs.Clashes.{no_clash}
-use Rattle.sb_check.specs.Beginnings.{BeginsList, IsLawfulSoFar}
+use Rattle.sb_check.specs.Beginnings.{IsLawfulSoFar}
+use Rattle.sb_link.specs.Prefixes.{IsPrefix}
 use Rattle.sb_check.specs.Progresses.{HasReached, IsNextWord, IsWordAt, last_entry, next_at, words_left}
 use Rattle.sb_check.specs.Spelling.{IsEntryInRange}
 use Rattle.sb_check.specs.declared.next_word.NextWord.{NextWord}
@@ -136,7 +136,7 @@ module _ (network : Network) (before : Progress) (journal : List Entry) (e : Ent
         ]
 
     begins_by : (d : ℕ) (other : NetHost) (o : Option NextWord) → IsSomeAnd o (IsNextWord network (journal ++ e ∷ []) other d)
-        → BeginsList (flow_part network other d (journal_accesses (journal ++ e ∷ []) d)) (flow_part network other d (script_accesses other))
+        → IsPrefix (flow_part network other d (journal_accesses (journal ++ e ∷ []) d)) (flow_part network other d (script_accesses other))
     begins_by d other None none = absurd none
     begins_by d other (Some word) at = record { rest = words_left network other d word; joined = at.joined }
 
@@ -145,7 +145,7 @@ module _ (network : Network) (before : Progress) (journal : List Entry) (e : Ent
     taken_reached = record {
       lawful = record {
         in_script_order = λ k x below d. elim (cases_eq d e.device) [
-          | inr apart ↦ subst (λ (l : List Access). BeginsList (flow_part network (get_or network.hosts k x) d l) (flow_part network (get_or network.hosts k x) d (script_accesses (get_or network.hosts k x))))
+          | inr apart ↦ subst (λ (l : List Access). IsPrefix (flow_part network (get_or network.hosts k x) d l) (flow_part network (get_or network.hosts k x) d (script_accesses (get_or network.hosts k x))))
               (sym (grows_elsewhere journal e d apart)) (reached.lawful.in_script_order k x below d)
           | inl same ↦ begins_by d (get_or network.hosts k x) (next_at after k d) (all_next k d (get_or network.hosts k x) (slice_get-get_or network.hosts k x below) (omega (arith, range.device)))
         ];
@@ -180,7 +180,7 @@ module _ (network : Network) (before : Progress) (journal : List Entry) (e : Ent
 
   -- and its words are those from there on
   pub words_are_next : (h : ℕ) (host : NetHost) (next : NextWord) → slice_get network.hosts h ≡ Some host → host.id ≡ e.packet.cmd.host → next_at before h e.device ≡ Some next → IsLawfulSoFar network (journal ++ e ∷ [])
-      → BeginsList (accesses_of e.packet) (words_left network host e.device next)
+      → IsPrefix (accesses_of e.packet) (words_left network host e.device next)
   words_are_next h host next at own was lawful =
       let m = message_of e.packet in
       let old = next_word h host next at was in
@@ -191,7 +191,7 @@ module _ (network : Network) (before : Progress) (journal : List Entry) (e : Ent
       filter_all (is_of network host e.device) (accesses_of e.packet) (λ i x below. both_true ((get_or (accesses_of e.packet) i x).host == host.id) (is_at network e.device (get_or (accesses_of e.packet) i x)) (eq-eqb (get_or (accesses_of e.packet) i x).host host.id (hosts i x below ∙ sym own)) (aimed i x below)) in
       let inside = slice_get_within network.hosts h host at in
       let is : get_or network.hosts h host ≡ host = get_or_from_slice_get network.hosts h host host at in
-      let begins = subst (λ (x : NetHost). BeginsList (flow_part network x e.device (journal_accesses (journal ++ e ∷ []) e.device)) (flow_part network x e.device (script_accesses x))) is (lawful.in_script_order h host inside e.device) in
+      let begins = subst (λ (x : NetHost). IsPrefix (flow_part network x e.device (journal_accesses (journal ++ e ∷ []) e.device)) (flow_part network x e.device (script_accesses x))) is (lawful.in_script_order h host inside e.device) in
       record {
         rest = begins.rest;
         joined = append_cancel_left came (accesses_of e.packet ++ begins.rest) (words_left network host e.device next)

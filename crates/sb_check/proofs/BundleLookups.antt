@@ -16,7 +16,7 @@ use Rattle.sb_flow.specs.declared.link_row.LinkRow.{LinkRow}
 use Rattle.sb_flow.proofs.Bundles.{host_of_network}
 use Rattle.sb_flow.proofs.Clashes.{position_from-None}
 use Rattle.sb_flow.proofs.HostLimits.{HasLimits, host_limits, limits_of, passes_at}
-use Rattle.sb_flow.specs.Limits.{is_limited_host}
+use Rattle.sb_flow.specs.Accepted.{is_limited_host}
 
 -- the first that passes is that of what is mapped there
 pub find_of_map : {A B : Type 0} (test : B → Bool) (f : A → B) (xs : List A) → find test (map f xs) ≡ option_map f (find (λ x. test (f x)) xs)

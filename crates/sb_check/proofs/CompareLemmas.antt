@@ -10,7 +10,7 @@ use Rattle.std.proofs.lemmas.List.Elements.{All-append, All-cons, All-head, All-
 use Rattle.std.proofs.Math.Seq.{take-append_seam}
 use Rattle.sb_text.specs.Lines.{is_line_end}
 use Rattle.sb_text.specs.TextLines.{text_line}
-use Rattle.sb_check.specs.Beginnings.{BeginsList}
+use Rattle.sb_link.specs.Prefixes.{IsPrefix}
 use Rattle.sb_check.specs.Comparing.{DifferBehind, IsCompared, IsUnended, is_within_line}
 use Rattle.sb_check.specs.ReportLines.{IsFirstDifference, begun_by, report_lines}
 
@@ -35,7 +35,7 @@ lines_joined (b ∷ text) = by (is_line_end b) refl (lines_joined text)
     by false is rest = rw is (begun_joined b (report_lines text) ∙ ap (λ (t : List ℕ). b ∷ t) rest)
 
 -- a text begins with its first line
-begins_first : (ls : List (List ℕ)) (text line : List ℕ) → joined_lines ls ≡ text → slice_get ls 0 ≡ Some line → BeginsList line text
+begins_first : (ls : List (List ℕ)) (text line : List ℕ) → joined_lines ls ≡ text → slice_get ls 0 ≡ Some line → IsPrefix line text
 begins_first [] text line joined is = absurd (cc)
 begins_first (l ∷ ls) text line joined is =
     let same : l ≡ line = cc in
@@ -46,9 +46,9 @@ pub record HasFirstLine (front text : List ℕ) : Type 0 where
   pub line : List ℕ
   pub lines : List (List ℕ)
   pub are : report_lines text ≡ line ∷ lines
-  pub begins : BeginsList front line
+  pub begins : IsPrefix front line
 
-begun_first : (b : ℕ) (front text line : List ℕ) (lines : List (List ℕ)) → is_line_end b ≡ false → report_lines text ≡ line ∷ lines → BeginsList front line → HasFirstLine (b ∷ front) (b ∷ text)
+begun_first : (b : ℕ) (front text line : List ℕ) (lines : List (List ℕ)) → is_line_end b ≡ false → report_lines text ≡ line ∷ lines → IsPrefix front line → HasFirstLine (b ∷ front) (b ∷ text)
 begun_first b front text line lines other are begins = record {
   line = b ∷ line;
   lines = lines;
@@ -76,14 +76,14 @@ first_line_of b (c ∷ front) behind within =
     begun_first b (c ∷ front) (c ∷ front ++ behind) rest.line rest.lines (not_end (is_line_end b) parts.0) rest.are rest.begins
 
 -- what begins with a text that another begins
-begins_longer : (front line text : List ℕ) → BeginsList front line → BeginsList line text → BeginsList front text
+begins_longer : (front line text : List ℕ) → IsPrefix front line → IsPrefix line text → IsPrefix front text
 begins_longer front line text a b = record {
   rest = a.rest ++ b.rest;
   joined = sym (append_assoc front a.rest b.rest) ∙ ap (λ (t : List ℕ). t ++ b.rest) a.joined ∙ b.joined;
 }
 
 -- a text within a line that isn't there differs in the first line
-pub not_there : (front before : List ℕ) → is_within_line front ≡ true → ¬ BeginsList front before → (behind : List ℕ) → DifferBehind before (front ++ behind) before
+pub not_there : (front before : List ℕ) → is_within_line front ≡ true → ¬ IsPrefix front before → (behind : List ℕ) → DifferBehind before (front ++ behind) before
 not_there [] before within differs behind = absurd (differs (record { rest = before; joined = refl }))
 not_there (b ∷ front) before within differs behind =
     let first = first_line_of b front behind within in

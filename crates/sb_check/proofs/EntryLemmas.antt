@@ -2,35 +2,32 @@
 use Rattle.std.proofs.Common.{◌≡◌, ◌<◌, ◌≤◌, ◌+◌, ◌-◌, ◌*◌, ◌%◌, ◌^◌, ℕ, zero, suc, Bool, true, false, List, [], ◌∷◌, ◌++◌, length, get_or, take, drop, replicate, ap, sym, refl, ◌∙◌, arith, Option, Some, None, subst, append_assoc}
 use Rattle.std.proofs.Props.{props}
 use Rattle.std.specs.Bool.{OnFalse, OnTrue}
-use Rattle.std.specs.Prelude.{All, ◌==◌, ◌≢◌, IsSomeAnd, codes, decimal, unwrap_or, bytes_eq, map}
+use Rattle.std.specs.Prelude.{All, ◌==◌, ◌≢◌, IsSomeAnd, codes, decimal, unwrap_or, bytes_eq, map, Result, Ok, Err, MatchResult}
 use Rattle.std.specs.List.{position_from}
 use Rattle.std.proofs.lemmas.Bool.{eqb-true, false≢true}
 use Rattle.std.proofs.lemmas.Nat.{pow_pos}
 use Rattle.std.proofs.Math.Nat.{mul-le-mul_left}
-use Rattle.std.proofs.lemmas.List.{length-append, get_or-append-add, get_or-map, length-map}
-use Rattle.std.proofs.lemmas.List.Elements.{All-nil, All-cons}
+use Rattle.std.proofs.lemmas.List.{length-append, get_or-append-add, get_or-map, length-map, length-take, take-append-drop, append-nil}
+use Rattle.std.proofs.lemmas.List.Elements.{All-nil, All-cons, All-head, All-tail}
 use Rattle.std.proofs.lemmas.Slice.Eq.{bytes_eq-Decides}
 use Rattle.sb_word.specs.declared.command.Cmd.{Cmd}
 use Rattle.sb_word.specs.declared.command.Op.{Op}
 use Rattle.sb_word.specs.declared.command.Op.TheVariants.{ReqRd, ReqWr, ReqWrPosted, ReqAtomic, RespRd, RespWr}
+use Rattle.sb_packet.specs.Messages.{message_of}
 use Rattle.sb_packet.specs.Spans.{carried_of, span_of, word_count_by}
 use Rattle.sb_packet.specs.declared.packet.Packet.{Packet}
-use Rattle.sb_check.specs.Spelling.{IsPlain}
-use Rattle.std.specs.Prelude.{Result, Ok, Err, MatchResult}
+use Rattle.sb_check.specs.Spelling.{IsPlain, packet_words}
 use Rattle.std.specs.Result.{result_unwrap_or}
-use Rattle.std.proofs.lemmas.List.{length-take, take-append-drop}
-use Rattle.std.proofs.lemmas.List.Elements.{All-head, All-tail}
 use Rattle.std.proofs.Math.Seq.{take-append_seam}
 use Rattle.hex.specs.Hex.{IsBytes, decode_sized, encode_lower}
 use Rattle.hex.specs.declared.error.FromHexError.{FromHexError}
 use Rattle.hex.proofs.HexLemmas.{decode_sized-encode_lower}
 use Rattle.sb_word.specs.Words.{IsWordOf, bit_of, opcode_of, word_of}
 use Rattle.sb_word.specs.declared.fault.WordFault.{WordFault}
-use Rattle.sb_packet.specs.Messages.{message_of}
 use Rattle.sb_packet.proofs.Opcodes.{carries_none_or_all}
 use Rattle.sb_text.specs.Numerals.{digits_number}
 use Rattle.sb_text.specs.TextLines.{body_text, hex_number, text_line}
-use Rattle.sb_flow.specs.Firsts.{first_clash}
+use Rattle.sb_flow.specs.Accepted.{first_clash}
 use Rattle.sb_flow.specs.NetworkOf.{network_of}
 use Rattle.sb_flow.specs.Rows.{device_of}
 use Rattle.sb_flow.specs.declared.bundle.Bundle.{Bundle}
@@ -40,9 +37,7 @@ use Rattle.sb_packet.specs.Networks.{NetDevice, NetHost, NetRouter, Network}
 use Rattle.sb_packet.specs.declared.entry.Entry.{Entry}
 use Rattle.sb_text.specs.Reports.{entry_line}
 use Rattle.sb_flow.proofs.Bundles.{device_there}
-use Rattle.sb_check.specs.Beginnings.{BeginsList}
-use Rattle.std.proofs.lemmas.List.{append-nil}
-use Rattle.sb_check.specs.Spelling.{packet_words}
+use Rattle.sb_link.specs.Prefixes.{IsPrefix}
 use Rattle.sb_check.proofs.DigitLemmas.{hex_number-read, length-hex_number}
 use Rattle.sb_check.proofs.MatchLemmas.{length-encode_lower}
 use mathlib.Core.Logic.{inl, inr}
@@ -291,7 +286,7 @@ whole_text a b s is none = is ∙ ap (λ (t : List ℕ). s ++ t) none ∙ append
 pub nothing_behind : (a b s : List ℕ) → a ≡ s ++ b → a ≡ s → length b ≡ 0
 nothing_behind a b s is same = omega (arith, ap length (sym is ∙ same), length-append s b)
 
-pub begins_itself : (a s : List ℕ) → a ≡ s → BeginsList s a
+pub begins_itself : (a s : List ℕ) → a ≡ s → IsPrefix s a
 begins_itself a s is = record { rest = []; joined = append-nil s ∙ sym is }
 
 -- where the text is empty behind it, and where it isn't

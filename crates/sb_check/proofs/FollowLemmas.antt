@@ -6,21 +6,18 @@ use Rattle.sb_packet.specs.Journals.{IsLawful}
 use Rattle.sb_packet.specs.Networks.{Network}
 use Rattle.sb_packet.specs.declared.entry.Entry.{Entry}
 use Rattle.sb_check.specs.Beginnings.{IsLawfulSoFar}
-use Rattle.sb_check.specs.EntriesRead.{IsFirstWrong, IsHistoryRead}
+use Rattle.sb_check.specs.Histories.{IsFirstWrong, IsFormFault, IsHistoryRead, SpellsJournal}
 use Rattle.sb_check.specs.Comparing.{closing_text}
-use Rattle.sb_check.specs.Faulty.{IsFaulty}
-use Rattle.sb_check.specs.Followed.{IsFollowedTo}
-use Rattle.sb_check.specs.Gathering.{Gathers}
-use Rattle.sb_check.specs.Histories.{IsFormFault, SpellsJournal}
+use Rattle.sb_check.specs.Verdicts.{IsEntryFault, IsFault, IsFaulty, IsShort}
+use Rattle.sb_check.specs.Gathering.{Gathers, IsFollowedTo}
 use Rattle.sb_check.specs.ReportLines.{IsFirstDifference}
 use Rattle.sb_check.specs.Progresses.{HasReached}
-use Rattle.sb_check.specs.Verdicts.{IsEntryFault, IsFault, IsShort}
 use Rattle.sb_check.specs.declared.gathered.Gathered.{Gathered}
 use Rattle.sb_check.specs.declared.progress.Progress.{Progress}
 use Rattle.sb_check.specs.declared.fault.Fault.{Fault}
 use Rattle.sb_check.specs.declared.verdict.Reason.{Reason}
 use Rattle.sb_check.specs.declared.verdict.Reason.TheVariants as reasons
-use Rattle.sb_packet.specs.Outcomes.{run_results}
+use Rattle.sb_packet.specs.Answers.{run_results}
 use Rattle.sb_check.proofs.HistoryLemmas.{AreNamed, differs_read, form_not_lawful, lawful_is_read, text_differs}
 use Rattle.sb_check.proofs.ReadingLemmas.{lawful_front}
 

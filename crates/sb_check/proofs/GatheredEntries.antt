@@ -22,7 +22,7 @@ use Rattle.sb_flow.specs.Accepted.{IsAccepted}
 use Rattle.sb_flow.proofs.FlowWords.{request_asks}
 use Rattle.sb_check.specs.Beginnings.{IsLawfulSoFar}
 use Rattle.sb_check.specs.Gathering.{AreNoted, Gathers, IsStepped, replies_so_far, transaction_number}
-use Rattle.sb_check.specs.NotedAnswers.{NotedAnswers, noted_at, notes_with, with_reply}
+use Rattle.sb_check.specs.AnswerNotes.{NotedAnswers, noted_at, notes_with, with_reply}
 use Rattle.sb_check.specs.declared.gathered.Gathered.{Gathered}
 use Rattle.sb_check.proofs.GatheredSteps.{IsRow, new_answers, noted_elsewhere, noted_here, replies_more, replies_same, replies_short, row_there, rows_as_long}
 use Rattle.sb_check.proofs.NextEntries.{NextEntry, all_in_range, last_placed, next_entry, one_host, word_has}

@@ -17,7 +17,7 @@ use Rattle.sb_packet.specs.declared.transaction.Kind.TheVariants.{Read, Write, P
 use Rattle.sb_packet.specs.declared.transaction.Txn.{Txn}
 use Rattle.sb_flow.specs.Accepted.{IsAccepted}
 use Rattle.sb_check.specs.Gathering.{AreNoted, Gathers, IsStepped, device_replies}
-use Rattle.sb_check.specs.NotedAnswers.{NotedAnswers, first_noted, is_posted, none_noted, noted_at, unreached_noted}
+use Rattle.sb_check.specs.AnswerNotes.{NotedAnswers, first_noted, is_posted, none_noted, noted_at, unreached_noted}
 use Rattle.sb_check.specs.declared.gathered.Gathered.{Gathered}
 use Rattle.sb_check.proofs.NextEntries.{at_place, host_lines}
 use Rattle.sb_check.proofs.UnreachedLemmas.{unreached_told}

@@ -7,11 +7,10 @@ use Rattle.std.proofs.lemmas.List.{append-nil, get_or-map, length-map}
 use Rattle.std.proofs.lemmas.List.Elements.{All-cons, All-nil}
 use Rattle.std.proofs.lemmas.Option.{slice_get-get_or, slice_get_within}
 use Rattle.sb_packet.specs.Accesses.{Access, access_at}
-use Rattle.sb_packet.specs.Answers.{access_reply, answer_at_first, answer_body, answer_code, answer_from, final_memory, transaction_answers, unreached_by}
+use Rattle.sb_packet.specs.Answers.{Outcome, RunResults, access_reply, answer_at_first, answer_body, answer_code, answer_from, final_memory, host_outcomes, outcome_of, run_results, transaction_answers, unreached_by}
 use Rattle.sb_packet.specs.Journals.{IsLawful, flow_part, journal_accesses}
 use Rattle.sb_packet.specs.Memories.{MemoryState, access_answer, access_step, answers_in, answers_to}
 use Rattle.sb_packet.specs.Networks.{NetDevice, NetHost, Network, device_at, device_size, opening_memory}
-use Rattle.sb_packet.specs.Outcomes.{Outcome, RunResults, host_outcomes, outcome_of, run_results}
 use Rattle.sb_packet.specs.Scripts.{IsTransaction, script_accesses, transaction_accesses, transaction_message}
 use Rattle.sb_packet.specs.declared.entry.Entry.{Entry}
 use Rattle.sb_packet.specs.declared.transaction.Kind.{Kind}
@@ -22,7 +21,7 @@ use Rattle.sb_packet.proofs.LawfulReplies.{lawful_replies_differ}
 use Rattle.sb_flow.specs.Accepted.{IsAccepted}
 use Rattle.sb_text.specs.Told.{FitsNetwork}
 use Rattle.sb_check.specs.Gathering.{AreNoted, Gathers, device_replies, gathered_results, is_reply_to, replies_so_far}
-use Rattle.sb_check.specs.NotedAnswers.{NotedAnswers, is_posted, noted_at, noted_outcome}
+use Rattle.sb_check.specs.AnswerNotes.{NotedAnswers, is_posted, noted_at, noted_outcome}
 use Rattle.sb_check.specs.declared.gathered.Gathered.{Gathered}
 use Rattle.sb_check.proofs.NextEntries.{at_place, host_few, host_lines}
 use Rattle.sb_check.proofs.OpeningMemories.{opened_long}

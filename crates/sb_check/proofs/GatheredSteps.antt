@@ -16,9 +16,10 @@ use Rattle.sb_packet.specs.Scripts.{IsTransaction, script_accesses, transaction_
 use Rattle.sb_packet.specs.declared.entry.Entry.{Entry}
 use Rattle.sb_packet.specs.declared.transaction.Txn.{Txn}
 use Rattle.sb_flow.specs.Accepted.{IsAccepted}
-use Rattle.sb_check.specs.Beginnings.{BeginsList, IsLawfulSoFar}
+use Rattle.sb_check.specs.Beginnings.{IsLawfulSoFar}
+use Rattle.sb_link.specs.Prefixes.{IsPrefix}
 use Rattle.sb_check.specs.Gathering.{device_replies, is_reply_to, replies_so_far, transaction_number}
-use Rattle.sb_check.specs.NotedAnswers.{NotedAnswers, noted_at, notes_with, with_reply}
+use Rattle.sb_check.specs.AnswerNotes.{NotedAnswers, noted_at, notes_with, with_reply}
 use Rattle.sb_check.proofs.NextEntries.{NextEntry, at_place, host_few, host_lines}
 use Rattle.sb_check.proofs.OwnWords.{is_word_of, journal_more, journal_same, own_so_far, words_there}
 use Rattle.sb_check.proofs.ReplyLemmas.{all_own, answers_to-append, none_own, own_answers_short, unreached_short, words_long}
@@ -43,8 +44,8 @@ replies_short network journal good so k host at i t there = by_place (device_at 
     by_place (Some d) e =
         let words = journal_accesses journal d in
         let test = is_word_of host.id i in
-        let begins : BeginsList (flow_part network host d words) (flow_part network host d (script_accesses host)) =
-        at_place (λ h. (d : ℕ) → BeginsList (flow_part network h d (journal_accesses journal d)) (flow_part network h d (script_accesses h))) network.hosts k host so.in_script_order at d in
+        let begins : IsPrefix (flow_part network host d words) (flow_part network host d (script_accesses host)) =
+        at_place (λ h. (d : ℕ) → IsPrefix (flow_part network h d (journal_accesses journal d)) (flow_part network h d (script_accesses h))) network.hosts k host so.in_script_order at d in
         let own = own_so_far network host good.placed lines (host_few network good k host at) d i t words begins.rest (at_place IsTransaction host.script i t lines there) there e
         (words_there network d journal so.at_target) begins.joined in
         omega (arith, own_answers_short host.id i (opening_memory network d) words, whole, sum_by-append (λ (a : Access). 2 ^ a.size) (filter test words) (filter test begins.rest), ap (sum_by (λ (a : Access). 2 ^ a.size)) own)

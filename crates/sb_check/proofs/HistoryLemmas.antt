@@ -9,15 +9,14 @@ use Rattle.sb_word.specs.Words.{word_of}
 use Rattle.sb_packet.specs.Messages.{message_of}
 use Rattle.sb_packet.specs.Names.{is_name}
 use Rattle.sb_packet.specs.Networks.{NetDevice, Network}
-use Rattle.sb_packet.specs.Outcomes.{run_results}
+use Rattle.sb_packet.specs.Answers.{run_results}
 use Rattle.sb_packet.specs.declared.entry.Entry.{Entry}
 use Rattle.sb_text.specs.Lines.{is_line_end}
 use Rattle.sb_text.specs.Numerals.{digits_number}
 use Rattle.sb_text.specs.Reports.{entry_line, first_line, run_report}
 use Rattle.sb_text.specs.TextLines.{body_text, hex_number, text_line}
 use Rattle.sb_check.specs.Comparing.{IsUnended, closing_text}
-use Rattle.sb_check.specs.EntriesRead.{IsHistoryRead, history_text}
-use Rattle.sb_check.specs.Histories.{IsFormed, IsFormFault, SpellsJournal, history_of}
+use Rattle.sb_check.specs.Histories.{IsFormFault, IsFormed, IsHistoryRead, SpellsJournal, history_of, history_text}
 use Rattle.sb_check.specs.ReportLines.{IsFirstDifference, report_lines}
 use Rattle.sb_check.specs.Spelling.{AnnouncesEntries, IsEntryInRange, SpellsEntry, count_line}
 use Rattle.sb_packet.specs.Journals.{IsLawful}

@@ -1,22 +1,21 @@
 -- Texts that are compared one after another.
 use Rattle.std.proofs.Common.{◌≡◌, ◌<◌, ◌≤◌, ◌+◌, ◌*◌, ◌/◌, ◌%◌, ℕ, zero, suc, List, [], ◌∷◌, ◌++◌, length, get_or, ap, sym, refl, ◌∙◌, arith, append_assoc, take, drop, subst, ◌-◌}
 use Rattle.std.specs.Prelude.{Result, Ok, Err, IsErr, map, slice_index, flat_map}
-use Rattle.std.proofs.lemmas.List.{length-append}
+use Rattle.std.proofs.lemmas.List.{length-append, take_all}
 use Rattle.std.proofs.Math.Seq.{drop-append_seam, take-append_seam}
 use Rattle.hex.specs.Hex.{encode_lower, encode_with, lower_digits}
 use Rattle.std.proofs.lemmas.Bool.{false≢true}
-use Rattle.std.proofs.lemmas.List.{take_all}
 use Rattle.sb_text.specs.TextLines.{text_line}
 use Rattle.sb_check.specs.declared.line_piece.LinePiece.{LinePiece}
-use Rattle.sb_check.specs.Beginnings.{BeginsList}
-use Rattle.sb_check.specs.Matching.{HasDigits, IsMatched, piece_text}
+use Rattle.sb_link.specs.Prefixes.{IsPrefix}
+use Rattle.sb_check.specs.Comparing.{HasDigits, IsMatched, piece_text}
 
 -- what doesn't begin with the first of two texts doesn't begin with both
-pub differs_first : (a s t : List ℕ) → ¬ BeginsList s a → ¬ BeginsList (s ++ t) a
+pub differs_first : (a s t : List ℕ) → ¬ IsPrefix s a → ¬ IsPrefix (s ++ t) a
 differs_first a s t differs begins = differs (record { rest = t ++ begins.rest; joined = sym (append_assoc s t begins.rest) ∙ begins.joined })
 
 -- nor does what begins with the first and doesn't go on with the second
-pub differs_then : (a b s t : List ℕ) → a ≡ s ++ b → ¬ BeginsList t b → ¬ BeginsList (s ++ t) a
+pub differs_then : (a b s t : List ℕ) → a ≡ s ++ b → ¬ IsPrefix t b → ¬ IsPrefix (s ++ t) a
 differs_then a b s t first differs begins =
     let whole : s ++ (t ++ begins.rest) ≡ s ++ b = sym (append_assoc s t begins.rest) ∙ begins.joined ∙ first in
     differs (record { rest = begins.rest; joined = sym (drop-append_seam s (t ++ begins.rest)) ∙ ap (drop (length s)) whole ∙ drop-append_seam s b })
@@ -31,16 +30,16 @@ pub matched_as : {T E : Type 0} (r : Result T E) (a b s t : List ℕ) → s ≡ 
 matched_as r a b s t same m = subst (λ (u : List ℕ). IsMatched r a b u) same m
 
 -- of another length or with other bytes, a text isn't what another begins with
-pub begins_front : (text a : List ℕ) → BeginsList text a → take (length text) a ≡ text
+pub begins_front : (text a : List ℕ) → IsPrefix text a → take (length text) a ≡ text
 begins_front text a begins = ap (take (length text)) (sym begins.joined) ∙ take-append_seam text begins.rest
 
-pub begins_short : (text a : List ℕ) → BeginsList text a → length text ≤ length a
+pub begins_short : (text a : List ℕ) → IsPrefix text a → length text ≤ length a
 begins_short text a begins = omega (arith, ap length (sym begins.joined), length-append text begins.rest)
 
-pub differs_front : (text a : List ℕ) → (take (length text) a ≡ text → ⊥) → ¬ BeginsList text a
+pub differs_front : (text a : List ℕ) → (take (length text) a ≡ text → ⊥) → ¬ IsPrefix text a
 differs_front text a other begins = other (begins_front text a begins)
 
-pub differs_short : (text a : List ℕ) → length a < length text → ¬ BeginsList text a
+pub differs_short : (text a : List ℕ) → length a < length text → ¬ IsPrefix text a
 differs_short text a short begins = let long = begins_short text a begins in omega arith
 
 -- the digits of bytes
@@ -77,7 +76,7 @@ encode_lower-by (b ∷ bytes) (d ∷ e ∷ digits) long each =
     rw (first.high, first.low, rest) refl
 
 -- a result that is an error says that the text differs
-pub not_matched : {T E : Type 0} (r : Result T E) (a b s : List ℕ) → IsErr r → ¬ BeginsList s a → IsMatched r a b s
+pub not_matched : {T E : Type 0} (r : Result T E) (a b s : List ℕ) → IsErr r → ¬ IsPrefix s a → IsMatched r a b s
 not_matched (Ok v) a b s failed differs = absurd (false≢true failed)
 not_matched (Err e) a b s failed differs = record { matched = tt; differs = differs }
 
@@ -88,9 +87,9 @@ flat_map-parts f (x ∷ xs) zero d below = refl
 flat_map-parts f (x ∷ xs) (suc i) d below = append_assoc (f x) (flat_map f (take i xs)) (f (get_or xs i d) ++ flat_map f (drop (suc i) xs)) ∙ ap (λ (t : List ℕ). f x ++ t) (flat_map-parts f xs i d (omega arith))
 
 -- where the next of some texts isn't there, they aren't all there
-pub flat_map-differs : {A : Type 0} (f : A → List ℕ) (xs : List A) (i : ℕ) (d : A) (a b : List ℕ) → i < length xs → a ≡ flat_map f (take i xs) ++ b → ¬ BeginsList (f (get_or xs i d)) b → ¬ BeginsList (flat_map f xs) a
+pub flat_map-differs : {A : Type 0} (f : A → List ℕ) (xs : List A) (i : ℕ) (d : A) (a b : List ℕ) → i < length xs → a ≡ flat_map f (take i xs) ++ b → ¬ IsPrefix (f (get_or xs i d)) b → ¬ IsPrefix (flat_map f xs) a
 flat_map-differs f xs i d a b below so_far differs =
-    subst (λ (t : List ℕ). ¬ BeginsList t a) (flat_map-parts f xs i d below)
+    subst (λ (t : List ℕ). ¬ IsPrefix t a) (flat_map-parts f xs i d below)
     (differs_then a b (flat_map f (take i xs)) (f (get_or xs i d) ++ flat_map f (drop (suc i) xs)) so_far (differs_first b (f (get_or xs i d)) (flat_map f (drop (suc i) xs)) differs))
 
 -- the first word, a blank and each of the others, and the end

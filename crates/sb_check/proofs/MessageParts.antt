@@ -16,7 +16,7 @@ use Rattle.sb_packet.proofs.CutWords.{part_word}
 use Rattle.sb_packet.proofs.JoinedAnswers.{body_of_message}
 use Rattle.sb_packet.proofs.Ranges.{range_agrees, range_split}
 use Rattle.sb_packet.proofs.Shares.{shares_joined}
-use Rattle.sb_check.specs.Parts.{IsPartFrom, SharesFields}
+use Rattle.sb_check.specs.Progresses.{IsPartFrom, SharesFields}
 
 -- two texts that compare alike are one, and others aren't
 bytes_same : (a b : List ℕ) → bytes_eq a b ≡ true → a ≡ b

@@ -11,22 +11,22 @@ use Rattle.std.proofs.lemmas.Option.{get_or_from_slice_get, slice_get_within}
 use Rattle.sb_packet.specs.Accesses.{Access, access_at, accesses_of}
 use Rattle.sb_packet.specs.Journals.{IsPlaced, device_address, flow_part, is_at, is_request, journal_accesses}
 use Rattle.sb_packet.specs.Messages.{message_of}
+use Rattle.sb_packet.specs.Spans.{span_of}
 use Rattle.sb_packet.specs.Networks.{NetDevice, NetHost, Network, device_at, device_size, has_address}
 use Rattle.sb_packet.specs.Scripts.{IsTransaction, reply_address, request_of, script_accesses, transaction_accesses, transaction_message}
-use Rattle.sb_packet.specs.Spans.{span_of}
 use Rattle.sb_packet.specs.declared.entry.Entry.{Entry}
 use Rattle.sb_packet.specs.declared.packet.Packet.{Packet}
 use Rattle.sb_packet.specs.declared.transaction.Txn.{Txn}
 use Rattle.sb_packet.proofs.Lists.{All-left, All-made, All-right, filter_all}
 use Rattle.sb_packet.proofs.Opcodes.{some_words}
 use Rattle.sb_packet.proofs.ReplyAddresses.{words_from}
-use Rattle.sb_flow.specs.Accepted.{IsAccepted}
-use Rattle.sb_flow.specs.Limits.{is_limited_host}
+use Rattle.sb_flow.specs.Accepted.{IsAccepted, is_limited_host}
 use Rattle.sb_flow.proofs.Apart.{device_at-is}
 use Rattle.sb_flow.proofs.Clashes.{no_clash}
 use Rattle.sb_flow.proofs.FlowWords.{request_asks}
 use Rattle.sb_flow.proofs.HostLimits.{host_limits, limits_of, passes_at}
-use Rattle.sb_check.specs.Beginnings.{BeginsList, IsLawfulSoFar}
+use Rattle.sb_check.specs.Beginnings.{IsLawfulSoFar}
+use Rattle.sb_link.specs.Prefixes.{IsPrefix}
 use Rattle.sb_check.specs.Gathering.{transaction_number}
 use Rattle.sb_check.proofs.OwnWords.{is_in_flow, is_word_of, journal_more, number_of_word, same_number, word_place}
 
@@ -151,7 +151,7 @@ is_placed_last : (network : Network) (journal : List Entry) (e : Entry) → All 
 is_placed_last network journal e all = All-right (IsPlaced network) journal (e ∷ []) all 0 e (omega arith)
 
 -- the words that begin a list are among its words
-words_begin : (P : Access → Type 0) (first new whole : List Access) → BeginsList (first ++ new) whole → All P whole → All P new
+words_begin : (P : Access → Type 0) (first new whole : List Access) → IsPrefix (first ++ new) whole → All P whole → All P new
 words_begin P first new whole begins all = All-right P first new (All-left P (first ++ new) begins.rest (subst (All P) (sym begins.joined) all))
 
 -- a number that is found
@@ -189,14 +189,14 @@ module _ (network : Network) (good : IsAccepted network) (journal : List Entry) 
       let host = last_host.host in
       let d = e.device in
       let test = is_in_flow network host d in
-      let begins : BeginsList (flow_part network host d (journal_accesses (journal ++ e ∷ []) d)) (flow_part network host d (script_accesses host)) =
-      at_place (λ h. (d : ℕ) → BeginsList (flow_part network h d (journal_accesses (journal ++ e ∷ []) d)) (flow_part network h d (script_accesses h))) network.hosts last_host.place host so.in_script_order last_host.at d in
+      let begins : IsPrefix (flow_part network host d (journal_accesses (journal ++ e ∷ []) d)) (flow_part network host d (script_accesses host)) =
+      at_place (λ h. (d : ℕ) → IsPrefix (flow_part network h d (journal_accesses (journal ++ e ∷ []) d)) (flow_part network h d (script_accesses h))) network.hosts last_host.place host so.in_script_order last_host.at d in
       let more : flow_part network host d (journal_accesses (journal ++ e ∷ []) d) ≡ flow_part network host d (journal_accesses journal d) ++ accesses_of e.packet =
       ap (filter test) (journal_more journal e d refl) ∙ filter-append test (journal_accesses journal d) (accesses_of e.packet)
       ∙ ap (λ (l : List Access). filter test (journal_accesses journal d) ++ l) last_in_flow in
       let all : All (IsScriptWord host) (script_accesses host) = script_words host 0 host.script (λ j t at. let same : j ≡ 0 + j = omega arith in subst (λ (k : ℕ). slice_get host.script k ≡ Some t) same at) in
       words_begin (IsScriptWord host) (flow_part network host d (journal_accesses journal d)) (accesses_of e.packet) (flow_part network host d (script_accesses host))
-      (subst (λ (l : List Access). BeginsList l (flow_part network host d (script_accesses host))) more begins) (All-filter test (IsScriptWord host) (script_accesses host) all)
+      (subst (λ (l : List Access). IsPrefix l (flow_part network host d (script_accesses host))) more begins) (All-filter test (IsScriptWord host) (script_accesses host) all)
 
   last_word : (j : ℕ) → j < (message_of e.packet).count → IsScriptWord last_host.host (access_at (message_of e.packet) j)
   last_word = at_number (IsScriptWord last_host.host) (access_at (message_of e.packet)) (message_of e.packet).count last_words

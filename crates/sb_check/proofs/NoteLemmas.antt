@@ -4,8 +4,7 @@ use Rattle.std.specs.Prelude.{◌⊎◌, map, max, set}
 use Rattle.std.proofs.lemmas.List.{get_or-map, length-map, map-append, take-append-le, drop-append-le, drop-replicate, drop-take, take-replicate, take-take, drop-drop}
 use Rattle.std.proofs.Math.Seq.{take-append_seam, drop-append-add, take-suc}
 use Rattle.sb_packet.specs.Memories.{overwritten}
-use Rattle.sb_check.specs.AnswerNotes.{AreBehind, IsInRoom, noted_in}
-use Rattle.sb_check.specs.NotedAnswers.{NotedAnswers, noted_outcome, with_reply}
+use Rattle.sb_check.specs.AnswerNotes.{AreBehind, IsInRoom, NotedAnswers, noted_in, noted_outcome, with_reply}
 use Rattle.sb_check.specs.declared.answer_note.AnswerNote.{AnswerNote}
 
 -- rooms end where they may

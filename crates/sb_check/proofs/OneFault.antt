@@ -11,7 +11,8 @@ use Rattle.sb_packet.specs.Scripts.{script_accesses}
 use Rattle.sb_packet.specs.declared.entry.Entry.{Entry}
 use Rattle.sb_flow.specs.NetworkOf.{network_of}
 use Rattle.sb_flow.specs.declared.bundle.Bundle.{Bundle}
-use Rattle.sb_check.specs.Beginnings.{BeginsList, IsLawfulSoFar}
+use Rattle.sb_check.specs.Beginnings.{IsLawfulSoFar}
+use Rattle.sb_link.specs.Prefixes.{IsPrefix}
 use Rattle.sb_check.specs.Histories.{IsFormFault, SpellsJournal}
 use Rattle.sb_check.specs.ReportLines.{IsFirstDifference}
 use Rattle.sb_check.specs.Verdicts.{IsEntryFault, IsFault, IsShort, IsTextFault}
@@ -23,8 +24,8 @@ use Rattle.sb_check.proofs.ReadingLemmas.{flow-append, lawful_front, order_front
 use mathlib.Core.Logic.{inl, inr}
 
 -- entries that are lawful so far were so before
-front_begins : (network : Network) (host : NetHost) (d k : ℕ) (journal : List Entry) → BeginsList (flow_part network host d (journal_accesses journal d)) (flow_part network host d (script_accesses host))
-    → BeginsList (flow_part network host d (journal_accesses (take k journal) d)) (flow_part network host d (script_accesses host))
+front_begins : (network : Network) (host : NetHost) (d k : ℕ) (journal : List Entry) → IsPrefix (flow_part network host d (journal_accesses journal d)) (flow_part network host d (script_accesses host))
+    → IsPrefix (flow_part network host d (journal_accesses (take k journal) d)) (flow_part network host d (script_accesses host))
 front_begins network host d k journal b =
     let front = flow_part network host d (journal_accesses (take k journal) d) in
     let rest = flow_part network host d (journal_accesses (drop k journal) d) in
@@ -33,8 +34,8 @@ front_begins network host d k journal b =
 
 so_far_front : (network : Network) (journal : List Entry) (k : ℕ) → IsLawfulSoFar network journal → IsLawfulSoFar network (take k journal)
 so_far_front network journal k l = record {
-  in_script_order = All-weaker (λ (host : NetHost). (d : ℕ) → BeginsList (flow_part network host d (journal_accesses journal d)) (flow_part network host d (script_accesses host)))
-      (λ (host : NetHost). (d : ℕ) → BeginsList (flow_part network host d (journal_accesses (take k journal) d)) (flow_part network host d (script_accesses host)))
+  in_script_order = All-weaker (λ (host : NetHost). (d : ℕ) → IsPrefix (flow_part network host d (journal_accesses journal d)) (flow_part network host d (script_accesses host)))
+      (λ (host : NetHost). (d : ℕ) → IsPrefix (flow_part network host d (journal_accesses (take k journal) d)) (flow_part network host d (script_accesses host)))
       (λ host begins d. front_begins network host d k journal (begins d)) network.hosts l.in_script_order;
   at_target = All-take (IsPlaced network) k journal l.at_target;
   in_round_order = order_front k journal l.in_round_order;

@@ -8,10 +8,8 @@ use Rattle.std.proofs.lemmas.Bool.Decides.{nat_tests}
 use Rattle.std.proofs.lemmas.List.{get_or-map, length-map, length-replicate}
 use Rattle.std.proofs.lemmas.Option.{get_or_from_slice_get, slice_get-get_or, slice_get_within}
 use Rattle.sb_packet.specs.Networks.{NetDevice, Network, device_size, opening_memory, opening_of}
-use Rattle.sb_flow.specs.Accepted.{IsAccepted}
-use Rattle.sb_flow.specs.Limits.{is_limited, is_limited_device}
+use Rattle.sb_flow.specs.Accepted.{IsAccepted, is_limited, is_limited_device, is_placed_device}
 use Rattle.sb_flow.specs.NetworkOf.{network_of}
-use Rattle.sb_flow.specs.Ranges.{is_placed_device}
 use Rattle.sb_flow.specs.Rows.{device_of}
 use Rattle.sb_flow.specs.declared.bundle.Bundle.{Bundle}
 use Rattle.sb_flow.specs.declared.device_plan.DevicePlan.{DevicePlan}

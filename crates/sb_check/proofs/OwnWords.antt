@@ -16,7 +16,7 @@ use Rattle.sb_packet.specs.declared.entry.Entry.{Entry}
 use Rattle.sb_packet.specs.declared.transaction.Txn.{Txn}
 use Rattle.sb_packet.proofs.Lists.{All-joined, All-made, filter_all, filter_none}
 use Rattle.sb_packet.proofs.ReplyAddresses.{span_of_transaction, word_within, words_from}
-use Rattle.sb_flow.specs.Ranges.{misplaced_device}
+use Rattle.sb_flow.specs.Accepted.{misplaced_device}
 use Rattle.sb_flow.proofs.FlowWords.{request_asks}
 use Rattle.sb_flow.proofs.Pages.{device_at-page}
 use Rattle.sb_check.specs.Gathering.{transaction_number}

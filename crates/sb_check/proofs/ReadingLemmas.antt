@@ -13,9 +13,9 @@ use Rattle.sb_packet.specs.Scripts.{script_accesses}
 use Rattle.sb_packet.specs.declared.entry.Entry.{Entry}
 use Rattle.sb_text.specs.Lines.{is_line_end}
 use Rattle.sb_text.specs.Reports.{entry_line, first_line}
-use Rattle.sb_check.specs.Beginnings.{BeginsList, IsLawfulSoFar}
-use Rattle.sb_check.specs.EntriesRead.{AreEntriesOf, IsEntryNext, IsHeaded, IsHistoryRead, history_text}
-use Rattle.sb_check.specs.Histories.{HasForm, IsFormed, IsFormFault, SpellsJournal, history_of}
+use Rattle.sb_check.specs.Beginnings.{IsLawfulSoFar}
+use Rattle.sb_link.specs.Prefixes.{IsPrefix}
+use Rattle.sb_check.specs.Histories.{AreEntriesOf, HasForm, IsEntryNext, IsFormFault, IsFormed, IsHeaded, IsHistoryRead, SpellsJournal, history_of, history_text}
 use Rattle.sb_check.specs.ReportLines.{begun_by, report_lines}
 use Rattle.sb_check.specs.Spelling.{AnnouncesEntries, IsEntryInRange, SpellsEntry, count_line}
 use Rattle.sb_check.proofs.CompareLemmas.{joined_lines, lines_joined}
@@ -32,7 +32,7 @@ flow-append network host d a b =
     ∙ filter-append (λ (x : Access). (x.host == host.id) && is_at network d x) (journal_accesses a d) (journal_accesses b d)
 
 flow_begins : (network : Network) (host : NetHost) (d k : ℕ) (journal : List Entry) → flow_part network host d (journal_accesses journal d) ≡ flow_part network host d (script_accesses host)
-    → BeginsList (flow_part network host d (journal_accesses (take k journal) d)) (flow_part network host d (script_accesses host))
+    → IsPrefix (flow_part network host d (journal_accesses (take k journal) d)) (flow_part network host d (script_accesses host))
 flow_begins network host d k journal same = record {
   rest = flow_part network host d (journal_accesses (drop k journal) d);
   joined = sym (flow-append network host d (take k journal) (drop k journal)) ∙ ap (λ (j : List Entry). flow_part network host d (journal_accesses j d)) (take-append-drop k journal) ∙ same;
@@ -50,7 +50,7 @@ order_front (suc (suc k)) (a ∷ b ∷ rest) order =
 pub lawful_front : (network : Network) (journal : List Entry) (k : ℕ) → IsLawful network journal → IsLawfulSoFar network (take k journal)
 lawful_front network journal k l = record {
   in_script_order = All-weaker (λ (host : NetHost). (d : ℕ) → flow_part network host d (journal_accesses journal d) ≡ flow_part network host d (script_accesses host))
-      (λ (host : NetHost). (d : ℕ) → BeginsList (flow_part network host d (journal_accesses (take k journal) d)) (flow_part network host d (script_accesses host)))
+      (λ (host : NetHost). (d : ℕ) → IsPrefix (flow_part network host d (journal_accesses (take k journal) d)) (flow_part network host d (script_accesses host)))
       (λ host same d. flow_begins network host d k journal (same d)) network.hosts l.in_script_order;
   at_target = All-take (IsPlaced network) k journal l.at_target;
   in_round_order = order_front k journal l.in_round_order;

@@ -17,13 +17,12 @@ use Rattle.sb_packet.specs.declared.transaction.Txn.{Txn}
 use Rattle.sb_packet.proofs.Lists.{All-made, filter_all, filter_none}
 use Rattle.sb_packet.proofs.Opcodes.{carries_none_or_all, some_words}
 use Rattle.sb_packet.proofs.FineParts.{packet_whole}
-use Rattle.sb_flow.specs.Ranges.{misplaced_device}
+use Rattle.sb_flow.specs.Accepted.{misplaced_device}
 use Rattle.sb_flow.specs.Ways.{is_aimed_at}
 use Rattle.sb_flow.proofs.FlowWords.{request_asks}
 use Rattle.sb_flow.proofs.Pages.{device_at-page}
-use Rattle.sb_check.specs.Beginnings.{BeginsList}
-use Rattle.sb_check.specs.Parts.{IsPartFrom}
-use Rattle.sb_check.specs.Progresses.{IsWordAt, script_from, words_left}
+use Rattle.sb_link.specs.Prefixes.{IsPrefix}
+use Rattle.sb_check.specs.Progresses.{IsPartFrom, IsWordAt, script_from, words_left}
 use Rattle.sb_check.specs.declared.next_word.NextWord.{NextWord}
 use Rattle.sb_check.proofs.MessageParts.{is_part_from, part_then_others, word_number}
 
@@ -140,7 +139,7 @@ module _ (network : Network) (host : NetHost) (d : ℕ) (placed : misplaced_devi
       omega (arith, word_number (message_of part), length-append (accesses_of part) rest, ap length is)
 
   -- where the words of a packet are the next ones, it is a part of their transaction
-  pub begins_as_part : (next : NextWord) (t : Txn) (part : Packet) → All IsTransaction host.script → IsWordAt network host d next → slice_get host.script next.transaction ≡ Some t → BeginsList (accesses_of part) (words_left network host d next)
+  pub begins_as_part : (next : NextWord) (t : Txn) (part : Packet) → All IsTransaction host.script → IsWordAt network host d next → slice_get host.script next.transaction ≡ Some t → IsPrefix (accesses_of part) (words_left network host d next)
       → IsPartFrom (transaction_message host next.transaction t) next.word (message_of part)
   begins_as_part next t part lines at got begins =
       is_part_from (transaction_message host next.transaction t) (message_of part) next.word begins.rest (flow_part network host d (script_from host (next.transaction + 1)))

@@ -1,7 +1,7 @@
 -- What is gathered of a bundle's lawful journal tells what that comes to.
 use Rattle.std.proofs.Common.{List}
 use Rattle.sb_packet.specs.Journals.{IsLawful}
-use Rattle.sb_packet.specs.Outcomes.{run_results}
+use Rattle.sb_packet.specs.Answers.{run_results}
 use Rattle.sb_packet.specs.declared.entry.Entry.{Entry}
 use Rattle.sb_flow.specs.NetworkOf.{network_of}
 use Rattle.sb_flow.specs.declared.bundle.Bundle.{Bundle}

@@ -16,7 +16,7 @@ use Rattle.sb_packet.specs.declared.transaction.Kind.{Kind}
 use Rattle.sb_packet.specs.declared.transaction.Kind.TheVariants as kinds
 use Rattle.sb_packet.specs.declared.transaction.Txn.{Txn}
 use Rattle.sb_packet.proofs.JoinedAnswers.{answer_code-append}
-use Rattle.sb_check.specs.NotedAnswers.{unreached_noted}
+use Rattle.sb_check.specs.AnswerNotes.{unreached_noted}
 
 -- the answers that some accesses have from no device
 abbrev unreached : List Access → List Access

@@ -14,7 +14,7 @@ use Rattle.sb_packet.specs.Journals.{IsLawful, IsPlaced, device_address, flow_pa
 use Rattle.sb_packet.specs.declared.entry.Entry.{Entry}
 use Rattle.sb_packet.specs.declared.transaction.Txn.{Txn}
 use Rattle.sb_packet.proofs.Lists.{filter_none}
-use Rattle.sb_flow.specs.Ranges.{misplaced_device}
+use Rattle.sb_flow.specs.Accepted.{misplaced_device}
 use Rattle.sb_check.specs.Progresses.{HasReached, IsDoneAt, IsNextWord, IsWordAt, next_at, row_next, script_from, words_left}
 use Rattle.sb_check.specs.declared.host_progress.HostProgress.{HostProgress}
 use Rattle.sb_check.specs.declared.next_word.NextWord.{NextWord}

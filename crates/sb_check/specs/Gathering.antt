@@ -1,17 +1,20 @@
--- What the entries so far come to: the memory of each device, and what was answered to each transaction.
-use Rattle.std.specs.Prelude.{ℕ, ◌≡◌, ◌<◌, ◌+◌, ◌*◌, ◌/◌, ◌%◌, ◌^◌, Bool, ◌&&◌, ◌==◌, List, map, filter, filter_map, length, slice_get, slice_index_or, Some}
+-- What the entries so far come to: the memory of each device, and what was answered to each transaction; and how entries are followed.
+use Rattle.std.specs.Prelude.{ℕ, ◌≡◌, ◌<◌, ◌+◌, ◌*◌, ◌/◌, ◌%◌, ◌^◌, Bool, ◌&&◌, ◌==◌, List, map, filter, filter_map, length, slice_get, slice_index_or, Some, Option, None}
 use Rattle.std.specs.Option.{option_map_or}
 use Rattle.sb_packet.specs.Accesses.{Access}
-use Rattle.sb_packet.specs.Answers.{answer_body, answer_code, unreached_by}
+use Rattle.sb_packet.specs.Answers.{RunResults, answer_body, answer_code, unreached_by}
 use Rattle.sb_packet.specs.Journals.{journal_accesses}
 use Rattle.sb_packet.specs.Memories.{MemoryState, answers_to, memory_after}
 use Rattle.sb_packet.specs.Networks.{NetHost, Network, device_at, opening_memory}
-use Rattle.sb_packet.specs.Outcomes.{RunResults}
 use Rattle.sb_packet.specs.Scripts.{transaction_accesses}
-use Rattle.sb_check.specs.NotedAnswers.{NotedAnswers, is_posted, noted_at, noted_outcome}
+use Rattle.sb_check.specs.AnswerNotes.{NotedAnswers, is_posted, noted_at, noted_outcome}
 use Rattle.sb_check.specs.declared.gathered.Gathered.{Gathered}
 use Rattle.sb_packet.specs.declared.entry.Entry.{Entry}
 use Rattle.sb_packet.specs.declared.transaction.Txn.{Txn}
+use Rattle.sb_check.specs.Histories.{IsFirstWrong}
+use Rattle.sb_check.specs.Progresses.{HasReached}
+use Rattle.sb_check.specs.declared.course.Course.{Course}
+use Rattle.sb_check.specs.declared.progress.Progress.{Progress}
 
 -- the transaction to which the answers at an address go, by its number in its host's script
 abbrev pub transaction_number : ℕ → ℕ
@@ -57,3 +60,15 @@ pub record Gathers (network : Network) (journal : List Entry) (g : Gathered) : T
 -- what is gathered, as results
 abbrev pub gathered_results : Gathered → RunResults
 gathered_results g = record { outcomes = map (map noted_outcome) g.notes.items; images = map (λ m. m.bytes) g.memories.items }
+
+-- Following the entries of a history.
+
+-- up to a first entry that doesn't come rightly, or to the last one
+abbrev pub IsFollowedTo : Option ℕ → Network → List Entry → Progress → Gathered → Type 0
+IsFollowedTo None network journal progress gathered = HasReached network progress journal × Gathers network journal gathered
+IsFollowedTo (Some place) network journal progress gathered = IsFirstWrong network journal place
+
+-- A journal was followed: it is known how far the scripts are in it and what it comes to; or which is the first entry that
+-- doesn't come rightly.
+abbrev pub IsFollowed : Network → List Entry → Course → Type 0
+IsFollowed network journal course = IsFollowedTo course.wrong network journal course.progress course.gathered

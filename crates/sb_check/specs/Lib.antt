@@ -1,15 +1,9 @@
 pub mod ReportLines
 pub mod Spelling
-pub mod Histories
 pub mod Beginnings
-pub mod Verdicts
-pub mod Matching
 pub mod Comparing
-pub mod Parts
 pub mod Progresses
-pub mod NotedAnswers
 pub mod AnswerNotes
-pub mod EntriesRead
-pub mod Followed
-pub mod Faulty
+pub mod Histories
+pub mod Verdicts
 pub mod Gathering

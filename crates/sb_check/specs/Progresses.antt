@@ -1,6 +1,8 @@
 -- How far the scripts of a network are in a journal: for each host and device, the next word that is to come there.
-use Rattle.std.specs.Prelude.{ℕ, ◌≡◌, ◌<◌, ◌-◌, ◌++◌, true, List, length, drop, flat_map, Option, Some, None, IsSomeAnd, option_and_then, slice_get}
+use Rattle.std.specs.Prelude.{ℕ, ◌≡◌, ◌≤◌, ◌+◌, ◌==◌, ◌<◌, ◌-◌, ◌++◌, true, List, length, drop, flat_map, Option, Some, None, IsSomeAnd, option_and_then, slice_get}
 use Rattle.std.specs.List.{enumerate_from}
+use Rattle.sb_packet.specs.Messages.{Message}
+use Rattle.sb_packet.specs.Cuts.{part_of}
 use Rattle.sb_packet.specs.Accesses.{Access}
 use Rattle.sb_packet.specs.Journals.{flow_part, journal_accesses}
 use Rattle.sb_packet.specs.Networks.{NetHost, Network}
@@ -12,6 +14,25 @@ use Rattle.sb_check.specs.declared.host_progress.HostProgress.{HostProgress}
 use Rattle.sb_check.specs.declared.progress.Progress.{Progress}
 use Rattle.sb_packet.specs.declared.entry.Entry.{Entry}
 use Rattle.sb_packet.specs.declared.transaction.Txn.{Txn}
+
+-- When a packet is a part of a message.
+
+-- a part of a message, from word `from` on, ends it just where it has its last word
+pub record IsPartFrom (m : Message) (from : ℕ) (part : Message) : Type 0 where
+  pub within : from + part.count ≤ m.count
+  pub same : part ≡ part_of m from part.count (from + part.count == m.count)
+
+-- what all parts of a message share with it
+pub record SharesFields (m part : Message) : Type 0 where
+  pub op : part.op ≡ m.op
+  pub atomic : part.atomic ≡ m.atomic
+  pub size : part.size ≡ m.size
+  pub host : part.host ≡ m.host
+  pub qos : part.qos ≡ m.qos
+  pub prot : part.prot ≡ m.prot
+  pub eof : part.eof ≡ m.eof
+  pub ex : part.ex ≡ m.ex
+  pub tail : part.tail ≡ m.tail
 
 -- the words of a script from transaction `first` on
 abbrev pub script_from : NetHost → ℕ → List Access

@@ -8,8 +8,9 @@ use Rattle.sb_check.specs.Histories.{IsFormFault, SpellsJournal}
 use Rattle.sb_check.specs.ReportLines.{IsFirstDifference}
 use Rattle.sb_check.specs.Spelling.{IsEntryInRange}
 use Rattle.sb_check.specs.declared.verdict.Reason.{Reason}
-use Rattle.sb_check.specs.declared.verdict.Reason.TheVariants as reasons
 use Rattle.sb_packet.specs.declared.entry.Entry.{Entry}
+use Rattle.sb_check.specs.declared.fault.Fault.{Fault}
+use Rattle.sb_check.specs.declared.verdict.Reason.TheVariants as reasons
 
 -- A report is that of a lawful run: the text, with history, of a lawful journal.
 pub record IsLawfulReport (network : Network) (report : List ℕ) : Type 0 where
@@ -49,3 +50,10 @@ IsFault network report reasons.Form k = IsFormFault network report k
 IsFault network report reasons.Entry k = IsEntryFault network report k
 IsFault network report reasons.Short k = IsShort network report k
 IsFault network report reasons.Text k = IsTextFault network report k
+
+-- A fault that is found in a report.
+
+-- A report goes wrong first there, and it isn't lawful.
+pub record IsFaulty (network : Network) (report : List ℕ) (found : Fault) : Type 0 where
+  pub fault : IsFault network report found.reason found.line
+  pub unlawful : ¬ IsLawfulReport network report

@@ -3,8 +3,7 @@
 ghost use Rattle.std.specs.Prelude.{◌≡◌, ◌≤◌, ◌+◌, ◌*◌, ◌^◌, ℕ, List, replicate};
 ghost use Rattle.sb_packet.specs.Scripts.{IsTransaction};
 ghost use Rattle.sb_flow.specs.NetworkOf.{network_of};
-ghost use Rattle.sb_check.specs.AnswerNotes.{IsInRoom, noted_in};
-ghost use Rattle.sb_check.specs.NotedAnswers.{first_noted, is_posted as posted_kind, noted_outcome, unreached_noted};
+ghost use Rattle.sb_check.specs.AnswerNotes.{IsInRoom, first_noted, is_posted as posted_kind, noted_in, noted_outcome, unreached_noted};
 
 use sb_flow::{Bundle, target};
 use sb_packet::{Code, Kind, Txn, TxnState, words_span};

@@ -4,7 +4,7 @@ ghost use Rattle.std.specs.Prelude.{◌≡◌, ◌≤◌, ◌<◌, ◌+◌, All,
 ghost use Rattle.sb_packet.specs.Memories.{overwritten};
 ghost use Rattle.sb_packet.specs.Scripts.{IsTransaction};
 ghost use Rattle.sb_flow.specs.NetworkOf.{network_of};
-ghost use Rattle.sb_check.specs.NotedAnswers.{NotedAnswers, first_noted, noted_outcome, with_reply};
+ghost use Rattle.sb_check.specs.AnswerNotes.{NotedAnswers, first_noted, noted_outcome, with_reply};
 
 use crate::answer_note::{AnswerNote, first_note, noted_state};
 use sb_flow::Bundle;
@@ -21,8 +21,7 @@ pub struct AnswerNotes {
 
 impl Model for AnswerNotes {
     ghost use Rattle.std.specs.Prelude.{List, map};
-    ghost use Rattle.sb_check.specs.AnswerNotes.{AreLaidOut, noted_in};
-    ghost use Rattle.sb_check.specs.NotedAnswers.{NotedAnswers};
+    ghost use Rattle.sb_check.specs.AnswerNotes.{AreLaidOut, NotedAnswers, noted_in};
 
     ghost Value = { List NotedAnswers };
 

@@ -5,11 +5,9 @@ ghost use Rattle.sb_packet.specs.Journals.{IsLawful};
 ghost use Rattle.sb_packet.specs.Names.{is_name};
 ghost use Rattle.sb_packet.specs.declared.entry.Entry.{Entry as AnyEntry};
 ghost use Rattle.sb_flow.specs.NetworkOf.{network_of};
-ghost use Rattle.sb_check.specs.EntriesRead.{IsHistoryRead};
-ghost use Rattle.sb_check.specs.Faulty.{IsFaulty};
-ghost use Rattle.sb_check.specs.Followed.{IsFollowed};
-ghost use Rattle.sb_check.specs.Gathering.{Gathers};
-ghost use Rattle.sb_check.specs.Verdicts.{IsFault, IsLawfulReport};
+ghost use Rattle.sb_check.specs.Histories.{IsHistoryRead};
+ghost use Rattle.sb_check.specs.Verdicts.{IsFault, IsFaulty, IsLawfulReport};
+ghost use Rattle.sb_check.specs.Gathering.{Gathers, IsFollowed};
 ghost use Rattle.sb_check.specs.declared.verdict.Reason.{Reason as AnyReason};
 ghost use Rattle.sb_check.specs.declared.verdict.Verdict.TheVariants as verdicts;
 

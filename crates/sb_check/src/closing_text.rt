@@ -1,7 +1,7 @@
 //! What a report has behind its history, compared with what is left of one.
 
 ghost use Rattle.std.specs.Prelude.{◌≡◌, ◌<◌, ◌≤◌, ◌^◌, ◌++◌, ℕ, List, [], ◌∷◌, codes, filter, length, IfSome, MatchOption, OnErr, OnOk};
-ghost use Rattle.sb_packet.specs.Outcomes.{RunResults};
+ghost use Rattle.sb_packet.specs.Answers.{RunResults};
 ghost use Rattle.sb_flow.specs.NetworkOf.{network_of};
 ghost use Rattle.sb_text.specs.Lines.{is_line_end};
 ghost use Rattle.sb_text.specs.Telling.{Tells};

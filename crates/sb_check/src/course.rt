@@ -4,8 +4,7 @@ ghost use Rattle.std.specs.Prelude.{◌≡◌, ◌≤◌, ◌<◌, ◌^◌, ◌+
 ghost use Rattle.sb_packet.specs.Journals.{IsLawful};
 ghost use Rattle.sb_packet.specs.declared.entry.Entry.{Entry as AnyEntry};
 ghost use Rattle.sb_flow.specs.NetworkOf.{network_of};
-ghost use Rattle.sb_check.specs.Followed.{IsFollowed};
-ghost use Rattle.sb_check.specs.Gathering.{Gathers};
+ghost use Rattle.sb_check.specs.Gathering.{Gathers, IsFollowed};
 ghost use Rattle.sb_check.specs.Histories.{SpellsJournal};
 ghost use Rattle.sb_check.specs.Spelling.{IsEntryInRange};
 ghost use Rattle.sb_check.specs.Verdicts.{IsFault};

@@ -3,11 +3,10 @@
 ghost use Rattle.std.specs.Prelude.{◌≡◌, ◌≤◌, ◌<◌, ◌*◌, ◌^◌, ◌==◌, [], ◌∷◌, None, codes, decimal, length, slice_index_or};
 ghost use Rattle.std.specs.List.{list_all};
 ghost use Rattle.hex.specs.Hex.{encode_lower};
-ghost use Rattle.sb_packet.specs.Outcomes.{RunResults};
+ghost use Rattle.sb_packet.specs.Answers.{RunResults};
 ghost use Rattle.sb_flow.specs.NetworkOf.{network_of};
 ghost use Rattle.sb_flow.specs.Rows.{device_of};
-ghost use Rattle.sb_text.specs.ReportParts.{device_part, devices_text};
-ghost use Rattle.sb_text.specs.Reports.{device_lines, image_lines, row_line};
+ghost use Rattle.sb_text.specs.Reports.{device_lines, device_part, devices_text, image_lines, row_line};
 ghost use Rattle.sb_text.specs.Telling.{Tells};
 ghost use Rattle.sb_text.specs.TextLines.{hex_number, text_line};
 ghost use Rattle.sb_check.specs.Comparing.{IsCompared};

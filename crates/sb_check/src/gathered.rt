@@ -5,17 +5,18 @@ ghost use Rattle.std.specs.List.{position_from, range_with_len};
 ghost use Rattle.sb_packet.specs.Messages.{message_of};
 ghost use Rattle.sb_packet.specs.Journals.{IsLawful};
 ghost use Rattle.sb_packet.specs.Networks.{Network, opening_memory};
-ghost use Rattle.sb_packet.specs.Outcomes.{run_results};
+ghost use Rattle.sb_packet.specs.Answers.{run_results};
 ghost use Rattle.sb_packet.specs.declared.entry.Entry.{Entry};
 ghost use Rattle.sb_flow.specs.Accepted.{IsAccepted};
 ghost use Rattle.sb_flow.specs.NetworkOf.{network_of};
 ghost use Rattle.sb_text.specs.Told.{FitsNetwork};
 ghost use Rattle.sb_check.specs.Beginnings.{IsLawfulSoFar};
 ghost use Rattle.sb_check.specs.Gathering.{Gathers, gathered_results, transaction_number as number_at};
-ghost use Rattle.sb_check.specs.NotedAnswers.{first_noted, noted_at, notes_with};
+ghost use Rattle.sb_check.specs.AnswerNotes.{first_noted, noted_at, notes_with};
 ghost use Rattle.sb_check.specs.declared.gathered.Gathered.{Gathered};
 
 use crate::answer_notes::AnswerNotes;
+use crate::lookups::host_place;
 use sb_flow::{Bundle, HostPlan};
 use sb_mem::Memory;
 use sb_packet::{Entry, Packet, TxnState, carried};
@@ -69,19 +70,12 @@ fn notes_of(alloc: Global, bundle: &Bundle) -> Result<Vec<AnswerNotes>, AllocErr
     Ok(notes)
 }
 
-/// The first of some hosts with an id.
-fn first_with(hosts: &[HostPlan], id: u8) -> Option<usize>
-    ensures place { result ≡ position_from (λ h. h.id == id) 0 hosts.now }
-{
-    hosts.iter().position(|h| h.id == id)
-}
-
 /// The place of the host with an id, where there is one.
 #[tactic(auto, using(sb_flow::proofs::Maps::position_of_map))]
-fn host_place(bundle: &Bundle, id: u8) -> Option<usize>
+fn host_in_network(bundle: &Bundle, id: u8) -> Option<usize>
     ensures place { result ≡ position_from (λ h. h.id == id) 0 (network_of bundle.now).hosts }
 {
-    first_with(&bundle.hosts, id)
+    host_place(bundle, id)
 }
 
 /// The transaction to which the answers at an address go, by its number in its host's script.
@@ -135,7 +129,7 @@ impl Gathered {
         let Some(answer) = memory.step(&entry.packet) else {
             return;
         };
-        let Some(host) = host_place(bundle, entry.packet.cmd.host) else {
+        let Some(host) = host_in_network(bundle, entry.packet.cmd.host) else {
             unreachable!()
         };
         note(&mut self.notes, host, &answer);

@@ -3,9 +3,8 @@
 ghost use Rattle.std.specs.Prelude.{◌≡◌, ◌≢◌, ◌≤◌, ◌<◌, ◌^◌, ℕ, List, [], ◌∷◌, length, slice_get, IfErr, IfOk, IfSome, MatchOption, OnOk};
 ghost use Rattle.sb_flow.specs.NetworkOf.{network_of};
 ghost use Rattle.sb_text.specs.Reports.{first_line};
-ghost use Rattle.sb_check.specs.EntriesRead.{AreEntriesOf, IsEntryNext, IsHeaded};
-ghost use Rattle.sb_check.specs.Followed.{IsFollowed};
-ghost use Rattle.sb_check.specs.Histories.{IsFormFault};
+ghost use Rattle.sb_check.specs.Histories.{AreEntriesOf, IsEntryNext, IsFormFault, IsHeaded};
+ghost use Rattle.sb_check.specs.Gathering.{IsFollowed};
 ghost use Rattle.sb_check.specs.ReportLines.{report_lines};
 ghost use Rattle.sb_check.specs.Spelling.{AnnouncesEntries, count_line};
 ghost use Rattle.sb_packet.specs.declared.entry.Entry.{Entry as AnyEntry};

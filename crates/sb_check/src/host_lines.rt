@@ -1,11 +1,10 @@
 //! The lines of hosts and of their transactions, compared with those of a report.
 
 ghost use Rattle.std.specs.Prelude.{◌≡◌, ◌≤◌, ◌<◌, [], ◌∷◌, None, codes, decimal, length, slice_index_or};
-ghost use Rattle.sb_packet.specs.Outcomes.{RunResults};
+ghost use Rattle.sb_packet.specs.Answers.{RunResults};
 ghost use Rattle.sb_flow.specs.NetworkOf.{network_of};
 ghost use Rattle.sb_flow.specs.Rows.{host_of};
-ghost use Rattle.sb_text.specs.ReportParts.{host_part, hosts_text};
-ghost use Rattle.sb_text.specs.Reports.{code_text, host_lines, outcome_lines, state_text};
+ghost use Rattle.sb_text.specs.Reports.{code_text, host_lines, host_part, hosts_text, outcome_lines, state_text};
 ghost use Rattle.sb_text.specs.Telling.{Tells};
 ghost use Rattle.sb_text.specs.TextLines.{body_text, text_line};
 ghost use Rattle.sb_text.specs.Told.{told_outcomes};

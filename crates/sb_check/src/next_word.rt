@@ -7,7 +7,7 @@ ghost use Rattle.sb_packet.specs.declared.transaction.Txn.{Txn as AnyTxn};
 ghost use Rattle.sb_flow.specs.NetworkOf.{network_of};
 ghost use Rattle.sb_flow.specs.Rows.{host_of};
 ghost use Rattle.sb_flow.specs.Ways.{is_aimed_at};
-ghost use Rattle.sb_check.specs.Beginnings.{BeginsList};
+ghost use Rattle.sb_link.specs.Prefixes.{IsPrefix};
 ghost use Rattle.sb_check.specs.Progresses.{IsWordAt, script_from, words_left};
 
 use crate::part::is_part;
@@ -80,7 +80,7 @@ impl NextWord {
             ≡ accesses_of packet.now ++ words_left network host device next) }
         ensures none { let network = network_of bundle.now in let host = host_of plan.now in
             IsWordAt network host device self
-            → IfNone result (¬ BeginsList (accesses_of packet.now) (words_left network host device self)) }
+            → IfNone result (¬ IsPrefix (accesses_of packet.now) (words_left network host device self)) }
     {
         let script = plan.script.as_slice();
         let txn = script.get(self.transaction)?;

@@ -3,10 +3,10 @@
 ghost use Rattle.std.specs.Prelude.{◌≡◌, ◌≢◌, ◌≤◌, ◌<◌, ◌+◌, ◌-◌, ◌*◌, ◌^◌, ℕ, drop, length, take};
 ghost use Rattle.std.specs.Bool.{OnFalse, OnTrue};
 ghost use Rattle.sb_packet.specs.Messages.{atomic_of, message_of};
-ghost use Rattle.sb_packet.specs.Scripts.{IsTransaction, atomic_of_kind, reply_address, request_of, transaction_message};
 ghost use Rattle.sb_packet.specs.Spans.{word_count_of};
+ghost use Rattle.sb_packet.specs.Scripts.{IsTransaction, atomic_of_kind, reply_address, request_of, transaction_message};
 ghost use Rattle.sb_flow.specs.Rows.{host_of};
-ghost use Rattle.sb_check.specs.Parts.{IsPartFrom, SharesFields};
+ghost use Rattle.sb_check.specs.Progresses.{IsPartFrom, SharesFields};
 
 use crate::unread::are_same;
 use sb_flow::HostPlan;

@@ -5,7 +5,7 @@ ghost use Rattle.std.specs.Prelude.{◌≡◌, ◌≢◌, ◌*◌, ◌<◌, ◌+
 ghost use Rattle.std.specs.Bool.{OnFalse, OnTrue};
 ghost use Rattle.hex.specs.Hex.{encode_lower, lower_digits};
 ghost use Rattle.sb_text.specs.TextLines.{body_text, text_line};
-ghost use Rattle.sb_check.specs.Matching.{HasDigits, IsMatched, piece_text};
+ghost use Rattle.sb_check.specs.Comparing.{HasDigits, IsMatched, piece_text};
 
 use crate::line_piece::LinePiece;
 use itoa::Buffer;

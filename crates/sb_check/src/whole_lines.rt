@@ -3,8 +3,7 @@
 ghost use Rattle.std.specs.Prelude.{◌≡◌, All, filter, length, map};
 ghost use Rattle.sb_text.specs.Lines.{is_line_end};
 ghost use Rattle.sb_text.specs.TextLines.{text_line};
-ghost use Rattle.sb_check.specs.Comparing.{IsCompared, IsUnended};
-ghost use Rattle.sb_check.specs.Matching.{piece_text};
+ghost use Rattle.sb_check.specs.Comparing.{IsCompared, IsUnended, piece_text};
 
 use crate::line_piece::LinePiece;
 use crate::unread::{Differs, Unread};

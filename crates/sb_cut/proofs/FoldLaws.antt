@@ -6,7 +6,7 @@ use Rattle.std.proofs.lemmas.List.Elements.{All-cons, All-append, All-nil, All-h
 use Rattle.std.proofs.lemmas.Grind.{flat_map-append}
 use Rattle.sb_packet.specs.Accesses.{Access, message_accesses}
 use Rattle.sb_packet.specs.Messages.{Message}
-use Rattle.sb_packet.specs.Soundness.{IsWhole}
+use Rattle.sb_packet.specs.Cuts.{IsWhole}
 use Rattle.sb_cut.specs.Merges.{is_mergeable, merge}
 use Rattle.sb_cut.specs.Folds.{Folded, listed, take_one, fold_all}
 use Rattle.sb_cut.proofs.Mergeable.{mergeable_says}

@@ -4,7 +4,7 @@ use Rattle.std.specs.Prelude.{◌≢◌, if◌then◌else◌}
 use Rattle.std.proofs.Math.Nat.{mul-le-mul_right, one-le-pow}
 use Rattle.sb_packet.specs.Messages.{Message, message_span}
 use Rattle.sb_packet.specs.Journals.{is_request}
-use Rattle.sb_packet.specs.Soundness.{device_place, reply_place, IsSound, IsFine}
+use Rattle.sb_packet.specs.Cuts.{device_place, reply_place, IsSound, IsFine}
 use Rattle.sb_cut.specs.Merges.{merge, AreMergeable}
 use Rattle.sb_cut.proofs.MergedWords.{whole_merge, merge_is_narrow}
 

@@ -7,11 +7,10 @@ use Rattle.std.proofs.lemmas.List.{take-append-le, drop-append-le, length-drop, 
 use Rattle.std.proofs.lemmas.Bool.Decides.{nat_tests}
 use Rattle.std.proofs.Math.Seq.{drop-append-add, drop-nil}
 use Rattle.sb_word.specs.declared.command.Op.{Op}
+use Rattle.sb_packet.specs.Messages.{Message, message_span}
 use Rattle.sb_packet.specs.Spans.{carried_by}
 use Rattle.sb_packet.specs.Accesses.{access_at, message_accesses, share}
-use Rattle.sb_packet.specs.Messages.{Message, message_span}
-use Rattle.sb_packet.specs.Cuts.{is_atomic}
-use Rattle.sb_packet.specs.Soundness.{IsWhole}
+use Rattle.sb_packet.specs.Cuts.{IsWhole, is_atomic}
 use Rattle.sb_packet.proofs.Opcodes.{carries_none_or_all}
 use Rattle.sb_packet.proofs.Ranges.{range_agrees, range_split}
 use Rattle.sb_cut.specs.Merges.{merge, AreMergeable}

@@ -1,8 +1,8 @@
 -- What cutters and mergers are to contracts.
 use Rattle.std.specs.Prelude.{ℕ, ◌≡◌, ◌≤◌, true, List, [], ◌∷◌, Option, Some, None}
 use Rattle.sb_packet.specs.Messages.{Message, message_of}
-use Rattle.sb_packet.specs.Cuts.{cut_parts, is_indivisible}
 use Rattle.sb_packet.specs.Spans.{span_of}
+use Rattle.sb_packet.specs.Cuts.{cut_parts, is_indivisible}
 use Rattle.sb_packet.specs.declared.packet.Packet.{Packet}
 use Rattle.sb_cut.specs.declared.merger.Merged.{Merged}
 use Rattle.sb_cut.specs.declared.merger.Merged.TheVariants as mergeds

@@ -2,9 +2,8 @@
 
 ghost use Rattle.std.specs.Prelude.{◌≡◌, ◌≤◌, ℕ, true, None, Some, Option, List, [], ◌∷◌, ◌++◌, All, flat_map};
 ghost use Rattle.sb_packet.specs.Accesses.{message_accesses};
-ghost use Rattle.sb_packet.specs.Cuts.{cut_parts};
+ghost use Rattle.sb_packet.specs.Cuts.{IsFine, IsSound, IsWhole, cut_parts};
 ghost use Rattle.sb_packet.specs.Messages.{Message, message_span};
-ghost use Rattle.sb_packet.specs.Soundness.{IsFine, IsSound, IsWhole};
 ghost use Rattle.sb_cut.specs.Widths.{IsCutWidth};
 ghost use Rattle.sb_cut.specs.Merges.{is_mergeable, merge};
 ghost use Rattle.sb_cut.specs.Folds.{fold_all, listed};

@@ -13,7 +13,6 @@ ghost use Rattle.sb_cut.specs.Works.{out_by};
 use crate::shapes::{is_indivisible, sum};
 use sb_packet::{Op, Packet, span};
 use std::marker::Model;
-use std::mem;
 
 /// What became of a packet that a merger took.
 #[derive(Clone, Copy, Debug, PartialEq, Eq)]
@@ -116,6 +115,7 @@ impl Merger {
 
     /// Takes a packet that fits the width: where one is held and both can be merged, both are held as one, and else the
     /// held one goes out and this one is held.
+    #[inline(always)]
     pub fn take(&mut self, packet: &Packet) -> Merged
         requires narrow { span_of packet.now.cmd ≤ self.old.width }
         ensures held { self.new.held ≡ (take_one self.old.width self.old.held (message_of packet.now)).held }
@@ -130,7 +130,9 @@ impl Merger {
             *first = sum(first, packet);
             return Merged::Held;
         }
-        Merged::Out(mem::replace(first, *packet))
+        let out = Merged::Out(*first);
+        *first = *packet;
+        out
     }
 
     /// Lets go what is held. None exactly where nothing is held.

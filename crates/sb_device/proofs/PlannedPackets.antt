@@ -9,7 +9,7 @@ use Rattle.std.proofs.Math.Pow.{pow_pos}
 use Rattle.sb_packet.specs.Messages.{Message, message_of, message_span}
 use Rattle.sb_packet.specs.Journals.{is_request}
 use Rattle.sb_packet.specs.Memories.{MemoryState}
-use Rattle.sb_packet.specs.Soundness.{IsSound, device_place, reply_place}
+use Rattle.sb_packet.specs.Cuts.{IsSound, device_place, reply_place}
 use Rattle.sb_link.specs.RingPlans.{RingPlan, RingFlows, holds_span, device_ranges, goes_through, goes_home, message_flow, is_allowed}
 use Rattle.sb_link.specs.Traffic.{IsPlanned}
 use Rattle.sb_packet.specs.declared.packet.Packet.{Packet}

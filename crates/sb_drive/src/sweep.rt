@@ -36,7 +36,8 @@ pub(crate) fn sweep<N: Node>(group: &mut Group<N>, number: u32) -> bool
 pub(crate) fn turn_group<N: Node>(group: &mut Group<N>, sweeps: u32, patience: u32, number: u32)
     requires whole { All N.whole group.old.nodes.items }
     ensures whole { All N.whole group.new.nodes.items }
-    ensures round { IsRound N.reaches N.rests N.turns number group.old.nodes.items group.new.nodes.items group.new.last.items group.new.moved }
+    ensures round { IsRound N.reaches N.rests N.turns number group.old.nodes.items group.new.nodes.items
+        group.new.last.items group.new.moved }
 {
     let mut moved = sweep(group, number);
     let mut idle = if moved { 0 } else { 1 };

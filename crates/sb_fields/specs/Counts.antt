@@ -1,7 +1,7 @@
 -- The ranges of numbers and of lists' lengths. This project's own.
 use Rattle.std.specs.Prelude.{ℕ, ◌+◌, List, [], ◌∷◌, codes, length, sum_by, Result, Ok}
-use Rattle.sb_flow.specs.Limits.{is_from_to}
-use Rattle.sb_text.specs.Faults.{◌>>=◌, unless}
+use Rattle.sb_flow.specs.Accepted.{is_from_to}
+use Rattle.sb_text.specs.Sentences.{◌>>=◌, unless}
 use Rattle.sb_fields.specs.Paths.{member_of, item_of}
 use Rattle.sb_fields.specs.Written.{WrittenBundle, WrittenDevice, WrittenHost, WrittenLink, WrittenRouter}
 use Rattle.sb_fields.specs.declared.fault.LoadFault.{LoadFault}

@@ -2,7 +2,7 @@
 use Rattle.std.specs.Prelude.{ℕ, ◌+◌, List, [], ◌∷◌, ◌++◌, codes, Result, Ok}
 use Rattle.serde_json.specs.Data.{Data, Items, no_items, item, Members, no_members, member}
 use Rattle.serde_json.specs.Find.{as_array, as_object, as_str}
-use Rattle.sb_text.specs.Faults.{◌>>=◌, some_or}
+use Rattle.sb_text.specs.Sentences.{◌>>=◌, some_or}
 use Rattle.sb_fields.specs.Paths.{member_of, item_of}
 use Rattle.sb_fields.specs.Fields.{required}
 use Rattle.sb_fields.specs.Written.{WrittenRoute}

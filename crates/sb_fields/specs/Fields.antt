@@ -5,7 +5,7 @@ use Rattle.std.specs.Result.{result_ok}
 use Rattle.hex.specs.Hex.{decode_of}
 use Rattle.serde_json.specs.Data.{Data, Members, no_members, member}
 use Rattle.serde_json.specs.Find.{get, as_number, as_object, as_str, as_u64}
-use Rattle.sb_text.specs.Faults.{◌>>=◌, some_or}
+use Rattle.sb_text.specs.Sentences.{◌>>=◌, some_or}
 use Rattle.sb_text.specs.Numerals.{numeral_of}
 use Rattle.sb_fields.specs.Paths.{member_of, shown_path}
 use Rattle.sb_fields.specs.declared.fault.LoadFault.{LoadFault}

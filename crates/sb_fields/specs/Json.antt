@@ -3,7 +3,7 @@ use Rattle.std.specs.Prelude.{ℕ, List, if◌then◌else◌, Option, None, Resu
 use Rattle.std.specs.Str.{is_utf8}
 use Rattle.serde_json.specs.Data.{Data}
 use Rattle.serde_json.specs.Read.{read}
-use Rattle.sb_text.specs.Faults.{◌>>=◌, some_or}
+use Rattle.sb_text.specs.Sentences.{◌>>=◌, some_or}
 use Rattle.sb_fields.specs.Counts.{bundle_counts}
 use Rattle.sb_fields.specs.Objects.{bundle_in}
 use Rattle.sb_fields.specs.Written.{WrittenBundle}

@@ -2,7 +2,7 @@
 use Rattle.std.specs.Prelude.{ℕ, false, List, [], ◌∷◌, codes, unwrap_or, Result, Ok}
 use Rattle.serde_json.specs.Data.{Data}
 use Rattle.serde_json.specs.Find.{as_bool, as_str}
-use Rattle.sb_text.specs.Faults.{◌>>=◌}
+use Rattle.sb_text.specs.Sentences.{◌>>=◌}
 use Rattle.sb_fields.specs.Fields.{bytes_in, number_in, numeral_in, object_with, optional, required}
 use Rattle.sb_fields.specs.FieldLists.{list_of, routes_of, text_item}
 use Rattle.sb_fields.specs.Written.{WrittenBundle, WrittenDevice, WrittenHost, WrittenLink, WrittenRouter}

@@ -2,15 +2,10 @@
 use Rattle.std.proofs.Common.{◌≡◌, refl, [], ◌∷◌, false, Some, None, map}
 use Rattle.std.specs.Prelude.{◌*◌, ◌/◌, All, codes}
 use Rattle.sb_packet.specs.Networks.{NetDevice, NetLink, NetRouter, at_host, at_router}
-use Rattle.sb_flow.specs.Ways.{network_ways}
+use Rattle.sb_flow.specs.Ways.{IsCourse, link_rank, network_ways}
 use Rattle.sb_packet.proofs.NetworkExample.{cpu0, cpu1, eight_links, four_devices, three_routers, wired}
-use Rattle.sb_flow.specs.Accepted.{IsAccepted}
-use Rattle.sb_flow.specs.Courses.{IsCourse, link_rank}
+use Rattle.sb_flow.specs.Accepted.{IsAccepted, is_limited, misplaced_device, names_what_is_there, overfull_device, overlapping_device, repeated_id, repeated_link_name, repeated_name, route_fault, word_count}
 use Rattle.sb_flow.specs.Ends.{backward_link, odd_width, unfit_link, unlinked_place}
-use Rattle.sb_flow.specs.Limits.{is_limited, word_count}
-use Rattle.sb_flow.specs.Names.{names_what_is_there, repeated_id, repeated_link_name, repeated_name}
-use Rattle.sb_flow.specs.Ranges.{misplaced_device, overfull_device, overlapping_device}
-use Rattle.sb_flow.specs.Routes.{route_fault}
 use Rattle.sb_flow.proofs.TestedNetworks.{accepted_by_test}
 use Rattle.sb_flow.proofs.WayCourses.{all_courses}
 

@@ -5,12 +5,9 @@ use Rattle.std.specs.List.{AllByRecursion, list_all, list_any, range_with_len}
 use Rattle.std.proofs.lemmas.Bool.{and_parts, cases_eq, not-false}
 use mathlib.Core.Logic.{inl, inr}
 use Rattle.sb_packet.specs.Networks.{NetLink, NetPlace, Network, at_device, at_host, at_router}
-use Rattle.sb_flow.specs.Ways.{is_some_number, route_at}
-use Rattle.sb_flow.specs.Accepted.{IsAccepted}
+use Rattle.sb_flow.specs.Ways.{down_stage, is_some_number, route_at, up_stage}
+use Rattle.sb_flow.specs.Accepted.{IsAccepted, is_link_there, is_stray, is_there, leads_on, lost_flow, stray_route, stray_route_of}
 use Rattle.sb_flow.specs.Ends.{goes_back, is_fit_link, joins, keeps_sides, share_an_end, unfit_behind}
-use Rattle.sb_flow.specs.Routes.{is_stray, leads_on, stray_route, stray_route_of, lost_flow}
-use Rattle.sb_flow.specs.Names.{is_link_there, is_there}
-use Rattle.sb_flow.specs.Courses.{down_stage, up_stage}
 use Rattle.sb_flow.proofs.RingLinks.{each_passes}
 use Rattle.sb_flow.proofs.Clashes.{cond-None, first_told-None, option_or-None, position_from-None}
 

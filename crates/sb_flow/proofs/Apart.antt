@@ -7,7 +7,7 @@ use Rattle.sb_packet.specs.Networks.{NetDevice, Network, device_at, device_size,
 use Rattle.sb_link.specs.RingPlans.{are_apart}
 use Rattle.sb_flow.specs.Ways.{is_some_number}
 use Rattle.sb_flow.specs.Rings.{range_of}
-use Rattle.sb_flow.specs.Ranges.{overlapping_device}
+use Rattle.sb_flow.specs.Accepted.{overlapping_device}
 use Rattle.sb_flow.proofs.Clashes.{no_clash}
 use Rattle.sb_flow.proofs.Singles.{IsSingle, position_from-is}
 

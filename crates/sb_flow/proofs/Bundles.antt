@@ -9,12 +9,11 @@ use Rattle.std.proofs.lemmas.List.Sums.{get_or-le-sum_by}
 use Rattle.sb_packet.specs.Networks.{NetDevice, NetHost, Network, has_address}
 use Rattle.sb_packet.specs.Scripts.{IsTransaction}
 use Rattle.sb_flow.specs.Ways.{aims_at, is_aimed_at, way_links}
-use Rattle.sb_flow.specs.Rings.{is_answered, way_accesses}
+use Rattle.sb_flow.specs.Rings.{answered_at, is_answered, way_accesses, words_at}
 use Rattle.std.specs.List.{list_any}
 use Rattle.sb_flow.specs.Rows.{device_of, host_of, link_of}
 use Rattle.sb_flow.specs.Accepted.{IsAccepted}
 use Rattle.sb_flow.specs.NetworkOf.{network_of}
-use Rattle.sb_flow.specs.Counts.{answered_at, words_at}
 use Rattle.sb_flow.specs.Tables.{aimed_links, flow_table_of, leg_of, marks_of, way_of}
 use Rattle.sb_flow.specs.declared.leg.Leg.{Leg}
 use Rattle.sb_flow.specs.declared.bundle.Bundle.{Bundle}

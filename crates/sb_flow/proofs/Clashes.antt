@@ -6,7 +6,7 @@ use Rattle.std.specs.Option.{option_or}
 use Rattle.std.proofs.lemmas.Bool.{cases_eq, not-false}
 use mathlib.Core.Logic.{inl, inr}
 use Rattle.std.proofs.lemmas.List.Elements.{All-from_recursion, All-get_or}
-use Rattle.sb_flow.specs.Firsts.{Clash, clash_behind, first_clash, first_told}
+use Rattle.sb_flow.specs.Accepted.{Clash, clash_behind, first_clash, first_told}
 
 -- neither of two parts has a fault where both together have none
 pub option_or-None : {A : Type 0} (x y : Option A) → option_or x y ≡ None → (x ≡ None) × (y ≡ None)

@@ -11,7 +11,7 @@ use Rattle.sb_link.specs.RingPlans.{NetFlow}
 use Rattle.sb_flow.specs.Ways.{NetWay, aims_at, flow_links, host_ways, is_way_of, network_ways, way_links, is_some_number, is_aimed_at}
 use Rattle.sb_flow.specs.Rings.{has_link, link_ways}
 use Rattle.sb_packet.specs.declared.transaction.Txn.{Txn}
-use Rattle.sb_flow.specs.Names.{repeated_id}
+use Rattle.sb_flow.specs.Accepted.{repeated_id}
 use Rattle.sb_flow.specs.Tables.{aimed_links}
 use Rattle.sb_flow.proofs.Clashes.{no_clash}
 

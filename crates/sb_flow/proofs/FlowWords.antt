@@ -11,12 +11,11 @@ use Rattle.sb_packet.specs.Networks.{NetDevice, NetHost, Network, has_address}
 use Rattle.sb_packet.specs.Scripts.{IsTransaction, request_of, script_accesses, transaction_accesses, transaction_message}
 use Rattle.sb_packet.specs.Journals.{flow_part, is_at, is_request}
 use Rattle.sb_flow.specs.Ways.{is_aimed_at}
-use Rattle.sb_flow.specs.Rings.{is_answered}
+use Rattle.sb_flow.specs.Rings.{answered_at, is_answered, is_answered_kind, words_at}
 use Rattle.sb_packet.specs.declared.transaction.Txn.{Txn}
 use Rattle.sb_packet.specs.declared.transaction.Kind.{Kind}
 use Rattle.sb_packet.specs.declared.transaction.Kind.TheVariants.{Read, Write, Posted, Atomic}
-use Rattle.sb_flow.specs.Counts.{answered_at, is_answered_kind, words_at}
-use Rattle.sb_flow.specs.Ranges.{misplaced_device, overlapping_device}
+use Rattle.sb_flow.specs.Accepted.{misplaced_device, overlapping_device}
 use Rattle.sb_flow.proofs.Maps.{sum_by_agree}
 use Rattle.sb_flow.proofs.Pages.{device_at-page}
 use Rattle.sb_flow.proofs.Apart.{device_at-is}

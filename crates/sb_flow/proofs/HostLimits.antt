@@ -6,7 +6,7 @@ use Rattle.std.proofs.lemmas.Bool.{and_parts}
 use Rattle.std.proofs.lemmas.Bool.Decides.{nat_tests}
 use Rattle.std.proofs.lemmas.List.{length-map}
 use Rattle.sb_packet.specs.Networks.{NetHost, Network}
-use Rattle.sb_flow.specs.Limits.{is_limited, is_limited_host}
+use Rattle.sb_flow.specs.Accepted.{is_limited, is_limited_host}
 use Rattle.sb_flow.specs.NetworkOf.{network_of}
 use Rattle.sb_flow.specs.Rows.{host_of}
 use Rattle.sb_flow.specs.declared.bundle.Bundle.{Bundle}

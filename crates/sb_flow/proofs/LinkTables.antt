@@ -8,7 +8,7 @@ use Rattle.std.proofs.lemmas.List.Sums.{sum_by-append, sum_by-cons}
 use Rattle.sb_packet.specs.Networks.{NetHost, Network}
 use Rattle.sb_flow.specs.Ways.{NetWay, aims_at, host_ways, way_links}
 use Rattle.sb_flow.specs.Rings.{flow_table, has_link, is_answered, link_ways, way_accesses}
-use Rattle.sb_flow.specs.Names.{repeated_id}
+use Rattle.sb_flow.specs.Accepted.{repeated_id}
 use Rattle.sb_flow.specs.Tables.{HostTable, flow_table_of, host_table_of, link_table_of, marks_of, paths_of}
 use Rattle.sb_flow.specs.Gathered.{all_words_on, devices_on, flows_from, gathered, host_words_on, is_device_on, words_on}
 use Rattle.sb_flow.proofs.LinkMarks.{map_range_agree}

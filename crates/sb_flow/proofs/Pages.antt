@@ -4,7 +4,7 @@ use Rattle.std.specs.Prelude.{◌==◌, nat_le, nat_lt}
 use Rattle.std.specs.List.{AllByRecursion, position_from}
 use Rattle.std.proofs.lemmas.Bool.{and_parts, eqb-true, leb-true, lt-leb, lt-ltb, le-ltb}
 use Rattle.sb_packet.specs.Networks.{NetDevice, Network, device_at, device_size, has_address}
-use Rattle.sb_flow.specs.Ranges.{is_placed_device, misplaced_device}
+use Rattle.sb_flow.specs.Accepted.{is_placed_device, misplaced_device}
 use Rattle.sb_flow.proofs.Clashes.{all_pass}
 
 -- a page begins at or below an address just where it does so for one further on in the same page

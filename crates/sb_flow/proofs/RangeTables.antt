@@ -12,8 +12,7 @@ use Rattle.sb_packet.specs.Networks.{NetDevice, Network, device_size}
 use Rattle.sb_link.specs.RingPlans.{AddressRange, AreApart, are_apart}
 use Rattle.sb_flow.specs.Rings.{network_ranges, range_of}
 use Rattle.sb_link.specs.Plans.{AreInRange, AreWholePages, ranges_of}
-use Rattle.sb_flow.specs.Accepted.{IsAccepted}
-use Rattle.sb_flow.specs.Ranges.{is_placed_device}
+use Rattle.sb_flow.specs.Accepted.{IsAccepted, is_placed_device}
 use Rattle.sb_flow.specs.Rows.{device_of}
 use Rattle.sb_flow.specs.declared.device_plan.DevicePlan.{DevicePlan}
 use Rattle.sb_flow.proofs.LinkMarks.{map_range_agree}

@@ -4,7 +4,7 @@ use Rattle.sb_link.specs.RingPlans.{RingFlows, RingPlan}
 use Rattle.sb_flow.specs.Rings.{is_upward, network_ranges, ring_link, ring_plan}
 use Rattle.sb_link.specs.Plans.{IsRingWidth, bits_of}
 use Rattle.sb_flow.specs.NetworkOf.{network_of}
-use Rattle.sb_flow.specs.LoadOf.{load_of}
+use Rattle.sb_flow.specs.Gathered.{load_of}
 use Rattle.sb_flow.specs.Rows.{link_of}
 use Rattle.sb_flow.specs.Tables.{LinkTable, link_table_of, paths_of}
 use Rattle.sb_flow.specs.declared.bundle.Bundle.{Bundle}

@@ -8,10 +8,8 @@ use Rattle.std.proofs.lemmas.List.Elements.{All-from_recursion, All-get_or}
 use Rattle.sb_packet.specs.Networks.{NetLink, Network}
 use Rattle.sb_flow.specs.Rings.{ring_link}
 use Rattle.sb_link.specs.Plans.{IsRingWidth}
-use Rattle.sb_flow.specs.Accepted.{IsAccepted}
+use Rattle.sb_flow.specs.Accepted.{IsAccepted, is_limited, is_limited_link, is_link_there, is_there}
 use Rattle.sb_flow.specs.Ends.{is_link_width}
-use Rattle.sb_flow.specs.Limits.{is_limited, is_limited_link}
-use Rattle.sb_flow.specs.Names.{is_link_there, is_there}
 use Rattle.sb_flow.specs.Rows.{link_of}
 use Rattle.sb_flow.specs.NetworkOf.{network_of}
 use Rattle.sb_flow.specs.declared.bundle.Bundle.{Bundle}

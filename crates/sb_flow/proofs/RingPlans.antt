@@ -10,7 +10,7 @@ use Rattle.sb_flow.specs.Ways.{NetWay}
 use Rattle.sb_flow.specs.Rings.{counted_accesses, flow_table, is_answered, is_upward, link_ways, network_ranges, ring_link, ring_plan, way_accesses}
 use Rattle.sb_flow.specs.Accepted.{IsAccepted}
 use Rattle.sb_flow.specs.Tables.{LinkTable, link_table_of, paths_of}
-use Rattle.sb_flow.specs.LoadOf.{load_of}
+use Rattle.sb_flow.specs.Gathered.{load_of}
 use Rattle.sb_flow.specs.declared.load.Load.{Load}
 use Rattle.sb_flow.proofs.LinkTables.{gathered-is}
 use Rattle.sb_flow.proofs.WordBounds.{words_bounded}

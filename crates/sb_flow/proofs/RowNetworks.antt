@@ -2,12 +2,8 @@
 use Rattle.std.proofs.Common.{◌≡◌, ◌≤◌, refl, true, List, length, map, None, ap, sym, ◌∙◌, subst}
 use Rattle.std.proofs.lemmas.List.{length-map}
 use Rattle.sb_packet.specs.Networks.{Network}
-use Rattle.sb_flow.specs.Accepted.{IsAccepted}
+use Rattle.sb_flow.specs.Accepted.{IsAccepted, is_limited, misplaced_device, names_what_is_there, overfull_device, overlapping_device, repeated_id, repeated_link_name, repeated_name, route_fault, word_count}
 use Rattle.sb_flow.specs.Ends.{backward_link, odd_width, unfit_link, unlinked_place}
-use Rattle.sb_flow.specs.Limits.{is_limited, word_count}
-use Rattle.sb_flow.specs.Names.{names_what_is_there, repeated_id, repeated_link_name, repeated_name}
-use Rattle.sb_flow.specs.Ranges.{misplaced_device, overfull_device, overlapping_device}
-use Rattle.sb_flow.specs.Routes.{route_fault}
 use Rattle.sb_flow.specs.Rows.{device_of, host_of, link_of, net_router_of, rows_network}
 use Rattle.sb_flow.specs.declared.device_plan.DevicePlan.{DevicePlan}
 use Rattle.sb_flow.specs.declared.host_plan.HostPlan.{HostPlan}

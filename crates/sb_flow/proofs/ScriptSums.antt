@@ -3,7 +3,7 @@ use Rattle.std.proofs.Common.{◌≡◌, ◌≤◌, ◌<◌, ℕ, ◌+◌, Bool,
 use Rattle.std.specs.Prelude.{sum_by, if◌then◌else◌}
 use Rattle.std.proofs.lemmas.List.Sums.{sum_by_more_le_part}
 use Rattle.sb_packet.specs.Networks.{NetDevice, has_address}
-use Rattle.sb_flow.specs.Counts.{answered_at, is_answered_kind, words_at}
+use Rattle.sb_flow.specs.Rings.{answered_at, is_answered_kind, words_at}
 use Rattle.sb_packet.specs.declared.transaction.Txn.{Txn}
 
 -- a number or nothing is no more than the number

@@ -9,7 +9,7 @@ use mathlib.Core.Logic.{inl, inr}
 use Rattle.sb_packet.specs.Networks.{NetHost, Network}
 use Rattle.sb_link.specs.RingPlans.{NetFlow}
 use Rattle.sb_flow.specs.Ways.{is_some_number, link_down, link_up, router_after, router_before}
-use Rattle.sb_flow.specs.Names.{repeated_id}
+use Rattle.sb_flow.specs.Accepted.{repeated_id}
 use Rattle.sb_flow.specs.Tables.{FlowTable, HostTable, aimed_links, flow_table_of, host_table_of, leg_of, marks_of, paths_of}
 use Rattle.sb_flow.specs.Gathered.{flows_from, is_device_on, legs_at}
 use Rattle.sb_flow.specs.declared.leg.Leg.{Leg}

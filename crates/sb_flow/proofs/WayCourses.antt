@@ -5,13 +5,10 @@ use Rattle.std.specs.List.{AllByRecursion, enumerate_from, find, list_any, posit
 use Rattle.std.specs.Option.{option_map_or}
 use Rattle.std.proofs.lemmas.Bool.{and_parts, eqb-true, not-false}
 use Rattle.std.proofs.lemmas.List.Elements.{All-append, All-from_recursion}
-use Rattle.sb_packet.specs.Networks.{NetHost, NetLink, NetPlace, NetRouter, Network, at_device, at_host, at_router, leads_to}
-use Rattle.sb_packet.specs.Sides.{leaves_from}
-use Rattle.sb_flow.specs.Ways.{aims_at, first_link, host_ways, is_some_number, links_from, network_ways, next_link, route_at, router_after, router_before, router_at_end, way_links}
-use Rattle.sb_flow.specs.Accepted.{IsAccepted}
-use Rattle.sb_flow.specs.Courses.{AreJoined, IsCourse, ends_at, link_rank}
+use Rattle.sb_packet.specs.Networks.{NetHost, NetLink, NetPlace, NetRouter, Network, at_device, at_host, at_router, leads_to, leaves_from}
+use Rattle.sb_flow.specs.Ways.{AreJoined, IsCourse, aims_at, ends_at, first_link, host_ways, is_some_number, link_rank, links_from, network_ways, next_link, route_at, router_after, router_at_end, router_before, way_links}
+use Rattle.sb_flow.specs.Accepted.{IsAccepted, RouteAt, is_other_device, lost_behind, lost_flow, lost_of_host, lost_on_way, stray_route}
 use Rattle.sb_flow.specs.Ends.{goes_back, joins}
-use Rattle.sb_flow.specs.Routes.{RouteAt, is_other_device, lost_behind, lost_flow, lost_of_host, lost_on_way, stray_route}
 use Rattle.sb_flow.proofs.Clashes.{cond-None, first_told-None, option_map-None, option_or-None}
 use Rattle.sb_flow.proofs.AcceptedLinks.{at_range, got_below, link_forward, link_joins, route_leads_on}
 use Rattle.sb_flow.proofs.Walks.{links_from-None}

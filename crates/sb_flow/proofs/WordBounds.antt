@@ -9,7 +9,7 @@ use Rattle.sb_packet.specs.Networks.{NetDevice, NetHost, Network, has_address}
 use Rattle.sb_packet.specs.Scripts.{IsTransaction}
 use Rattle.sb_packet.specs.declared.transaction.Txn.{Txn}
 use Rattle.sb_flow.specs.Accepted.{IsAccepted}
-use Rattle.sb_flow.specs.Counts.{answered_at, words_at}
+use Rattle.sb_flow.specs.Rings.{answered_at, words_at}
 use Rattle.sb_flow.specs.Tables.{HostTable, flow_table_of, host_table_of, paths_of}
 use Rattle.sb_flow.specs.Gathered.{all_words_on, counted_words, host_words_on, is_on, words_on}
 use Rattle.sb_flow.proofs.Maps.{sum_by_map}

@@ -2,8 +2,7 @@
 use Rattle.std.specs.Prelude.{ℕ, Bool, true, false, ◌&&◌, ◌||◌, ◌==◌, nat_le, not, List, [], ◌∷◌, ◌++◌, length, Option, Some, None, option_map, if◌then◌else◌}
 use Rattle.std.specs.List.{find, list_any, position_from, range_with_len}
 use Rattle.std.specs.Option.{option_or}
-use Rattle.sb_packet.specs.Networks.{NetPlace, NetLink, Network, at_host, at_router, at_device, leads_to}
-use Rattle.sb_packet.specs.Sides.{leaves_from, side_at}
+use Rattle.sb_packet.specs.Networks.{NetLink, NetPlace, Network, at_device, at_host, at_router, leads_to, leaves_from, side_at}
 use Rattle.sb_flow.specs.Ways.{is_some_number}
 
 -- the widths that a link may have, in bytes

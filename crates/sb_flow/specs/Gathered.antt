@@ -1,9 +1,17 @@
--- What the tables of hosts say of one link.
-use Rattle.std.specs.Prelude.{ℕ, ◌+◌, ◌*◌, Bool, false, ◌==◌, List, [], ◌∷◌, map, sum_by, slice_get, slice_index_or, if◌then◌else◌, true}
+-- What the tables of hosts say of one link, and what the code holds of it.
+use Rattle.std.specs.Prelude.{map, ℕ, ◌+◌, ◌*◌, Bool, false, ◌==◌, List, [], ◌∷◌, sum_by, slice_get, slice_index_or, if◌then◌else◌, true}
 use Rattle.std.specs.List.{find, range_with_len}
 use Rattle.std.specs.Option.{option_map_or}
+use Rattle.sb_link.specs.Plans.{bits_of}
 use Rattle.sb_flow.specs.Tables.{FlowTable, HostTable, LinkTable}
+use Rattle.sb_flow.specs.declared.load.Load.{Load}
 use Rattle.sb_flow.specs.declared.leg.Leg.{Leg}
+
+-- What the code holds of a link, as its table.
+
+-- what goes over a link
+abbrev pub load_of : Load → LinkTable
+load_of l = record { requests = l.requests; answers = l.answers; through = map bits_of l.through }
 
 -- link k is on a way
 abbrev pub is_on : ℕ → FlowTable → Bool

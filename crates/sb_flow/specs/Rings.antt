@@ -3,15 +3,17 @@ use Rattle.std.specs.Prelude.{◌≡◌, ℕ, ◌/◌, ◌%◌, Bool, true, fals
 use Rattle.std.specs.List.{list_any, range_with_len}
 use Rattle.std.specs.Option.{option_map_or}
 use Rattle.sb_word.specs.declared.command.Op.{Op}
-use Rattle.sb_word.specs.declared.command.Op.TheVariants.{ReqRd, ReqWr, ReqWrPosted, ReqAtomic, RespRd, RespWr}
+use Rattle.sb_word.specs.declared.command.Op.TheVariants.{ReqAtomic, ReqRd, ReqWr, ReqWrPosted, RespRd, RespWr}
 use Rattle.sb_packet.specs.Accesses.{Access}
-use Rattle.sb_packet.specs.Networks.{NetDevice, NetLink, Network, device_size}
-use Rattle.sb_packet.specs.Scripts.{script_accesses}
+use Rattle.sb_packet.specs.Networks.{NetDevice, NetLink, Network, device_size, has_address}
+use Rattle.sb_packet.specs.Scripts.{request_of, script_accesses}
 use Rattle.sb_packet.specs.Journals.{flow_part, is_at}
 use Rattle.sb_link.specs.RingPlans.{AddressRange, RingFlows, RingPlan}
 use Rattle.sb_packet.specs.Answers.{flow_answers}
 use Rattle.sb_flow.specs.Ways.{NetWay, network_ways}
 use Rattle.sb_packet.specs.declared.entry.Entry.{Entry}
+use Rattle.sb_packet.specs.declared.transaction.Kind.{Kind}
+use Rattle.sb_packet.specs.declared.transaction.Txn.{Txn}
 
 -- Link k has ring 2k for requests and ring 2k + 1 for answers. Behind those of all links, the far ends of the wire have two more.
 abbrev pub ring_link : Network → ℕ → Option ℕ
@@ -99,3 +101,17 @@ pub record IsCarried (network : Network) (journal : List Entry) (ring : ℕ) (li
   pub parts : All (λ way. flow_part network way.host way.device list ≡ carried_accesses network journal ring way) (ring_ways network ring)
   -- and all that was carried is of these flows
   pub no_others : All (λ a. IsTrue (list_any (is_on_way network a) (ring_ways network ring))) list
+
+-- The words of a transaction, where it is at a device.
+
+-- the words of a transaction at a device; 0 where it is elsewhere
+abbrev pub words_at : NetDevice → Txn → ℕ
+words_at device t = if has_address t.addr device then t.count else 0
+
+-- a device answers transactions of that kind
+abbrev pub is_answered_kind : Kind → Bool
+is_answered_kind kind = is_answered (request_of kind)
+
+-- the same of those that the device answers
+abbrev pub answered_at : NetDevice → Txn → ℕ
+answered_at device t = if is_answered_kind t.kind then words_at device t else 0

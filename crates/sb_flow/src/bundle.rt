@@ -2,11 +2,8 @@
 
 ghost use Rattle.std.specs.Prelude.{◌≡◌, ◌≤◌, true, None};
 ghost use Rattle.sb_flow.specs.Rows.{rows_network};
-ghost use Rattle.sb_flow.specs.Limits.{is_limited, word_count};
-ghost use Rattle.sb_flow.specs.Names.{names_what_is_there, repeated_id, repeated_link_name, repeated_name};
-ghost use Rattle.sb_flow.specs.Ranges.{misplaced_device, overfull_device, overlapping_device};
+ghost use Rattle.sb_flow.specs.Accepted.{is_limited, misplaced_device, names_what_is_there, overfull_device, overlapping_device, repeated_id, repeated_link_name, repeated_name, route_fault, word_count};
 ghost use Rattle.sb_flow.specs.Ends.{backward_link, odd_width, unfit_link, unlinked_place};
-ghost use Rattle.sb_flow.specs.Routes.{route_fault};
 
 use crate::device_plan::DevicePlan;
 use crate::host_plan::HostPlan;

@@ -2,8 +2,7 @@
 
 ghost use Rattle.std.specs.Prelude.{◌≡◌, ◌≤◌, ◌<◌, ◌^◌, ℕ, Bool, length, map, true, false, All, IfOk};
 ghost use Rattle.std.specs.List.{range_with_len};
-ghost use Rattle.sb_flow.specs.Gathered.{all_words_on, flows_from, gathered, host_words_on, is_on, mask_of, words_on};
-ghost use Rattle.sb_flow.specs.LoadOf.{load_of};
+ghost use Rattle.sb_flow.specs.Gathered.{all_words_on, flows_from, gathered, host_words_on, is_on, load_of, mask_of, words_on};
 
 use crate::flow_path::FlowPath;
 use crate::host_paths::{HostPaths, flows_of};

@@ -2,12 +2,11 @@
 
 ghost use Rattle.std.specs.Prelude.{◌≡◌, ◌≤◌, ◌<◌, ℕ, Some, All, length, slice_get, sum_by, if◌then◌else◌};
 ghost use Rattle.sb_packet.specs.Networks.{NetHost, NetLink, Network};
-ghost use Rattle.sb_flow.specs.Ways.{NetWay, flow_links, is_aimed_at, network_ways};
+ghost use Rattle.sb_flow.specs.Ways.{IsCourse, NetWay, down_stage, flow_links, is_aimed_at, network_ways, up_stage};
 ghost use Rattle.sb_packet.specs.Scripts.{script_accesses, IsTransaction};
 ghost use Rattle.sb_packet.specs.Journals.{flow_part};
 ghost use Rattle.sb_flow.specs.Rings.{counted_accesses, is_upward, ring_budget, ring_ways};
 ghost use Rattle.sb_flow.specs.Accepted.{IsAccepted};
-ghost use Rattle.sb_flow.specs.Courses.{down_stage, up_stage, IsCourse};
 ghost use Rattle.sb_flow.specs.NetworkOf.{network_of};
 ghost use Rattle.sb_flow.specs.declared.bundle.Bundle.{Bundle};
 

@@ -88,7 +88,7 @@ pub struct Paths {
 impl Model for Paths {
     ghost use Rattle.std.specs.Prelude.{map};
     ghost use Rattle.sb_flow.specs.Tables.{PathTable};
-    ghost use Rattle.sb_flow.specs.LoadOf.{load_of};
+    ghost use Rattle.sb_flow.specs.Gathered.{load_of};
 
     ghost Value = { PathTable };
 

@@ -4,7 +4,7 @@ ghost use Rattle.std.specs.Prelude.{◌≡◌, ◌≤◌, sum_by};
 ghost use Rattle.std.specs.List.{list_any};
 ghost use Rattle.sb_packet.specs.Networks.{has_address};
 ghost use Rattle.sb_flow.specs.Rows.{device_of};
-ghost use Rattle.sb_flow.specs.Counts.{answered_at, is_answered_kind, words_at};
+ghost use Rattle.sb_flow.specs.Rings.{answered_at, is_answered_kind, words_at};
 
 use crate::addresses::has;
 use crate::device_plan::DevicePlan;

@@ -2,7 +2,7 @@
 
 ghost use Rattle.std.specs.Prelude.{◌≡◌, ◌<◌, ◌+◌, length, map, IfOk, IfSome};
 ghost use Rattle.std.specs.List.{position_from};
-ghost use Rattle.sb_packet.specs.Sides.{leaves_from};
+ghost use Rattle.sb_packet.specs.Networks.{leaves_from};
 ghost use Rattle.sb_flow.specs.Ways.{first_link as link_from_host, is_some_number, next_link as link_behind, route_at, router_at_end as router_in, way_links};
 ghost use Rattle.sb_flow.specs.Rows.{link_of, place_of};
 ghost use Rattle.sb_flow.specs.NetworkOf.{network_of};

@@ -4,10 +4,7 @@ use Rattle.std.specs.Prelude.{All, codes}
 use Rattle.std.proofs.lemmas.List.Elements.{All-cons, All-filter, All-head, All-nil, All-tail}
 use Rattle.sb_packet.specs.Networks.{NetHost}
 use Rattle.sb_packet.specs.Scripts.{IsTransaction}
-use Rattle.sb_flow.specs.Accepted.{IsAccepted}
-use Rattle.sb_flow.specs.Firsts.{first_told}
-use Rattle.sb_flow.specs.Limits.{is_limited, word_count}
-use Rattle.sb_flow.specs.Routes.{lost_of_host, lost_on_way, route_fault}
+use Rattle.sb_flow.specs.Accepted.{IsAccepted, first_told, is_limited, lost_of_host, lost_on_way, route_fault, word_count}
 use Rattle.sb_flow.specs.Ways.{aims_at}
 use Rattle.sb_gen.specs.Generated.{gen_host, gen_hosts, gen_network}
 use Rattle.sb_gen.proofs.TransactionLists.{generated_are_transactions, length-gen_transactions, words_of_script}

@@ -1,7 +1,7 @@
 -- What is printed of the network that a number makes. This project's own.
 use Rattle.std.specs.Prelude.{ℕ, ◌*◌, ◌^◌, List, [], ◌∷◌, ◌++◌, codes, decimal, sum_by}
 use Rattle.sb_packet.specs.Networks.{Network}
-use Rattle.sb_flow.specs.Limits.{word_count}
+use Rattle.sb_flow.specs.Accepted.{word_count}
 use Rattle.sb_text.specs.TextLines.{text_line}
 use Rattle.sb_gen.specs.Generated.{gen_network}
 

@@ -4,8 +4,7 @@
 ghost use Rattle.std.specs.Prelude.{◌≡◌, ◌++◌, map, OnErr, OnOk};
 ghost use Rattle.sb_io.specs.Counts.{FaultsIncreased};
 ghost use Rattle.sb_io.specs.Written.{Gains, GainsPart};
-ghost use Rattle.sb_text.specs.LineWords.{word_text};
-ghost use Rattle.sb_text.specs.TextLines.{text_line};
+ghost use Rattle.sb_text.specs.TextLines.{text_line, word_text};
 ghost use Rattle.sb_text.specs.declared.printed.Printed.TheVariants as printed;
 ghost use Rattle.sb_gen.specs.Summary.{gen_counts, gen_head, gen_text};
 

@@ -1,7 +1,7 @@
 //! The words and bytes of all transactions that a number makes.
 
 ghost use Rattle.std.specs.Prelude.{◌≡◌};
-ghost use Rattle.sb_flow.specs.Limits.{word_count};
+ghost use Rattle.sb_flow.specs.Accepted.{word_count};
 ghost use Rattle.sb_gen.specs.Generated.{gen_network};
 ghost use Rattle.sb_gen.specs.Summary.{byte_count};
 

@@ -7,7 +7,7 @@ use Rattle.std.specs.Option.{option_map}
 use Rattle.std.proofs.lemmas.List.FromFn.{get_or-map-range_with_len, length-map-range_with_len}
 use Rattle.std.specs.List.{position_from}
 use Rattle.sb_packet.specs.Messages.{Message, message_span}
-use Rattle.sb_packet.specs.Soundness.{device_place}
+use Rattle.sb_packet.specs.Cuts.{device_place}
 use Rattle.sb_link.specs.RingPlans.{AddressRange, NetFlow, RingFlows, device_ranges, goes_home, goes_through, holds_span, message_flow}
 use Rattle.sb_link.specs.Plans.{bits_of, ranges_of, flow_of}
 use Rattle.sb_link.specs.PlanOf.{flows_of}

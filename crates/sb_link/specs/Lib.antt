@@ -1,11 +1,10 @@
 pub mod Prefixes
 pub mod RingPlans
-pub mod Traffic
 pub mod Plans
 pub mod PlanOf
 pub mod Ends
 pub mod GhostHistory
 pub mod Hands
 pub mod Registries
-pub mod InTurn
+pub mod Traffic
 pub mod Moves

@@ -4,7 +4,7 @@ use Rattle.std.specs.List.{position_from}
 use Rattle.std.specs.Option.{option_map, option_map_or}
 use Rattle.sb_packet.specs.Messages.{Message, message_span}
 use Rattle.sb_packet.specs.Journals.{is_request}
-use Rattle.sb_packet.specs.Soundness.{device_place}
+use Rattle.sb_packet.specs.Cuts.{device_place}
 
 -- what one host asks of one device: the host by its id, the device by its place
 pub record NetFlow : Type 0 where

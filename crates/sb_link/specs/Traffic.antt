@@ -1,9 +1,10 @@
 -- Which items may go over a ring, one after another. This project's own.
 use Rattle.std.specs.Prelude.{◌≡◌, ℕ, ◌+◌, ◌≤◌, Bool, true, false, not, ◌||◌, List, [], ◌∷◌, ◌++◌, length, flat_map}
+use Rattle.std.proofs.Common.{List, ◌∷◌, ◌++◌, ap, ◌∙◌, append_assoc}
 use Rattle.sb_packet.specs.Messages.{Message, message_of, message_span}
 use Rattle.sb_packet.specs.Accesses.{Access, accesses_of_item}
 use Rattle.sb_packet.specs.Journals.{is_request}
-use Rattle.sb_packet.specs.Soundness.{IsSound}
+use Rattle.sb_packet.specs.Cuts.{IsSound}
 use Rattle.sb_link.specs.RingPlans.{RingPlan, is_allowed}
 use Rattle.sb_packet.specs.declared.packet.Packet.{Packet}
 use Rattle.sb_packet.specs.declared.item.Item.{Item}
@@ -55,3 +56,10 @@ pub record MayPass (plan : RingPlan) (words : ℕ) (m : Message) : Type 0 where
   pub sound : IsSound m
   pub planned : IsPlanned plan m
   pub room : words + m.count ≤ plan.budget
+
+-- That a list is in turn holds of its front, too.
+
+-- of a list in turn the front is in turn
+pub front_in_turn : {plan : RingPlan} (front rest : List Item) → AreInTurn plan (front ++ rest) → AreInTurn plan front
+front_in_turn front rest in_turn before after item cut =
+    in_turn before (after ++ rest) item (ap (λ (list : List Item). list ++ rest) cut ∙ append_assoc before (item ∷ after) rest)

@@ -6,7 +6,7 @@ ghost use Rattle.std.specs.Option.{option_map};
 ghost use Rattle.sb_packet.specs.Messages.{message_of};
 ghost use Rattle.sb_link.specs.RingPlans.{device_ranges, goes_home, holds_span, is_allowed, message_flow};
 ghost use Rattle.sb_packet.specs.Journals.{is_request};
-ghost use Rattle.sb_packet.specs.Soundness.{device_place};
+ghost use Rattle.sb_packet.specs.Cuts.{device_place};
 ghost use Rattle.sb_link.specs.Plans.{flow_of, has_bytes};
 ghost use Rattle.sb_link.specs.PlanOf.{flows_of};
 

@@ -34,7 +34,7 @@ pub struct SerialRx {
 impl RxEnd for SerialRx {
     ghost use Rattle.std.specs.Prelude.{◌++◌, length, None};
     ghost use Rattle.sb_link.specs.PlanOf.{plan_of};
-    ghost use Rattle.sb_link.specs.InTurn.{front_in_turn};
+    ghost use Rattle.sb_link.specs.Traffic.{front_in_turn};
 
     ghost planned = { λ end. plan_of end.plan };
 

@@ -7,12 +7,10 @@ use Rattle.sb_word.specs.Atomics.{atomic_numbered}
 use Rattle.sb_word.specs.declared.atomic.AtomicOp.{AtomicOp}
 use Rattle.sb_word.specs.declared.command.Op.{Op}
 use Rattle.sb_word.specs.declared.command.Op.TheVariants.{ReqAtomic}
-use Rattle.sb_packet.specs.Spans.{span_of, word_count_of}
 use Rattle.sb_packet.specs.Messages.{message_of}
+use Rattle.sb_packet.specs.Spans.{span_of, word_count_of}
 use Rattle.sb_packet.specs.Accesses.{Access, share, access_at, accesses_of}
-use Rattle.sb_packet.specs.Atomics.{number_of, left_by}
-use Rattle.sb_packet.specs.Memories.{code_number}
-use Rattle.sb_packet.specs.Memories.{MemoryState, loaded, stored, written, write_code, old_bytes, combined_bytes, access_answer, memory_after, answers_in}
+use Rattle.sb_packet.specs.Memories.{MemoryState, access_answer, answers_in, code_number, combined_bytes, left_by, loaded, memory_after, number_of, old_bytes, stored, write_code, written}
 use Rattle.sb_packet.specs.declared.packet.Packet.{Packet}
 use Rattle.sb_packet.proofs.Overwrites.{access_step_taken}
 use Rattle.sb_mem.specs.AnswerPackets.{IsAnswerTo, padded_body, answer_packet_body, answer_packet_bytes}

@@ -6,11 +6,10 @@ use Rattle.std.proofs.lemmas.List.{take-take, take_at, length-take}
 use Rattle.std.proofs.Math.Seq.{drop-nil, take-nil}
 use Rattle.sb_word.specs.declared.command.Op.{Op}
 use Rattle.sb_word.specs.declared.command.Op.TheVariants.{ReqRd, ReqWr, ReqWrPosted, ReqAtomic, RespRd, RespWr}
-use Rattle.sb_packet.specs.Spans.{span_of, carried_of, carried_by, word_count_of, word_count_by}
 use Rattle.sb_packet.specs.Messages.{message_of}
+use Rattle.sb_packet.specs.Spans.{carried_by, carried_of, span_of, word_count_by, word_count_of}
 use Rattle.sb_packet.specs.Accesses.{Access, share, access_at, accesses_of}
-use Rattle.sb_packet.specs.Memories.{code_number}
-use Rattle.sb_packet.specs.Memories.{MemoryState, loaded, stored, written, write_code, access_step, access_answer, memory_after, answers_in}
+use Rattle.sb_packet.specs.Memories.{MemoryState, access_answer, access_step, answers_in, code_number, loaded, memory_after, stored, write_code, written}
 use Rattle.sb_packet.specs.declared.packet.Packet.{Packet}
 use Rattle.sb_packet.proofs.Shares.{shares_joined, share-take, share-drop, length-share}
 use Rattle.sb_packet.proofs.Overwrites.{access_step_taken, memory_after_unchanged, memory_after_stores, answers_in_unchanged, answers_in_alike}

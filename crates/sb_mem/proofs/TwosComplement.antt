@@ -6,7 +6,7 @@ use Rattle.std.proofs.Math.Pow.{mod-mod-pow}
 use Rattle.std.proofs.lemmas.Nat.{and_mask, xor_block}
 use Rattle.std.proofs.lemmas.Bool.{le-leb, lt-leb, cases_lt}
 use Rattle.std.proofs.lemmas.Bool.Decides.{nat_tests}
-use Rattle.sb_packet.specs.Atomics.{twos_complement, signed_le}
+use Rattle.sb_packet.specs.Memories.{twos_complement, signed_le}
 
 -- a fact of each of the four sizes of a word
 pub each_size : (P : ℕ → Type 0) → P 0 → P 1 → P 2 → P 3 → (size : ℕ) → size ≤ 3 → P size

@@ -4,7 +4,7 @@ use Rattle.std.specs.Prelude.{slice_index}
 use Rattle.std.specs.Int.{from_le_bytes, to_le_bytes, bytes_low_first, byte_at, byte_worth, sum_through}
 use Rattle.std.proofs.Math.Nat.{pow-suc, div-div-eq-div-mul, div-one}
 use Rattle.std.proofs.lemmas.List.{take_all, length-replicate}
-use Rattle.sb_packet.specs.Atomics.{number_of, bytes_of_number}
+use Rattle.sb_packet.specs.Memories.{number_of, bytes_of_number}
 
 -- a byte is worth 256 times as much one place up
 worth_above : (i b : ℕ) → b * 256 ^ suc i ≡ 256 * byte_worth i b

@@ -4,8 +4,7 @@ ghost use Rattle.std.specs.Prelude.{◌≡◌, ◌≤◌, ◌<◌, ◌+◌, ◌*
 ghost use Rattle.sb_word.specs.declared.command.Op.TheVariants.{ReqAtomic};
 ghost use Rattle.sb_packet.specs.Messages.{message_of};
 ghost use Rattle.sb_packet.specs.Accesses.{access_at};
-ghost use Rattle.sb_packet.specs.Atomics.{combined, number_of, signed_le};
-ghost use Rattle.sb_packet.specs.Memories.{combined_bytes as bytes_combined};
+ghost use Rattle.sb_packet.specs.Memories.{combined, combined_bytes as bytes_combined, number_of, signed_le};
 
 use sb_packet::{AtomicOp, Packet, padded};
 

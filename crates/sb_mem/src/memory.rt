@@ -5,8 +5,7 @@ ghost use Rattle.sb_word.specs.declared.command.Op.TheVariants.{ReqRd, ReqWr, Re
 ghost use Rattle.sb_packet.specs.Spans.{span_of};
 ghost use Rattle.sb_packet.specs.Accesses.{accesses_of};
 ghost use Rattle.sb_packet.specs.Journals.{is_request};
-ghost use Rattle.sb_packet.specs.Memories.{code_number};
-ghost use Rattle.sb_packet.specs.Memories.{memory_after, answers_in, overwritten, stored, loaded, write_code};
+ghost use Rattle.sb_packet.specs.Memories.{answers_in, code_number, loaded, memory_after, overwritten, stored, write_code};
 ghost use Rattle.sb_mem.specs.AnswerPackets.{IsInRange, IsAnswerTo, answer_packet_body, answer_packet_code};
 
 use crate::answer::answer;

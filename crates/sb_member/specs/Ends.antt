@@ -5,8 +5,7 @@ use Rattle.sb_port.specs.Ports.{PortSide}
 use Rattle.sb_node.specs.Sides.{RingSide}
 use Rattle.sb_node.specs.Kept.{IsPortMet, IsRingMet}
 use Rattle.sb_router.specs.Lanes.{no_port, no_ring}
-use Rattle.sb_router.specs.Ends.{router_with_port, router_with_ring}
-use Rattle.sb_router.specs.Routers.{router_ports, router_rings}
+use Rattle.sb_router.specs.Routers.{router_ports, router_rings, router_with_port, router_with_ring}
 use Rattle.sb_member.specs.declared.member.Member.{Member}
 use Rattle.sb_member.specs.declared.member.Member.TheVariants.{Host, Router, Device}
 

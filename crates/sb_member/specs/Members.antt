@@ -3,8 +3,7 @@ use Rattle.std.specs.Prelude.{ℕ}
 use Rattle.sb_link.specs.declared.answers.Turn.{Turn}
 use Rattle.sb_host.specs.Hosts.{HostSide, IsHostTurn, IsKeptHost, IsWholeHost, kept_host_same, kept_host_then}
 use Rattle.sb_host.specs.Rested.{IsRestedHost, rested_host_same, rested_host_then}
-use Rattle.sb_router.specs.Routers.{RouterSide, IsRouterTurn, IsKeptRouter, IsWholeRouter, kept_router_same, kept_router_then}
-use Rattle.sb_router.specs.RestedRouters.{IsRestedRouter, rested_router_same, rested_router_then}
+use Rattle.sb_router.specs.Routers.{IsKeptRouter, IsRestedRouter, IsRouterTurn, IsWholeRouter, RouterSide, kept_router_same, kept_router_then, rested_router_same, rested_router_then}
 use Rattle.sb_device.specs.Sides.{DeviceSide}
 use Rattle.sb_device.specs.Devices.{IsDeviceTurn, IsKeptDevice, IsWholeDevice, kept_device_same, kept_device_then}
 use Rattle.sb_device.specs.Rested.{IsRestedDevice, rested_device_same, rested_device_then}

@@ -3,8 +3,7 @@ use Rattle.std.proofs.Common.{◌≡◌, replicate, refl, [], ◌∷◌, ◌++�
 use Rattle.std.specs.Prelude.{codes}
 use Rattle.std.specs.List.{range_with_len}
 use Rattle.sb_packet.specs.Accesses.{Access}
-use Rattle.sb_packet.specs.Atomics.{combined}
-use Rattle.sb_packet.specs.Memories.{MemoryState, access_step, access_answer, memory_after, answers_in}
+use Rattle.sb_packet.specs.Memories.{MemoryState, access_answer, access_step, answers_in, combined, memory_after}
 use Rattle.sb_packet.specs.Networks.{NetHost}
 use Rattle.sb_packet.specs.Scripts.{script_accesses}
 use Rattle.sb_packet.specs.Cuts.{transaction_packets}

@@ -5,12 +5,11 @@ use Rattle.std.proofs.Math.Nat.{pow-le-pow_right, mul-le-mul_right, div-mul-le_s
 use Rattle.std.proofs.lemmas.List.{length-take, length-drop}
 use Rattle.std.proofs.lemmas.List.Elements.{All-nil, All-cons}
 use Rattle.std.proofs.lemmas.Bool.{leb-true}
-use Rattle.sb_packet.specs.Spans.{carried_by, span_of}
 use Rattle.sb_packet.specs.Messages.{Message, message_of, message_span}
-use Rattle.sb_packet.specs.Cuts.{part_of, first_part, other_parts, words_in, is_one_part, is_indivisible, is_atomic, parts_in, cut_parts}
+use Rattle.sb_packet.specs.Spans.{carried_by, span_of}
+use Rattle.sb_packet.specs.Cuts.{IsFine, IsSound, IsWhole, cut_parts, first_part, is_atomic, is_indivisible, is_one_part, other_parts, part_of, parts_in, words_in}
 use Rattle.sb_packet.specs.Journals.{is_request}
 use Rattle.sb_packet.specs.Scripts.{IsTransaction, HasBody, IsOneWordIfAtomic, request_of, atomic_of_kind, request_message}
-use Rattle.sb_packet.specs.Soundness.{IsSound, IsWhole, IsFine}
 use Rattle.sb_packet.specs.declared.packet.Packet.{Packet}
 use Rattle.sb_packet.specs.declared.transaction.Txn.{Txn}
 use Rattle.sb_packet.specs.declared.transaction.Kind.{Kind}

@@ -3,8 +3,8 @@ use Rattle.std.proofs.Common.{◌≡◌, ◌<◌, ℕ, refl, arith, true, false,
 use Rattle.std.specs.Prelude.{◌⊎◌}
 use Rattle.sb_word.specs.declared.command.Op.{Op}
 use Rattle.sb_word.specs.declared.command.Op.TheVariants.{ReqRd, ReqWr, ReqWrPosted, ReqAtomic, RespRd, RespWr}
-use Rattle.sb_packet.specs.Spans.{word_count_by, carried_by}
 use Rattle.sb_packet.specs.Messages.{atomic_of}
+use Rattle.sb_packet.specs.Spans.{carried_by, word_count_by}
 use Rattle.sb_packet.specs.Cuts.{is_atomic}
 
 -- each command is of a word

@@ -3,8 +3,8 @@ use Rattle.std.proofs.Common.{◌≡◌, ◌≤◌, ℕ, List, ◌∙◌, arith,
 use Rattle.std.proofs.lemmas.List.{take-take, length-take}
 use Rattle.std.proofs.Math.Seq.{take-nil}
 use Rattle.sb_word.specs.declared.command.Op.{Op}
-use Rattle.sb_packet.specs.Spans.{carried_by, carried_of, span_of}
 use Rattle.sb_packet.specs.Messages.{message_of}
+use Rattle.sb_packet.specs.Spans.{carried_by, carried_of, span_of}
 use Rattle.sb_packet.specs.Accesses.{accesses_of}
 use Rattle.sb_packet.specs.Answers.{answer_code, answer_body}
 use Rattle.sb_packet.specs.declared.packet.Packet.{Packet}

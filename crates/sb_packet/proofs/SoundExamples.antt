@@ -2,7 +2,7 @@
 use Rattle.std.proofs.Common.{◌≡◌, ◌≤◌, ◌+◌, ◌*◌, ◌^◌, ◌%◌, refl, arith, replicate, [], ℕ, false, true, Bool, Some, None}
 use Rattle.sb_packet.specs.Messages.{Message}
 use Rattle.sb_packet.specs.Scripts.{request_message}
-use Rattle.sb_packet.specs.Soundness.{device_place, reply_place, IsSound, IsWhole, IsFine}
+use Rattle.sb_packet.specs.Cuts.{device_place, reply_place, IsSound, IsWhole, IsFine}
 use Rattle.sb_packet.specs.declared.transaction.Kind.TheVariants.{Read}
 use Rattle.sb_word.specs.declared.atomic.AtomicOp.TheVariants.{Swap}
 use Rattle.sb_word.specs.declared.command.Op.TheVariants.{ReqWr, ReqAtomic, RespRd}

@@ -5,9 +5,8 @@ use Rattle.std.proofs.Math.Nat.{mul-le-mul_right}
 use Rattle.std.proofs.Math.Pow.{pow_pos}
 use Rattle.std.proofs.lemmas.List.Elements.{All-nil, All-cons}
 use Rattle.sb_packet.specs.Messages.{Message, message_span}
-use Rattle.sb_packet.specs.Cuts.{part_of, first_part, other_parts, words_in, is_one_part, is_atomic, parts_in, cut_parts}
+use Rattle.sb_packet.specs.Cuts.{IsSound, cut_parts, device_place, first_part, is_atomic, is_one_part, other_parts, part_of, parts_in, reply_place, words_in}
 use Rattle.sb_packet.specs.Journals.{is_request}
-use Rattle.sb_packet.specs.Soundness.{device_place, reply_place, IsSound}
 use Rattle.sb_packet.proofs.CutWords.{more_than_fit}
 
 abbrev chosen : Bool → ℕ → ℕ → ℕ

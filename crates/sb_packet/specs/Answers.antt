@@ -1,18 +1,25 @@
--- What a journal answers to each transaction, and what it leaves in each memory.
-use Rattle.std.specs.Prelude.{ℕ, ◌^◌, Bool, true, false, ◌&&◌, ◌==◌, not, List, [], ◌∷◌, map, filter_map, flat_map, fold, max, replicate, Option, Some, None, bytes_eq, if◌then◌else◌}
+-- What a journal answers to each transaction, what it leaves in each memory, and so what a run comes to.
+use Rattle.std.specs.Prelude.{ℕ, ◌^◌, Bool, true, false, ◌&&◌, ◌==◌, not, List, [], ◌∷◌, map, filter_map, flat_map, fold, max, replicate, Option, Some, None, bytes_eq, if◌then◌else◌, length, slice_index_or}
+use Rattle.std.specs.List.{enumerate_from, range_with_len}
 use Rattle.sb_word.specs.Atomics.{atomic_number}
 use Rattle.sb_word.specs.Words.{opcode_of}
 use Rattle.sb_word.specs.declared.atomic.AtomicOp.{AtomicOp}
 use Rattle.sb_word.specs.declared.command.Op.{Op}
-use Rattle.sb_word.specs.declared.command.Op.TheVariants.{ReqRd, ReqWr, ReqWrPosted, ReqAtomic, RespRd, RespWr}
+use Rattle.sb_word.specs.declared.command.Op.TheVariants.{ReqAtomic, ReqRd, ReqWr, ReqWrPosted, RespRd, RespWr}
 use Rattle.sb_packet.specs.Accesses.{Access}
-use Rattle.sb_packet.specs.Memories.{MemoryState, access_step, access_answer, memory_after, answers_in, reply}
+use Rattle.sb_packet.specs.Memories.{MemoryState, access_answer, access_step, answers_in, memory_after, reply}
 use Rattle.sb_packet.specs.Networks.{NetHost, Network, device_at, opening_memory}
-use Rattle.sb_packet.specs.Scripts.{transaction_accesses, script_accesses}
-use Rattle.sb_packet.specs.Journals.{journal_accesses, flow_part}
+use Rattle.sb_packet.specs.Scripts.{script_accesses, transaction_accesses}
+use Rattle.sb_packet.specs.Journals.{flow_part, journal_accesses}
 use Rattle.sb_packet.specs.declared.entry.Entry.{Entry}
 use Rattle.sb_packet.specs.declared.transaction.Code.TheVariants.{NetErr}
 use Rattle.sb_packet.specs.declared.transaction.Txn.{Txn}
+use Rattle.sb_packet.specs.declared.transaction.Code.{Code}
+use Rattle.sb_packet.specs.declared.transaction.Kind.{Kind}
+use Rattle.sb_packet.specs.declared.transaction.TxnState.{TxnState}
+use Rattle.sb_packet.specs.declared.transaction.Code.TheVariants as the_codes
+use Rattle.sb_packet.specs.declared.transaction.Kind.TheVariants as kinds
+use Rattle.sb_packet.specs.declared.transaction.TxnState.TheVariants as states
 
 -- both are true, or both are false
 abbrev pub same_bool : Bool → Bool → Bool
@@ -83,3 +90,41 @@ answer_body answers = flat_map (λ a. a.bytes) answers
 -- A device's memory in the end.
 abbrev pub final_memory : Network → List Entry → ℕ → MemoryState
 final_memory network journal d = (access_run network d (journal_accesses journal d)).memory
+
+-- What a run comes to: the outcome of each transaction, and the bytes of each device.
+
+-- how far a transaction came, and the bytes that were answered
+pub record Outcome : Type 0 where
+  pub state : TxnState
+  pub body : List ℕ
+
+-- for each host the outcomes of its transactions, and for each device its bytes
+pub record RunResults : Type 0 where
+  pub outcomes : List (List Outcome)
+  pub images : List (List ℕ)
+
+-- the code with a number from 0 to 3
+abbrev pub code_numbered : ℕ → Code
+code_numbered n = slice_index_or (the_codes.Ok ∷ the_codes.ExOk ∷ the_codes.DevErr ∷ []) n the_codes.NetErr
+
+-- what answers come to where they are waited for
+abbrev pub answered : List Access → Outcome
+answered answers = record { state = states.Answered (code_numbered (answer_code answers)); body = answer_body answers }
+
+-- what the answers to all words of a transaction come to
+abbrev pub outcome_of : Kind → List Access → Outcome
+outcome_of kinds.Posted answers = record { state = states.Posted; body = [] }
+outcome_of kinds.Read answers = answered answers
+outcome_of kinds.Write answers = answered answers
+outcome_of (kinds.Atomic atomic) answers = answered answers
+
+-- The outcomes of a host's transactions by a journal, in order.
+abbrev pub host_outcomes : Network → List Entry → NetHost → List Outcome
+host_outcomes network journal host = map (λ p. outcome_of p.1.kind (transaction_answers network journal host p.0 p.1)) (enumerate_from 0 host.script)
+
+-- What a journal comes to.
+abbrev pub run_results : Network → List Entry → RunResults
+run_results network journal = record {
+  outcomes = map (host_outcomes network journal) network.hosts;
+  images = map (λ d. (final_memory network journal d).bytes) (range_with_len 0 (length network.devices));
+}

@@ -1,15 +1,10 @@
-pub mod Spans
 pub mod Names
-pub mod Padded
+pub mod Spans
 pub mod Messages
 pub mod Accesses
-pub mod Atomics
 pub mod Memories
 pub mod Networks
-pub mod Sides
 pub mod Scripts
-pub mod Cuts
 pub mod Journals
-pub mod Soundness
+pub mod Cuts
 pub mod Answers
-pub mod Outcomes

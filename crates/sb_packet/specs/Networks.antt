@@ -1,9 +1,12 @@
--- Networks: hosts, routers, devices and the links between them, as plain lists. A thing is named by its place in its list, from 0.
-use Rattle.std.specs.Prelude.{ℕ, ◌+◌, ◌-◌, ◌*◌, Bool, ◌&&◌, ◌==◌, nat_le, nat_lt, List, [], ◌++◌, length, replicate, Option, slice_get, true, false}
+-- Networks: hosts, routers, devices and the links between them, as plain lists, with their sides and names. A thing is named by its place in its list, from 0.
+use Rattle.std.specs.Prelude.{ℕ, ◌+◌, ◌-◌, ◌*◌, Bool, ◌&&◌, ◌==◌, nat_le, nat_lt, List, [], ◌++◌, length, replicate, Option, slice_get, true, false, ◌≡◌, ◌≤◌, take, drop}
 use Rattle.std.specs.List.{position_from, find}
 use Rattle.std.specs.Option.{option_map_or}
+use Rattle.std.proofs.Common.{refl, arith}
+use Rattle.std.proofs.lemmas.List.{length-take, take-append-drop}
 use Rattle.sb_packet.specs.Memories.{MemoryState}
 use Rattle.sb_packet.specs.declared.transaction.Txn.{Txn}
+use Rattle.sb_packet.specs.declared.name.Name.TheInside.{Inside}
 
 -- a host: it issues the transactions of its script, with its own quality of service and protection
 pub record NetHost : Type 0 where
@@ -85,3 +88,37 @@ leads_to d link = is_device d link.to
 -- the width of the link that leads to a device, 0 where there is none
 abbrev pub width_to : Network → ℕ → ℕ
 width_to network d = option_map_or (λ link. link.width) (find (leads_to d) network.links) 0
+
+-- On which side of the wire hosts and devices stand.
+
+-- the side of a router, by a place that is one
+abbrev pub side_at : Network → NetPlace → ℕ
+side_at network (at_router r) = option_map_or (λ router. router.side) (slice_get network.routers r) 0
+side_at network (at_host h) = 0
+side_at network (at_device d) = 0
+
+-- a link that leaves from host h
+abbrev pub leaves_from : ℕ → NetLink → Bool
+leaves_from h link = is_host h link.from
+  where
+    is_host : ℕ → NetPlace → Bool
+    is_host h (at_host k) = k == h
+    is_host h (at_router k) = false
+    is_host h (at_device k) = false
+
+-- a host stands on the side of the router that its link leads to
+abbrev pub host_side : Network → ℕ → ℕ
+host_side network h = option_map_or (λ link. side_at network link.to) (find (leaves_from h) network.links) 0
+
+-- a device stands on the side of the router whose link leads to it
+abbrev pub device_side : Network → ℕ → ℕ
+device_side network d = option_map_or (λ link. side_at network link.from) (find (leads_to d) network.links) 0
+
+-- A name gives its fields back: its bytes, and zeros up to 16.
+
+-- up to 16 bytes with zeros behind them are what their text and its length make
+pub padded_back : (n : Inside) → n.len ≤ 16 → length n.text ≡ 16 → drop n.len n.text ≡ replicate (16 - n.len) 0
+    → record { text = take n.len n.text ++ replicate (16 - length (take n.len n.text)) 0; len = length (take n.len n.text) } ≡ n
+padded_back n fits whole zeros =
+    let long : length (take n.len n.text) ≡ n.len = simp length-take (omega arith) in
+    rw (long, ← zeros, take-append-drop n.len n.text) refl

@@ -20,7 +20,7 @@ pub struct Name {
 impl Model for Name {
     ghost use Rattle.std.specs.Prelude.{◌≡◌, ℕ, List, ◌-◌, ◌≤◌, ◌++◌, drop, length, replicate, take, IsTrue};
     ghost use Rattle.sb_packet.specs.Names.{is_name};
-    ghost use Rattle.sb_packet.specs.Padded.{padded_back};
+    ghost use Rattle.sb_packet.specs.Networks.{padded_back};
 
     ghost Value = { List ℕ };
 

@@ -2,8 +2,8 @@
 
 ghost use Rattle.std.specs.Prelude.{◌≡◌, ◌≤◌, ◌<◌, ◌+◌, ◌-◌, ◌*◌, ◌/◌, ◌%◌, ◌^◌, ℕ, Some, false, drop, length, slice_get, take};
 ghost use Rattle.sb_word.specs.declared.command.Op.TheVariants.{ReqAtomic};
-ghost use Rattle.sb_packet.specs.Spans.{carried_by, carried_of, span_of, word_count_by, word_count_of};
 ghost use Rattle.sb_packet.specs.Messages.{atomic_of, message_of};
+ghost use Rattle.sb_packet.specs.Spans.{carried_by, carried_of, span_of, word_count_by, word_count_of};
 ghost use Rattle.sb_packet.specs.Cuts.{cut_parts, part_of};
 ghost use Rattle.sb_packet.specs.Scripts.{atomic_of_kind, reply_address, request_message, request_of, IsOneWordIfAtomic, IsTransaction};
 

@@ -2,7 +2,7 @@
 
 ghost use Rattle.std.specs.Prelude.{◌≡◌, ◌≤◌};
 ghost use Rattle.sb_packet.specs.Memories.{code_number};
-ghost use Rattle.sb_packet.specs.Outcomes.{code_numbered};
+ghost use Rattle.sb_packet.specs.Answers.{code_numbered};
 
 use crate::bytes::Bytes;
 use sb_word::AtomicOp;

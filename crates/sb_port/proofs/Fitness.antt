@@ -7,11 +7,10 @@ use Rattle.std.proofs.lemmas.List.FromFn.{length-map-range_with_len}
 use Rattle.std.proofs.lemmas.Grind.{flat_map-append}
 use Rattle.sb_packet.specs.Accesses.{Access, accesses_of, access_at, message_accesses}
 use Rattle.sb_packet.specs.Messages.{Message, message_of}
+use Rattle.sb_packet.specs.Spans.{word_count_of}
 use Rattle.sb_link.specs.RingPlans.{AreApart, RingPlan, device_ranges}
 use Rattle.sb_link.specs.Plans.{AreWholePages}
-use Rattle.sb_packet.specs.Cuts.{cut_parts, is_one_part}
-use Rattle.sb_packet.specs.Soundness.{IsFine, IsSound, IsWhole}
-use Rattle.sb_packet.specs.Spans.{word_count_of}
+use Rattle.sb_packet.specs.Cuts.{IsFine, IsSound, IsWhole, cut_parts, is_one_part}
 use Rattle.sb_link.specs.Traffic.{IsCarriable, MayFollow, MayPass, has_close, item_accesses, item_messages}
 use Rattle.sb_packet.specs.declared.packet.Packet.{Packet}
 use Rattle.sb_packet.specs.declared.item.Item.{Item}
@@ -19,7 +18,7 @@ use Rattle.sb_packet.specs.declared.item.Item.TheVariants as items
 use Rattle.sb_packet.proofs.CutSteps.{cut_of_one}
 use Rattle.sb_packet.proofs.CutWords.{words_of_cut}
 use Rattle.sb_packet.proofs.FineParts.{fine_cut, packet_whole}
-use Rattle.sb_cut.specs.Folds.{fold_all}
+use Rattle.sb_cut.specs.Folds.{fold_all, listed}
 use Rattle.sb_cut.specs.Works.{FitsIfIndivisible}
 use Rattle.sb_cut.proofs.Slices.{at_least_8, word_fits}
 use Rattle.sb_cut.proofs.Mergeable.{mergeable_says}
@@ -28,7 +27,6 @@ use Rattle.sb_cut.proofs.MergedSound.{fine_merge}
 use Rattle.sb_cut.proofs.FoldLaws.{HoldsOfAll, StaysOfMerges, all_hold, fold_keeps_words}
 use Rattle.sb_port.proofs.Planned.{IsAtHome, merge_planned, part_at_home}
 use Rattle.sb_link.proofs.InTurn.{appended_in_turn, nothing_in_turn}
-use Rattle.sb_cut.specs.Folds.{listed}
 use Rattle.sb_port.specs.Waiting.{IsWidth, Waiting, nothing_waits, offered, released}
 use Rattle.sb_port.specs.Ports.{PortState, IsFit, IsSendable, port_accesses}
 use Rattle.sb_port.specs.Turns.{SendsFirst, SendsClose}

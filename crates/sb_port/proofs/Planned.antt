@@ -7,9 +7,8 @@ use Rattle.std.proofs.lemmas.Bool.{and_parts, leb-true}
 use Rattle.std.proofs.lemmas.Bool.Decides.{nat_tests}
 use Rattle.std.proofs.Math.Nat.{mul-le-mul_right}
 use Rattle.sb_packet.specs.Messages.{Message, message_span}
-use Rattle.sb_packet.specs.Cuts.{part_of}
+use Rattle.sb_packet.specs.Cuts.{IsSound, device_place, part_of, reply_place}
 use Rattle.sb_packet.specs.Journals.{is_request}
-use Rattle.sb_packet.specs.Soundness.{device_place, reply_place, IsSound}
 use Rattle.sb_link.specs.RingPlans.{AddressRange, AreApart, RingFlows, RingPlan, device_ranges, goes_home, goes_through, holds_span, is_allowed}
 use Rattle.sb_link.specs.Plans.{AreWholePages}
 use Rattle.sb_link.specs.Traffic.{IsPlanned}

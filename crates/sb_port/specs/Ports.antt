@@ -5,7 +5,7 @@ use Rattle.sb_packet.specs.Messages.{Message}
 use Rattle.sb_link.specs.RingPlans.{RingPlan, AreApart, device_ranges}
 use Rattle.sb_link.specs.Plans.{AreWholePages}
 use Rattle.sb_link.specs.Traffic.{AreInTurn, IsPlanned, has_close, item_messages}
-use Rattle.sb_packet.specs.Soundness.{IsSound, IsFine}
+use Rattle.sb_packet.specs.Cuts.{IsSound, IsFine}
 use Rattle.sb_packet.specs.declared.item.Item.{Item}
 use Rattle.sb_link.specs.Ends.{Mark}
 use Rattle.sb_link.specs.declared.ends.TxEnd as tx

@@ -2,8 +2,8 @@
 
 ghost use Rattle.std.specs.Prelude.{◌≡◌, true};
 ghost use Rattle.sb_packet.specs.Messages.{message_of};
-ghost use Rattle.sb_packet.specs.Soundness.{IsSound, device_place, reply_place};
 ghost use Rattle.sb_packet.specs.Spans.{word_count_of};
+ghost use Rattle.sb_packet.specs.Cuts.{IsSound, device_place, reply_place};
 
 use sb_packet::{Op, Packet, span};
 

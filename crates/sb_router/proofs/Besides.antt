@@ -10,8 +10,7 @@ use Rattle.sb_node.specs.Kept.{IsKeptRing}
 use Rattle.sb_node.specs.Sides.{RingSide}
 use Rattle.sb_node.specs.Steps.{IsItemPopped, IsPortTurned, IsRingEmpty}
 use Rattle.sb_router.specs.Lanes.{InletState}
-use Rattle.sb_router.specs.Popping.{IsPopped}
-use Rattle.sb_router.specs.Causes.{FindsBesides, found_in_both, lower, nothing_found}
+use Rattle.sb_router.specs.Popping.{FindsBesides, IsPopped, found_in_both, lower, nothing_found}
 use Rattle.sb_router.proofs.Lowest.{lower_none, same_found}
 
 -- a turn of a port that began with no cause of that kind

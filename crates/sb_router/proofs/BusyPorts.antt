@@ -8,11 +8,10 @@ use Rattle.sb_link.specs.RingPlans.{RingPlan}
 use Rattle.sb_link.specs.Traffic.{MayPass}
 use Rattle.sb_packet.specs.declared.packet.Packet.{Packet}
 use Rattle.sb_port.specs.Ports.{PortSide, offered_words, owes}
-use Rattle.sb_router.specs.Awaiting.{HeldAwaitsBusy, MayPassEach, WasOffered}
-use Rattle.sb_router.specs.Handing.{Drops, IsWaiting, Offers}
+use Rattle.sb_router.specs.Steps.{HeldAwaitsBusy, IsGiven, MayPassEach, WasOffered, emptied}
+use Rattle.sb_router.specs.Popping.{Drops, IsWaiting, Offers}
 use Rattle.sb_router.specs.Lanes.{InletState, LaneState, Route, inlet_at, next_place, no_inlet, no_port, outlet_at}
-use Rattle.sb_router.specs.Steps.{IsGiven, emptied}
-use Rattle.sb_router.specs.Whole.{IsWholeLane}
+use Rattle.sb_router.specs.Forwarding.{IsWholeLane}
 use Rattle.sb_router.proofs.Cases.{le_cases}
 use Rattle.sb_router.proofs.NextPlaces.{next_within}
 use Rattle.sb_router.proofs.Places.{at_each, so_far}

@@ -4,9 +4,8 @@ use Rattle.sb_port.specs.Ports.{PortSide, offered_words}
 use Rattle.sb_node.specs.Sides.{port_moves}
 use Rattle.sb_router.specs.Lanes.{InletState, LaneState, Route, no_port, outlet_at}
 use Rattle.sb_router.specs.Steps.{IsSilent, Steps, tells, none, further}
-use Rattle.sb_router.specs.Rested.{IsRestedLane, rested_lane_same, rested_lane_then}
-use Rattle.sb_router.specs.Moves.{IsToldMoved}
-use Rattle.sb_router.specs.Ports.{IsToldAt}
+use Rattle.sb_router.specs.Rested.{IsRestedLane, IsToldMoved, rested_lane_same, rested_lane_then}
+use Rattle.sb_router.specs.Popping.{IsToldAt}
 use Rattle.sb_router.specs.Turning.{HasClosed, OffersNothing, SendsNothing}
 use Rattle.sb_router.proofs.RestedSteps.{rested_outlets, rested_told}
 use Rattle.sb_router.proofs.Places.{same_at_each, so_far}

@@ -7,9 +7,8 @@ use Rattle.std.proofs.Math.ListN.{get_or-map}
 use Rattle.sb_port.specs.Ports.{PortSide}
 use Rattle.sb_node.specs.Kept.{IsKeptPort, IsKeptRing, IsPortMet, IsRingMet}
 use Rattle.sb_node.specs.Sides.{RingSide}
-use Rattle.sb_router.specs.Ends.{router_port, router_ring, router_with_port, router_with_ring, with_port, with_ring}
+use Rattle.sb_router.specs.Routers.{IsKeptRouter, IsWholeRouter, RouterSide, router_port, router_ports, router_ring, router_rings, router_with_port, router_with_ring, with_port, with_ring}
 use Rattle.sb_router.specs.Lanes.{InletState, inlet_at, no_inlet, no_port, no_ring}
-use Rattle.sb_router.specs.Routers.{IsKeptRouter, IsWholeRouter, RouterSide, router_ports, router_rings}
 use Rattle.sb_router.proofs.Meetings as meetings
 
 -- a place is before the others, or behind them

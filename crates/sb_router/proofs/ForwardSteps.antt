@@ -15,8 +15,7 @@ use Rattle.sb_port.specs.Ports.{PortSide, offered_words}
 use Rattle.sb_node.specs.Sides.{received_words}
 use Rattle.sb_router.specs.Lanes.{InletState, LaneState, Route, came_at, held_words_at, held_words, inlet_at, no_inlet, no_port, offered_at, outlet_at, next_place}
 use Rattle.sb_router.specs.Steps.{Step, Steps, receives, looks, drops, offers, turns, tells, none, further}
-use Rattle.sb_router.specs.Whole.{IsWholeInlet, IsWholeLane}
-use Rattle.sb_router.specs.Forwarding.{Words, Forwards, IsLaid, came_for, held_for, part, popped_for}
+use Rattle.sb_router.specs.Forwarding.{Forwards, IsLaid, IsWholeInlet, IsWholeLane, Words, came_for, held_for, part, popped_for}
 use Rattle.sb_router.proofs.Places.{same_at_each}
 use Rattle.sb_router.proofs.Shapes.{SameShape, inlets_shape, outlets_shape, passed_before, step_shape}
 use Rattle.sb_router.proofs.Forwards.{receiving, sound_before}

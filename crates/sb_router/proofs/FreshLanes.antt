@@ -9,10 +9,8 @@ use Rattle.sb_link.specs.RingPlans.{NetFlow}
 use Rattle.sb_link.specs.Prefixes.{IsSubsequence, none}
 use Rattle.sb_port.specs.Ports.{PortSide, fresh_port, offered_words}
 use Rattle.sb_node.specs.Sides.{received_words}
-use Rattle.sb_router.specs.Lanes.{InletState, LaneState, Route, held_words, no_inlet, no_port}
-use Rattle.sb_router.specs.Fresh.{fresh_inlet}
-use Rattle.sb_router.specs.Forwarding.{Forwards, Words, held_for, part}
-use Rattle.sb_router.specs.Whole.{IsWholeInlet, IsWholeLane, IsWholeOutlet}
+use Rattle.sb_router.specs.Lanes.{InletState, LaneState, Route, fresh_inlet, held_words, no_inlet, no_port}
+use Rattle.sb_router.specs.Forwarding.{Forwards, IsWholeInlet, IsWholeLane, IsWholeOutlet, Words, held_for, part}
 use Rattle.sb_router.proofs.SameLane.{same_lane}
 use Rattle.sb_link.specs.declared.ends.RxEnd as rx
 use Rattle.sb_link.specs.declared.ends.TxEnd as tx

@@ -6,9 +6,8 @@ use Rattle.sb_link.specs.Traffic.{MayPass}
 use Rattle.sb_packet.specs.declared.packet.Packet.{Packet}
 use Rattle.sb_port.specs.Ports.{offered_words, PortSide}
 use Rattle.sb_router.specs.Lanes.{LaneState, Route, inlet_at, next_place, no_port, outlet_at}
-use Rattle.sb_router.specs.Steps.{emptied}
-use Rattle.sb_router.specs.Handing.{Drops, Offers}
-use Rattle.sb_router.specs.Sending.{IsHandedAt, IsHandedTo}
+use Rattle.sb_router.specs.Steps.{IsHandedAt, IsHandedTo, emptied}
+use Rattle.sb_router.specs.Popping.{Drops, Offers}
 use Rattle.sb_router.proofs.SameLane.{same_lane}
 
 -- it was offered, or dropped where it doesn't pass

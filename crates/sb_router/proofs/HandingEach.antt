@@ -4,10 +4,10 @@ use Rattle.std.proofs.lemmas.Bool.{or_parts}
 use Rattle.sb_router.specs.Lanes.{InletState, LaneState, Route, inlet_at, no_inlet, no_port}
 use Rattle.sb_port.specs.Ports.{PortSide}
 use Rattle.sb_router.specs.Steps.{Step, Steps, drops, offers, none, further, emptied}
-use Rattle.sb_router.specs.Handing.{Drops, IsHanded, IsWaiting, Offers}
-use Rattle.sb_router.specs.Moves.{IsToldMoved}
+use Rattle.sb_router.specs.Popping.{Drops, IsHanded, IsWaiting, Offers}
+use Rattle.sb_router.specs.Rested.{IsToldMoved}
 use Rattle.sb_router.specs.Turning.{HasHanded, SendsNothing}
-use Rattle.sb_router.specs.Whole.{IsWholeLane}
+use Rattle.sb_router.specs.Forwarding.{IsWholeLane}
 use Rattle.sb_router.proofs.BusyPorts.{BusySoFar, busy_all, busy_drop, busy_none, busy_offer, busy_wait}
 use Rattle.sb_router.proofs.Cases.{le_cases}
 use Rattle.sb_router.proofs.NextPlaces.{next_within}

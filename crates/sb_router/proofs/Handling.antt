@@ -10,7 +10,7 @@ use Rattle.sb_packet.specs.Accesses.{Access, access_at, accesses_of}
 use Rattle.sb_packet.specs.Messages.{Message, message_of}
 use Rattle.sb_link.specs.RingPlans.{NetFlow, RingFlows, RingPlan, goes_through, is_allowed, message_flow}
 use Rattle.sb_link.specs.Prefixes.{IsSubsequence}
-use Rattle.sb_packet.specs.Soundness.{IsSound}
+use Rattle.sb_packet.specs.Cuts.{IsSound}
 use Rattle.sb_link.specs.Traffic.{MayPass, item_messages}
 use Rattle.sb_packet.specs.declared.packet.Packet.{Packet}
 use Rattle.sb_packet.specs.declared.item.Item.{Item}
@@ -19,8 +19,7 @@ use Rattle.sb_port.specs.Ports.{offered_words, PortSide}
 use Rattle.sb_node.specs.Sides.{received_words}
 use Rattle.sb_router.specs.Lanes.{InletState, LaneState, Route, came_at, held_words_at, held_words, inlet_at, no_inlet, no_port, offered_at, outlet_at, next_place}
 use Rattle.sb_router.specs.Steps.{IsGiven, IsRefused, emptied}
-use Rattle.sb_router.specs.Whole.{IsWholeInlet}
-use Rattle.sb_router.specs.Forwarding.{Words, Passes, HasSoundInlets, Forwards, IsLaid, IsOneFlow, came_for, held_for, part, popped_for}
+use Rattle.sb_router.specs.Forwarding.{Forwards, HasSoundInlets, IsLaid, IsOneFlow, IsWholeInlet, Passes, Words, came_for, held_for, part, popped_for}
 use Rattle.sb_router.proofs.Places.{same_at_each, set_cases}
 use Rattle.sb_router.proofs.NextPlaces.{next_flow}
 use Rattle.sb_router.proofs.Shapes.{SameShape, inlets_shape, outlet_set, passed_before}

@@ -5,10 +5,9 @@ use Rattle.sb_port.specs.Ports.{PortSide}
 use Rattle.sb_node.specs.Kept.{IsKeptPort, begins_itself, kept_ring_same, kept_port_same}
 use Rattle.sb_router.specs.Lanes.{InletState, LaneState, Route, inlet_at, no_inlet, no_port, outlet_at}
 use Rattle.sb_router.specs.Steps.{Step, Steps, receives, looks, drops, offers, turns, tells, none, further, emptied}
-use Rattle.sb_router.specs.Kept.{IsKeptInlet, IsKeptLane, kept_inlet_same, kept_lane_same, kept_lane_then}
+use Rattle.sb_router.specs.Rested.{IsKeptInlet, IsKeptLane, free_count, kept_inlet_same, kept_lane_same, kept_lane_then}
 use Rattle.std.specs.Prelude.{Option, None, Some}
 use Rattle.sb_packet.specs.declared.packet.Packet.{Packet}
-use Rattle.sb_router.specs.Moves.{free_count}
 use Rattle.sb_router.proofs.MoveSteps.{inlet_received, inlet_unmoved}
 use Rattle.sb_router.proofs.Places.{at_each}
 

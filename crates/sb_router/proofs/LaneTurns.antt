@@ -12,14 +12,11 @@ use Rattle.sb_node.specs.Sides.{has_rest, is_full}
 use Rattle.sb_node.specs.Turns.{empty_cause}
 use Rattle.sb_node.proofs.Serving.{served_since}
 use Rattle.sb_router.specs.Lanes.{InletState, LaneState, Route, inlet_at, next_place, no_inlet, no_port, outlet_at}
-use Rattle.sb_router.specs.Steps.{IsSilent, Steps}
-use Rattle.sb_router.specs.Causes.{found_in_both, lower, lowest}
-use Rattle.sb_router.specs.Rested.{IsRestedLane, rested_lane_then}
-use Rattle.sb_router.specs.Awaiting.{AwaitsFullPort, HeldAwaitsBusy, WasBusy, WasOffered}
-use Rattle.sb_router.specs.Moves.{IsToldMoved}
+use Rattle.sb_router.specs.Steps.{AwaitsFullPort, HeldAwaitsBusy, IsSilent, Steps, WasBusy, WasOffered, steps_then}
+use Rattle.sb_router.specs.Popping.{found_in_both, lower, lowest}
+use Rattle.sb_router.specs.Rested.{IsRestedLane, IsToldMoved, rested_lane_then}
 use Rattle.sb_router.specs.Turning.{HasClosed, HasHanded, HasPoppedEach, HasTurned, IsIdleLane, IsLaneTurn, IsSeen, IsServed, SendsNothing, pop_cause}
-use Rattle.sb_router.specs.Whole.{IsWholeInlet, IsWholeLane}
-use Rattle.sb_router.specs.Steps.{steps_then}
+use Rattle.sb_router.specs.Forwarding.{IsWholeInlet, IsWholeLane}
 use Rattle.sb_router.proofs.Lowest.{lower_none, neither_found}
 use Rattle.sb_router.proofs.MoveSteps.{moved_then}
 use Rattle.sb_router.proofs.NextPlaces.{next_within}

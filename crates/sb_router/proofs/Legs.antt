@@ -2,10 +2,9 @@
 use Rattle.std.proofs.Common.{◌≡◌, ◌<◌, List, [], ◌∷◌, ◌++◌, length, map, remove, get_or, All, refl, sym, ap, ◌∙◌, subst, arith, append_assoc}
 use Rattle.std.proofs.lemmas.List.{append-nil}
 use Rattle.std.proofs.lemmas.List.Elements.{All-head, All-nil, All-tail}
-use Rattle.sb_router.specs.Fresh.{IsFreshPair, fresh_inlet}
-use Rattle.sb_router.specs.Lanes.{InletState}
+use Rattle.sb_router.specs.Lanes.{InletState, IsFreshPair, fresh_inlet}
 use Rattle.sb_port.specs.Ports.{PortSide, fresh_port}
-use Rattle.sb_router.specs.Whole.{IsWholeOutlet}
+use Rattle.sb_router.specs.Forwarding.{IsWholeOutlet}
 use Rattle.sb_link.specs.declared.ends.RxEnd as rx
 use Rattle.sb_link.specs.declared.ends.TxEnd as tx
 

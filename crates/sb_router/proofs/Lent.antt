@@ -6,11 +6,9 @@ use Rattle.std.proofs.lemmas.List.{get_or-append_right, get_or_append_left, leng
 use Rattle.std.proofs.Math.ListN.{get_or-map}
 use Rattle.sb_port.specs.Ports.{PortSide}
 use Rattle.sb_node.specs.Sides.{RingSide}
-use Rattle.sb_router.specs.CoreEnds.{core_with_port, core_with_ring, lane_with_port, lane_with_ring}
-use Rattle.sb_router.specs.Ends.{router_port, router_ring}
-use Rattle.sb_router.specs.LaneOf.{lane_of}
+use Rattle.sb_router.specs.RouterOf.{core_with_port, core_with_ring, lane_of, lane_with_port, lane_with_ring, router_core_side}
+use Rattle.sb_router.specs.Routers.{router_port, router_ring}
 use Rattle.sb_router.specs.Lanes.{InletState, inlet_at, no_inlet, no_port, no_ring, outlet_at}
-use Rattle.sb_router.specs.RouterOf.{router_core_side}
 use Rattle.sb_router.specs.declared.router_core.RouterCore.{RouterCore}
 
 before_them : (k n : ℕ) → k < n → nat_lt k n ≡ true

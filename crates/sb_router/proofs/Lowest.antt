@@ -5,7 +5,7 @@ use Rattle.std.proofs.lemmas.Grind.{take-set_at}
 use Rattle.std.proofs.lemmas.List.{map_push}
 use Rattle.sb_link.specs.declared.answers.Cause.{Cause}
 use Rattle.sb_node.specs.declared.findings.Findings.{Findings}
-use Rattle.sb_router.specs.Causes.{found_in_both, lower, lowest, nothing_found, ring_of_cause}
+use Rattle.sb_router.specs.Popping.{found_in_both, lower, lowest, nothing_found, ring_of_cause}
 
 -- no cause is lower than one
 pub lower_none : (a : Option Cause) → lower a None ≡ a

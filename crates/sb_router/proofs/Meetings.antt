@@ -10,10 +10,8 @@ use Rattle.sb_node.specs.Kept.{IsPortMet, IsRingMet}
 use Rattle.sb_node.specs.Sides.{RingSide}
 use Rattle.sb_router.specs.Lanes.{InletState, inlet_at, no_inlet, no_port, outlet_at}
 use Rattle.sb_router.specs.Steps.{IsSilent}
-use Rattle.sb_router.specs.Forwarding.{Words}
-use Rattle.sb_router.specs.Routers.{DirectionSide, ForwardsAll, IsWholeDirection}
-use Rattle.sb_router.specs.Ends.{with_port, with_ring}
-use Rattle.sb_router.specs.Whole.{IsWholeInlet, IsWholeOutlet}
+use Rattle.sb_router.specs.Forwarding.{IsWholeInlet, IsWholeOutlet, Words}
+use Rattle.sb_router.specs.Routers.{DirectionSide, ForwardsAll, IsWholeDirection, with_port, with_ring}
 use Rattle.sb_router.proofs.ForwardSteps.{acting, laid_then, looking}
 use Rattle.sb_router.proofs.Shapes.{inlets_shape, outlets_shape}
 use Rattle.sb_router.proofs.WholeSteps.{told_before}

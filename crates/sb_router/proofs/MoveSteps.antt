@@ -9,7 +9,7 @@ use Rattle.sb_node.proofs.Answering.{moves_kept}
 use Rattle.sb_router.specs.Lanes.{InletState, LaneState, inlet_at, no_inlet, no_port, outlet_at}
 use Rattle.sb_port.specs.Ports.{PortSide}
 use Rattle.sb_router.specs.Steps.{IsTakenByInlet, IsUnmoved, emptied}
-use Rattle.sb_router.specs.Moves.{IsToldMoved, free_count, inlet_moves, lane_moves}
+use Rattle.sb_router.specs.Rested.{IsToldMoved, free_count, inlet_moves, lane_moves}
 
 -- nothing went through
 pub moved_none : (s : LaneState) → IsToldMoved s s false

@@ -7,10 +7,8 @@ use Rattle.sb_node.specs.declared.findings.Findings.{Findings}
 use Rattle.sb_node.specs.Kept.{kept_ring_same}
 use Rattle.sb_router.specs.Lanes.{InletState, LaneState, Route, inlet_at, no_inlet}
 use Rattle.sb_router.specs.Steps.{IsUnmoved, Step, Steps, receives, looks, none, further}
-use Rattle.sb_router.specs.Causes.{FindsBesides, found_in_both, lowest, nothing_found}
-use Rattle.sb_router.specs.Rested.{IsRestedInlet, IsRestedLane, rested_lane_same, rested_lane_then}
-use Rattle.sb_router.specs.Moves.{IsToldMoved}
-use Rattle.sb_router.specs.Popping.{IsPopped, IsPoppedAt}
+use Rattle.sb_router.specs.Popping.{FindsBesides, IsPopped, IsPoppedAt, found_in_both, lowest, nothing_found}
+use Rattle.sb_router.specs.Rested.{IsRestedInlet, IsRestedLane, IsToldMoved, rested_lane_same, rested_lane_then}
 use Rattle.sb_node.specs.Sides.{RingSide}
 use Rattle.sb_router.specs.Turning.{HasPoppedEach, IsSeen, FewItemsEach, pop_cause, IsServed}
 use Rattle.sb_router.proofs.RestedSteps.{rested_inlets, rested_unmoved}

@@ -7,10 +7,10 @@ use Rattle.sb_node.specs.Found.{IsTurnOf}
 use Rattle.sb_node.specs.Sides.{is_done}
 use Rattle.sb_node.specs.Turns.{first_cause}
 use Rattle.sb_router.specs.Lanes.{LaneState}
-use Rattle.sb_router.specs.Causes.{found_in_both}
-use Rattle.sb_router.specs.RouteOf.{route_of}
+use Rattle.sb_router.specs.Popping.{found_in_both}
+use Rattle.sb_router.specs.Ways.{route_of}
 use Rattle.sb_router.specs.Turning.{IsLaneTurn}
-use Rattle.sb_router.specs.Whole.{IsWholeInlet, IsWholeLane}
+use Rattle.sb_router.specs.Forwarding.{IsWholeInlet, IsWholeLane}
 use Rattle.sb_router.proofs.RouterTurns.{done_both, has_cause}
 
 -- a direction is done

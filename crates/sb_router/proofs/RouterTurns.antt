@@ -17,13 +17,12 @@ use Rattle.sb_node.specs.Sides.{has_ended, has_rest, is_done}
 use Rattle.sb_node.specs.Turns.{IsAnswered, empty_cause, first_cause, full_cause}
 use Rattle.sb_router.specs.Lanes.{InletState, LaneState, Route, inlet_at, no_inlet, no_port, outlet_at}
 use Rattle.sb_router.specs.Steps.{IsSilent}
-use Rattle.sb_router.specs.Causes.{found_in_both, lower, lowest, ring_of_cause}
-use Rattle.sb_router.specs.Moves.{lane_moves}
+use Rattle.sb_router.specs.Popping.{found_in_both, lower, lowest, ring_of_cause}
+use Rattle.sb_router.specs.Rested.{lane_moves}
 use Rattle.sb_router.specs.Turning.{IsIdleLane, IsLaneTurn}
-use Rattle.sb_router.specs.Whole.{IsWholeInlet, IsWholeLane}
-use Rattle.sb_router.specs.RouteOf.{route_of}
-use Rattle.sb_router.specs.RestedRouters.{IsRestedRouter}
-use Rattle.sb_router.specs.Routers.{IsKeptDirection, IsRouterTurn, RouterSide, router_moves, router_ports, router_rings}
+use Rattle.sb_router.specs.Forwarding.{IsWholeInlet, IsWholeLane}
+use Rattle.sb_router.specs.Ways.{route_of}
+use Rattle.sb_router.specs.Routers.{IsKeptDirection, IsRestedRouter, IsRouterTurn, RouterSide, router_moves, router_ports, router_rings}
 use Rattle.sb_router.proofs.ForwardSteps.{forwards_steps, laid_steps}
 use Rattle.sb_router.proofs.KeptSteps.{kept_steps}
 use Rattle.sb_router.proofs.Lowest.{lowest_append}

@@ -13,9 +13,7 @@ use Rattle.sb_node.specs.Sides.{port_moves}
 use Rattle.sb_node.proofs.Answering.{moves_kept, prefix_length}
 use Rattle.sb_packet.specs.declared.item.Item.{Item}
 use Rattle.sb_router.specs.Lanes.{InletState, LaneState, Route, inlet_at, no_inlet, no_port, offered_at, outlet_at}
-use Rattle.sb_router.specs.Moves.{lane_moves}
-use Rattle.sb_router.specs.Rested.{IsRestedLane}
-use Rattle.sb_router.specs.Still.{IsStillLane}
+use Rattle.sb_router.specs.Rested.{IsRestedLane, IsStillLane, lane_moves}
 use Rattle.sb_router.specs.Steps.{Step, Steps, drops, emptied, further, looks, none, offers, receives, tells, turns}
 use Rattle.sb_router.proofs.MoveSteps.{both_more, inlet_emptied, inlet_received, inlet_sum, inlet_unmoved, outlet_sum}
 use Rattle.sb_router.proofs.Places.{same_at_each}

@@ -10,12 +10,10 @@ use Rattle.sb_node.specs.Turns.{full_cause}
 use Rattle.sb_node.proofs.Answering.{same_moves}
 use Rattle.sb_router.specs.Lanes.{LaneState, Route, no_port, outlet_at}
 use Rattle.sb_router.specs.Steps.{Steps, turns, none, further}
-use Rattle.sb_router.specs.Causes.{FindsBesides, found_in_both, lowest, nothing_found}
+use Rattle.sb_router.specs.Popping.{FindsBesides, IsOutletSet, IsOutletTurned, found_in_both, lowest, nothing_found}
 use Rattle.sb_node.specs.Kept.{IsKeptPort}
 use Rattle.sb_node.specs.Rested.{IsRestedPort}
-use Rattle.sb_router.specs.Rested.{IsRestedLane, rested_lane_same, rested_lane_then}
-use Rattle.sb_router.specs.Moves.{IsToldMoved}
-use Rattle.sb_router.specs.Ports.{IsOutletSet, IsOutletTurned}
+use Rattle.sb_router.specs.Rested.{IsRestedLane, IsToldMoved, rested_lane_same, rested_lane_then}
 use Rattle.sb_router.specs.Turning.{HasTurned, IsPortIdle, OffersNothing}
 use Rattle.sb_router.proofs.RestedSteps.{rested_outlets, rested_state}
 use Rattle.sb_router.proofs.Places.{ahead_same, at_each, so_far}

@@ -11,9 +11,9 @@ use Rattle.sb_port.proofs.Items.{has_close-close, has_close-packet}
 use Rattle.sb_port.specs.Ports.{PortSide}
 use Rattle.sb_router.specs.Lanes.{InletState, LaneState, Route, inlet_at, no_inlet, no_port, outlet_at}
 use Rattle.sb_router.specs.Steps.{IsTakenByInlet, IsSilent, IsUnmoved, Step, Steps, receives, looks, drops, offers, turns, tells, none, further, emptied, held_of}
-use Rattle.sb_router.specs.RouteOf.{route_of}
+use Rattle.sb_router.specs.Ways.{route_of}
 use Rattle.sb_router.specs.declared.routes.Routes.{Routes}
-use Rattle.sb_router.specs.Whole.{IsWholeInlet, IsWholeLane, IsWholeOutlet}
+use Rattle.sb_router.specs.Forwarding.{IsWholeInlet, IsWholeLane, IsWholeOutlet}
 use Rattle.sb_router.proofs.Places.{at_each}
 use Rattle.sb_packet.specs.declared.item.Item.TheVariants as items
 

@@ -1,14 +1,42 @@
--- What the layers above use of a router, of each flow that passes it.
-use Rattle.std.specs.Prelude.{◌≡◌, ◌≤◌, ◌<◌, ◌⊎◌, ◌+◌, ℕ, Bool, true, List, [], ◌++◌, filter, length, All, Some, sum_by}
-use Rattle.sb_packet.specs.Accesses.{Access, accesses_of}
+-- When a direction of a router is whole, and what the layers above use of a router, of each flow that passes it.
+use Rattle.std.specs.Prelude.{◌≡◌, ◌<◌, ℕ, true, List, [], ◌∷◌, ◌++◌, length, All, Some, ◌≤◌, ◌⊎◌, ◌+◌, Bool, filter, sum_by}
 use Rattle.sb_packet.specs.Messages.{message_of}
+use Rattle.sb_link.specs.Traffic.{IsCarriable, IsPlanned, has_close, item_messages}
+use Rattle.sb_packet.specs.declared.packet.Packet.{Packet}
+use Rattle.sb_packet.specs.declared.item.Item.{Item}
+use Rattle.sb_port.specs.Ports.{IsFit, PortSide}
+use Rattle.sb_router.specs.Lanes.{InletState, LaneState, Route, came_at, held_words, held_words_at, inlet_at, next_place, offered_at, outlet_at}
+use Rattle.sb_router.specs.Steps.{IsSilent}
+use Rattle.sb_packet.specs.Accesses.{Access, accesses_of}
 use Rattle.sb_link.specs.RingPlans.{NetFlow, goes_through, message_flow}
 use Rattle.sb_link.specs.Prefixes.{IsSubsequence}
-use Rattle.sb_packet.specs.Soundness.{IsSound}
-use Rattle.sb_link.specs.Traffic.{IsPlanned, item_messages}
-use Rattle.sb_packet.specs.declared.packet.Packet.{Packet}
+use Rattle.sb_packet.specs.Cuts.{IsSound}
 use Rattle.sb_node.specs.Sides.{received_words}
-use Rattle.sb_router.specs.Lanes.{InletState, LaneState, Route, came_at, held_words_at, held_words, inlet_at, next_place, offered_at, outlet_at}
+use Rattle.sb_packet.specs.declared.item.Item.TheVariants as items
+
+-- When a direction of a router is whole: it knows the truth about its rings.
+
+-- the last item that came is this packet
+pub record IsLast (p : Packet) (received : List Item) : Type 0 where
+  pub before : List Item
+  pub joined : received ≡ before ++ items.Packet p ∷ []
+
+-- what is known of an incoming ring is true, and what is held is what came last
+pub record IsWholeInlet (x : InletState) : Type 0 where
+  pub ended : x.ended ≡ has_close x.ring.received
+  pub last : (p : Packet) → x.held ≡ Some p → IsLast p x.ring.received
+  pub carriable : (p : Packet) → x.held ≡ Some p → IsCarriable x.ring.plan (message_of p)
+
+-- the port of an outgoing ring is fit
+pub record IsWholeOutlet (y : PortSide) : Type 0 where
+  pub fit : IsFit y.plan y.state
+
+-- A direction is whole. No port was told to close but where nothing more comes.
+pub record IsWholeLane (route : Route) (s : LaneState) : Type 0 where
+  pub inlets : All IsWholeInlet s.inlets
+  pub outlets : All IsWholeOutlet s.outlets
+  pub silent : (o : ℕ) → o < length s.outlets → (outlet_at s o).state.close_requested ≡ true → All IsSilent s.inlets
+  pub routed : (f : _) (o : ℕ) → route f ≡ Some o → o < length s.outlets
 
 -- The words of a direction: which are of a flow, and which go on to a place.
 pub record Words : Type 0 where

@@ -1,5 +1,5 @@
 -- One direction of a router as plain data: the rings that come in, and the rings that go out.
-use Rattle.std.specs.Prelude.{ℕ, Bool, false, List, [], Option, None, Some, slice_index_or}
+use Rattle.std.specs.Prelude.{ℕ, Bool, false, List, [], Option, None, Some, slice_index_or, ◌≡◌}
 use Rattle.std.specs.Option.{option_and_then}
 use Rattle.sb_packet.specs.Accesses.{Access, accesses_of}
 use Rattle.sb_packet.specs.Messages.{message_of}
@@ -8,6 +8,8 @@ use Rattle.sb_packet.specs.declared.packet.Packet.{Packet}
 use Rattle.sb_port.specs.Waiting.{nothing_waits}
 use Rattle.sb_port.specs.Ports.{PortSide, offered_words}
 use Rattle.sb_node.specs.Sides.{RingSide, received_words}
+use Rattle.sb_link.specs.declared.ends.RxEnd as rx
+use Rattle.sb_link.specs.declared.ends.TxEnd as tx
 
 -- a ring that comes into a router, and the packet that came by it and waits to be handed on
 pub record InletState : Type 0 where
@@ -69,3 +71,18 @@ Route = NetFlow → Option ℕ
 -- the place to which a packet goes that came by a ring of that plan
 abbrev pub next_place : Route → RingPlan → Packet → Option ℕ
 next_place route plan p = option_and_then route (message_flow plan.flows (message_of p))
+
+-- Rings at which nothing happened yet, as a router begins with them.
+
+-- a ring that comes in, at whose end nothing was received
+abbrev pub fresh_inlet : {U : Type 0} → rx.Ghosts U → U → InletState
+fresh_inlet receiving end = record {
+  ring = record { plan = receiving.planned end; mark = receiving.mark end; received = []; known = receiving.known end };
+  ended = false;
+  held = None;
+}
+
+-- nothing was sent over a ring, and nothing received over the other one
+pub record IsFreshPair {T U : Type 0} (sending : tx.Ghosts T) (receiving : rx.Ghosts U) (to : T) (from : U) : Type 0 where
+  pub unsent : sending.sent to ≡ []
+  pub unreceived : receiving.received from ≡ []

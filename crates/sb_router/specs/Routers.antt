@@ -1,21 +1,18 @@
--- A router as rounds see it: its two directions.
-use Rattle.std.specs.Prelude.{◌≡◌, ◌≢◌, ◌<◌, ◌+◌, ◌++◌, ℕ, true, List, [], ◌∷◌, length, map, All, Option}
+-- A router as rounds see it: its two directions, its ends by their places, and what stays of it where nothing moved.
+use Rattle.std.specs.Prelude.{◌≡◌, ◌≢◌, ◌<◌, ◌+◌, ◌++◌, ℕ, true, List, [], ◌∷◌, length, map, All, Option, ◌-◌, nat_lt, set, slice_index_or, if◌then◌else◌}
 use Rattle.std.proofs.Common.{refl, ◌∙◌, subst}
 use Rattle.sb_link.specs.declared.answers.Turn.{Turn}
 use Rattle.sb_link.specs.declared.answers.Turn.TheVariants.{Moved}
 use Rattle.sb_port.specs.Ports.{PortSide}
 use Rattle.sb_node.specs.Sides.{RingSide, is_done}
 use Rattle.sb_node.specs.Turns.{IsAnswered, empty_cause, full_cause}
-use Rattle.sb_router.specs.Lanes.{LaneState, outlet_at}
-use Rattle.sb_router.specs.RouteOf.{route_of}
-use Rattle.sb_router.specs.Steps.{IsSilent, Steps, none, steps_then}
-use Rattle.sb_router.specs.Whole.{IsWholeLane}
-use Rattle.sb_router.specs.Moves.{lane_moves}
-use Rattle.sb_router.specs.Causes.{lowest}
-use Rattle.sb_router.specs.Awaiting.{HeldAwaitsBusy}
-use Rattle.sb_router.specs.Turning.{IsIdleLane, FewItemsEach, ServesEach, ServesPorts}
-use Rattle.sb_router.specs.Kept.{IsKeptLane, kept_lane_same, kept_lane_then}
-use Rattle.sb_router.specs.Forwarding.{Forwards, IsLaid, Words}
+use Rattle.sb_router.specs.Lanes.{LaneState, inlet_at, no_port, no_ring, outlet_at}
+use Rattle.sb_router.specs.Ways.{route_of}
+use Rattle.sb_router.specs.Steps.{HeldAwaitsBusy, IsSilent, Steps, none, steps_then}
+use Rattle.sb_router.specs.Forwarding.{Forwards, IsLaid, IsWholeLane, Words}
+use Rattle.sb_router.specs.Rested.{IsKeptLane, IsRestedLane, kept_lane_same, kept_lane_then, lane_moves, rested_lane_same, rested_lane_then}
+use Rattle.sb_router.specs.Popping.{lowest}
+use Rattle.sb_router.specs.Turning.{FewItemsEach, IsIdleLane, ServesEach, ServesPorts}
 
 -- one direction, and where its flows go
 pub record DirectionSide : Type 0 where
@@ -109,3 +106,56 @@ kept_router_then x y z a b = record { requests = both a.requests b.requests; ans
       forwards = λ words w h. g.forwards words (f.whole w) (f.forwards words w h);
       whole = λ w. g.whole (f.whole w);
     }
+
+-- What stays of a router where nothing moved.
+
+-- nothing moved in a direction
+pub record IsRestedDirection (before after : DirectionSide) : Type 0 where
+  pub rows : after.rows ≡ before.rows
+  pub lane : IsRestedLane before.lane after.lane
+
+-- Nothing moved in either direction.
+pub record IsRestedRouter (before after : RouterSide) : Type 0 where
+  pub requests : IsRestedDirection before.requests after.requests
+  pub answers : IsRestedDirection before.answers after.answers
+
+-- nothing happened to a router
+pub rested_router_same : (r : RouterSide) → IsRestedRouter r r
+rested_router_same r = record { requests = same r.requests; answers = same r.answers }
+  where
+    same : (d : DirectionSide) → IsRestedDirection d d
+    same d = record { rows = refl; lane = rested_lane_same d.lane }
+
+-- one thing after another happened to a router
+pub rested_router_then : (x y z : RouterSide) → IsRestedRouter x y → IsRestedRouter y z → IsRestedRouter x z
+rested_router_then x y z a b = record { requests = both a.requests b.requests; answers = both a.answers b.answers }
+  where
+    both : {p q r : DirectionSide} → IsRestedDirection p q → IsRestedDirection q r → IsRestedDirection p r
+    both f g = record { rows = g.rows ∙ f.rows; lane = rested_lane_then f.lane g.lane }
+
+-- The ends of a router by their places, those of requests first, and how they are lent.
+
+-- the port at a place, and the ring that comes in at a place
+abbrev pub router_port : RouterSide → ℕ → PortSide
+router_port r k = slice_index_or (router_ports r) k no_port
+
+abbrev pub router_ring : RouterSide → ℕ → RingSide
+router_ring r k = slice_index_or (router_rings r) k no_ring
+
+-- another port stands at a place of a direction, or another ring
+abbrev pub with_port : DirectionSide → ℕ → PortSide → DirectionSide
+with_port d k port = record d { lane = record d.lane { outlets = set d.lane.outlets k port } }
+
+abbrev pub with_ring : DirectionSide → ℕ → RingSide → DirectionSide
+with_ring d k ring = record d { lane = record d.lane { inlets = set d.lane.inlets k (record (inlet_at d.lane k) { ring = ring }) } }
+
+-- Another port stands at a place of a router, or another ring.
+abbrev pub router_with_port : RouterSide → ℕ → PortSide → RouterSide
+router_with_port r k port = if nat_lt k (length r.requests.lane.outlets)
+    then record r { requests = with_port r.requests k port }
+    else record r { answers = with_port r.answers (k - length r.requests.lane.outlets) port }
+
+abbrev pub router_with_ring : RouterSide → ℕ → RingSide → RouterSide
+router_with_ring r k ring = if nat_lt k (length r.requests.lane.inlets)
+    then record r { requests = with_ring r.requests k ring }
+    else record r { answers = with_ring r.answers (k - length r.requests.lane.inlets) ring }

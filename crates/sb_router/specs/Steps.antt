@@ -1,14 +1,16 @@
--- What one direction of a router does, step by step.
-use Rattle.std.specs.Prelude.{◌≡◌, ◌<◌, ℕ, true, false, [], ◌∷◌, ◌++◌, length, All, Option, None, Some, set}
+-- What one direction of a router does, step by step, and for what the packets wait that it holds.
+use Rattle.std.specs.Prelude.{◌≡◌, ◌<◌, ℕ, true, false, [], ◌∷◌, ◌++◌, length, All, Option, None, Some, set, ◌⊎◌, ◌+◌, List, flat_map, ⊤}
 use Rattle.sb_packet.specs.Accesses.{accesses_of}
 use Rattle.sb_packet.specs.Messages.{message_of}
 use Rattle.sb_link.specs.Traffic.{MayFollow, MayPass, is_close}
 use Rattle.sb_packet.specs.declared.packet.Packet.{Packet}
 use Rattle.sb_packet.specs.declared.item.Item.{Item}
-use Rattle.sb_port.specs.Ports.{IsFit, offered_words, PortSide, owes}
+use Rattle.sb_port.specs.Ports.{IsFit, PortSide, offered_words, owes}
 use Rattle.sb_node.specs.Kept.{IsKeptPort, IsKeptRing}
-use Rattle.sb_node.specs.Sides.{has_rest}
-use Rattle.sb_router.specs.Lanes.{InletState, LaneState, Route, inlet_at, outlet_at, next_place}
+use Rattle.sb_node.specs.Sides.{has_rest, is_full}
+use Rattle.sb_router.specs.Lanes.{InletState, LaneState, Route, inlet_at, next_place, outlet_at}
+use Rattle.sb_node.specs.Steps.{IsDropped}
+use Rattle.sb_link.specs.RingPlans.{RingPlan}
 use Rattle.sb_packet.specs.declared.item.Item.TheVariants as items
 
 -- the packet that an item is
@@ -95,3 +97,53 @@ pub data Steps (route : Route) : LaneState → LaneState → Type 0 where
 pub steps_then : {route : Route} {s t u : LaneState} → Steps route s t → Steps route t u → Steps route s u
 steps_then before none = before
 steps_then before (further more step) = further (steps_then before more) step
+
+-- What becomes of a packet that is handed to a port.
+
+-- It was offered where it passes, and dropped elsewhere.
+abbrev pub IsHandedTo : PortSide → PortSide → Packet → Type 0
+IsHandedTo before after p = IsGiven before after p ⊎ IsDropped before after p
+
+-- A packet was handed to the port at a place.
+pub record IsHandedAt (o : ℕ) (s t : LaneState) (p : Packet) : Type 0 where
+  pub port : PortSide
+  pub handed : IsHandedTo (outlet_at s o) port p
+  pub state : t ≡ record s { outlets = set s.outlets o port }
+
+-- For what a packet that a router holds waits: for the port to which it goes.
+
+-- a packet goes to a port that owes an item, and whose ring is full
+pub record AwaitsFullPort (route : Route) (s : LaneState) (i : ℕ) (p : Packet) : Type 0 where
+  pub place : ℕ
+  pub within : place < length s.outlets
+  pub next : next_place route (inlet_at s i).ring.plan p ≡ Some place
+  pub owing : owes (outlet_at s place).state ≡ true
+  pub full : is_full (outlet_at s place) ≡ true
+
+-- packets may be handed on over a ring one after another, behind so many words
+abbrev pub MayPassEach : RingPlan → ℕ → List Packet → Type 0
+MayPassEach plan words [] = ⊤
+MayPassEach plan words (p ∷ others) = MayPass plan words (message_of p) × MayPassEach plan (words + length (accesses_of p)) others
+
+-- a port was offered a packet in a turn, and maybe others behind it, each of which passed
+pub record WasOffered (before after : PortSide) : Type 0 where
+  pub packet : Packet
+  pub others : List Packet
+  pub pass : MayPassEach before.plan (length (offered_words before)) (packet ∷ others)
+  pub words : offered_words after ≡ offered_words before ++ flat_map accesses_of (packet ∷ others)
+
+-- A port was busy in a turn: it owed an item before, or was offered a packet.
+abbrev pub WasBusy : PortSide → PortSide → Type 0
+WasBusy before after = (owes before.state ≡ true) ⊎ WasOffered before after
+
+-- the next place is that of a port that was busy
+pub record AwaitsBusyPort (s t : LaneState) (next : Option ℕ) : Type 0 where
+  pub place : ℕ
+  pub within : place < length t.outlets
+  pub is_next : next ≡ Some place
+  pub busy : WasBusy (outlet_at s place) (outlet_at t place)
+
+-- Each packet that is held after a turn is for a port that was busy in it: whatever could be handed on was.
+abbrev pub HeldAwaitsBusy : Route → LaneState → LaneState → Type 0
+HeldAwaitsBusy route s t = (i : ℕ) (p : Packet) → i < length t.inlets → (inlet_at t i).held ≡ Some p
+    → AwaitsBusyPort s t (next_place route (inlet_at t i).ring.plan p)

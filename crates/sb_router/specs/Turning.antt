@@ -9,12 +9,9 @@ use Rattle.sb_node.specs.Steps.{HasFewMore, IsPortServed, IsRingServed}
 use Rattle.sb_node.specs.Turns.{empty_cause, full_cause}
 use Rattle.sb_node.specs.declared.findings.Findings.{Findings}
 use Rattle.sb_router.specs.Lanes.{InletState, LaneState, Route, inlet_at, offered_at, outlet_at}
-use Rattle.sb_router.specs.Steps.{IsSilent, Steps}
-use Rattle.sb_router.specs.Rested.{IsRestedLane}
-use Rattle.sb_router.specs.Awaiting.{AwaitsFullPort, HeldAwaitsBusy}
-use Rattle.sb_router.specs.Handing.{IsWaiting}
-use Rattle.sb_router.specs.Moves.{IsToldMoved}
-use Rattle.sb_router.specs.Causes.{lowest}
+use Rattle.sb_router.specs.Steps.{AwaitsFullPort, HeldAwaitsBusy, IsSilent, Steps}
+use Rattle.sb_router.specs.Rested.{IsRestedLane, IsToldMoved}
+use Rattle.sb_router.specs.Popping.{IsWaiting, lowest}
 use Rattle.sb_link.specs.declared.answers.Cause.TheVariants as causes
 
 -- a ring was found empty, or there was a cause to leave it: it gave its Close, or a packet that came by it is held

@@ -1,11 +1,17 @@
--- Where a router's flows go: to the ports of the links by which they leave it.
-use Rattle.std.specs.Prelude.{ℕ, ◌≡◌, ◌<◌, ◌==◌, Bool, List, Option, if◌then◌else◌}
+-- Where a router's flows go: by its tables, and in its network to the ports of the links by which they leave it.
+use Rattle.std.specs.Prelude.{ℕ, List, [], Option, None, slice_index_or, ◌≡◌, ◌<◌, ◌==◌, Bool, if◌then◌else◌}
 use Rattle.std.specs.List.{position_from}
 use Rattle.std.specs.Option.{option_and_then}
+use Rattle.sb_router.specs.Lanes.{Route}
 use Rattle.sb_packet.specs.Networks.{Network}
 use Rattle.sb_link.specs.RingPlans.{NetFlow}
 use Rattle.sb_flow.specs.Ways.{link_down, link_up}
-use Rattle.sb_router.specs.RouteOf.{route_of}
+
+-- Where each flow goes, by a table.
+
+-- what stands in the row of the flow's host, at its device
+abbrev pub route_of : List (List (Option ℕ)) → Route
+route_of rows f = slice_index_or (slice_index_or rows f.host []) f.device None
 
 -- the link by which a flow leaves a router: towards its host, or towards its device
 abbrev pub link_on : Network → Bool → ℕ → NetFlow → Option ℕ

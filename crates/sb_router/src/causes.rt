@@ -1,7 +1,7 @@
 //! What was found in two turns.
 
 ghost use Rattle.std.specs.Prelude.{◌≡◌};
-ghost use Rattle.sb_router.specs.Causes.{found_in_both, lower, ring_of_cause};
+ghost use Rattle.sb_router.specs.Popping.{found_in_both, lower, ring_of_cause};
 
 use sb_link::Cause;
 use sb_node::Findings;

@@ -2,8 +2,8 @@
 
 ghost use Rattle.std.specs.Prelude.{◌≡◌, [], ◌∷◌, ◌++◌, All, map, IfOk, OnOk};
 ghost use Rattle.sb_port.specs.Ports.{fresh_port};
-ghost use Rattle.sb_router.specs.Fresh.{IsFreshPair, fresh_inlet};
-ghost use Rattle.sb_router.specs.Whole.{IsWholeOutlet};
+ghost use Rattle.sb_router.specs.Lanes.{IsFreshPair, fresh_inlet};
+ghost use Rattle.sb_router.specs.Forwarding.{IsWholeOutlet};
 
 use crate::inlet::Inlet;
 use sb_link::{Fabric, RxEnd, TxEnd};

@@ -8,11 +8,10 @@ ghost use Rattle.sb_packet.specs.Messages.{message_of};
 ghost use Rattle.sb_link.specs.RingPlans.{message_flow};
 ghost use Rattle.sb_link.specs.Plans.{flow_of};
 ghost use Rattle.sb_node.specs.Sides.{ring_side};
-ghost use Rattle.sb_router.specs.Causes.{FindsBesides};
-ghost use Rattle.sb_router.specs.Fresh.{fresh_inlet};
-ghost use Rattle.sb_router.specs.Popping.{IsPopped};
+ghost use Rattle.sb_router.specs.Popping.{FindsBesides, IsPopped};
+ghost use Rattle.sb_router.specs.Lanes.{fresh_inlet};
 ghost use Rattle.sb_router.specs.Steps.{emptied};
-ghost use Rattle.sb_router.specs.Whole.{IsWholeInlet};
+ghost use Rattle.sb_router.specs.Forwarding.{IsWholeInlet};
 ghost use Rattle.sb_router.specs.contracts.inlet.Inlet.{the_row};
 
 use crate::causes::lower;

@@ -3,16 +3,12 @@
 ghost use Rattle.std.specs.Prelude.{◌≡◌, ◌<◌, ◌&&◌, All, true, false, not, vec_len, set};
 ghost use Rattle.std.specs.List.{list_all};
 ghost use Rattle.sb_port.specs.Ports.{owes};
-ghost use Rattle.sb_router.specs.Causes.{FindsBesides};
+ghost use Rattle.sb_router.specs.Popping.{FindsBesides, IsHanded, IsOutletSet, IsOutletTurned, IsPoppedAt, IsToldAt};
 ghost use Rattle.sb_router.specs.Lanes.{inlet_at, next_place, outlet_at};
-ghost use Rattle.sb_router.specs.LaneOf.{lane_of, lane_route};
-ghost use Rattle.sb_router.specs.Handing.{IsHanded};
-ghost use Rattle.sb_router.specs.Popping.{IsPoppedAt};
-ghost use Rattle.sb_router.specs.Ports.{IsOutletSet, IsOutletTurned, IsToldAt};
-ghost use Rattle.sb_router.specs.Sending.{IsHandedAt};
-ghost use Rattle.sb_router.specs.Steps.{IsSilent, emptied};
+ghost use Rattle.sb_router.specs.RouterOf.{lane_of, lane_route};
+ghost use Rattle.sb_router.specs.Steps.{IsHandedAt, IsSilent, emptied};
 ghost use Rattle.sb_router.specs.Turning.{HasClosed, HasHanded, HasPoppedEach, HasTurned, IsLaneTurn};
-ghost use Rattle.sb_router.specs.Whole.{IsWholeLane};
+ghost use Rattle.sb_router.specs.Forwarding.{IsWholeLane};
 
 use crate::inlet::{Inlet, are_silent, have_ended};
 use crate::outlet::{close_outlet, hand_to, have_sent_close, turn_outlet};

@@ -8,14 +8,10 @@ ghost use Rattle.sb_link.specs.RingPlans.{NetFlow};
 ghost use Rattle.sb_link.specs.Traffic.{has_close};
 ghost use Rattle.sb_router.specs.Forwarding.{HasForwarded, Passes, Words};
 ghost use Rattle.sb_router.specs.Lanes.{inlet_at, outlet_at};
-ghost use Rattle.sb_router.specs.RouteOf.{route_of};
-ghost use Rattle.sb_router.specs.Moves.{lane_moves};
-ghost use Rattle.sb_router.specs.RestedRouters.{IsRestedDirection};
-ghost use Rattle.sb_router.specs.Routers.{DirectionSide, ForwardsAll, IsKeptDirection, IsKeptRouter, IsWholeDirection};
-ghost use Rattle.sb_router.specs.Routers.{IsWholeRouter, RouterSide, router_ports, router_rings};
-ghost use Rattle.sb_router.specs.Still.{IsStillLane};
+ghost use Rattle.sb_router.specs.Ways.{route_of};
+ghost use Rattle.sb_router.specs.Rested.{IsStillLane, lane_moves};
+ghost use Rattle.sb_router.specs.Routers.{DirectionSide, ForwardsAll, IsKeptDirection, IsKeptRouter, IsRestedDirection, IsWholeDirection, IsWholeRouter, RouterSide, router_port, router_ports, router_ring, router_rings, router_with_port, router_with_ring, with_port, with_ring};
 ghost use Rattle.sb_router.specs.Steps.{IsSilent};
-ghost use Rattle.sb_router.specs.Ends.{router_port, router_ring, router_with_port, router_with_ring, with_port, with_ring};
 
 /// Of each flow that passes a router, what was offered is what came, less some; and nothing is missing but what is held,
 /// where each packet that was popped in that direction is sound, and the words that were popped for the port's ring are

@@ -4,9 +4,8 @@ ghost use Rattle.std.specs.Prelude.{◌≡◌, ◌<◌, vec_len};
 ghost use Rattle.std.specs.Borrow.{sem, Lends};
 ghost use Rattle.sb_node.specs.Sides.{ring_side};
 ghost use Rattle.sb_port.specs.contracts.port.OutPort.{the_row as port_row};
-ghost use Rattle.sb_router.specs.CoreEnds.{lane_with_port, lane_with_ring};
+ghost use Rattle.sb_router.specs.RouterOf.{lane_of, lane_with_port, lane_with_ring};
 ghost use Rattle.sb_router.specs.Lanes.{inlet_at, outlet_at};
-ghost use Rattle.sb_router.specs.LaneOf.{lane_of};
 ghost use Rattle.sb_router.specs.contracts.lane.Lane.{the_row};
 
 use crate::lane::Lane;

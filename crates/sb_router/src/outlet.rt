@@ -3,11 +3,9 @@
 ghost use Rattle.std.specs.Prelude.{◌≡◌, false};
 ghost use Rattle.std.specs.List.{list_all};
 ghost use Rattle.sb_port.specs.Ports.{owes};
-ghost use Rattle.sb_router.specs.Causes.{FindsBesides};
-ghost use Rattle.sb_router.specs.Ports.{IsOutletTurned};
-ghost use Rattle.sb_router.specs.Sending.{IsHandedTo};
-ghost use Rattle.sb_router.specs.Steps.{IsTold};
-ghost use Rattle.sb_router.specs.Whole.{IsWholeOutlet};
+ghost use Rattle.sb_router.specs.Popping.{FindsBesides, IsOutletTurned};
+ghost use Rattle.sb_router.specs.Steps.{IsHandedTo, IsTold};
+ghost use Rattle.sb_router.specs.Forwarding.{IsWholeOutlet};
 
 use crate::causes::lower;
 use sb_link::TxEnd;

@@ -9,11 +9,9 @@ ghost use Rattle.sb_port.specs.contracts.port.OutPort.{the_row as port_row};
 ghost use Rattle.sb_flow.specs.NetworkOf.{network_of};
 ghost use Rattle.sb_flow.specs.Tables.{paths_of};
 ghost use Rattle.sb_router.specs.Forwarding.{Forwards, Words};
-ghost use Rattle.sb_router.specs.Fresh.{IsFreshPair, fresh_inlet};
-ghost use Rattle.sb_router.specs.RouteOf.{route_of};
-ghost use Rattle.sb_router.specs.Routers.{IsWholeRouter, router_ports, router_rings};
-ghost use Rattle.sb_router.specs.Ends.{router_port, router_ring, router_with_port, router_with_ring};
-ghost use Rattle.sb_router.specs.Ways.{IsTableOf};
+ghost use Rattle.sb_router.specs.Lanes.{IsFreshPair, fresh_inlet};
+ghost use Rattle.sb_router.specs.Ways.{IsTableOf, route_of};
+ghost use Rattle.sb_router.specs.Routers.{IsWholeRouter, router_port, router_ports, router_ring, router_rings, router_with_port, router_with_ring};
 ghost use Rattle.sb_router.specs.contracts.router.Router.{the_row};
 
 use crate::ends::{ends_in, ends_out};
@@ -56,8 +54,7 @@ impl<F: Fabric> Model for Router<F> {
 }
 
 impl<F: Fabric> Node for Router<F> {
-    ghost use Rattle.sb_router.specs.RestedRouters.{IsRestedRouter, rested_router_same, rested_router_then};
-    ghost use Rattle.sb_router.specs.Routers.{IsKeptRouter, IsRouterTurn, IsWholeRouter, kept_router_same, kept_router_then};
+    ghost use Rattle.sb_router.specs.Routers.{IsKeptRouter, IsRestedRouter, IsRouterTurn, IsWholeRouter, kept_router_same, kept_router_then, rested_router_same, rested_router_then};
 
     ghost whole = { λ r. IsWholeRouter r };
 

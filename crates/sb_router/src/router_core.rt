@@ -5,10 +5,8 @@ ghost use Rattle.std.specs.Borrow.{sem, Lends};
 ghost use Rattle.sb_link.specs.declared.answers.Turn.TheVariants.{Moved};
 ghost use Rattle.sb_node.specs.Sides.{ring_side};
 ghost use Rattle.sb_port.specs.contracts.port.OutPort.{the_row as port_row};
-ghost use Rattle.sb_router.specs.CoreEnds.{core_with_port, core_with_ring};
-ghost use Rattle.sb_router.specs.Ends.{router_port, router_ring};
-ghost use Rattle.sb_router.specs.RestedRouters.{IsRestedRouter};
-ghost use Rattle.sb_router.specs.Routers.{IsKeptRouter, IsRouterTurn, IsWholeRouter, router_ports, router_rings};
+ghost use Rattle.sb_router.specs.RouterOf.{core_with_port, core_with_ring};
+ghost use Rattle.sb_router.specs.Routers.{IsKeptRouter, IsRestedRouter, IsRouterTurn, IsWholeRouter, router_port, router_ports, router_ring, router_rings};
 ghost use Rattle.sb_router.specs.contracts.router_core.RouterCore.{the_row};
 
 use crate::causes::both;

@@ -2,7 +2,7 @@
 
 ghost use Rattle.std.specs.Prelude.{◌≡◌};
 ghost use Rattle.sb_link.specs.Plans.{flow_of};
-ghost use Rattle.sb_router.specs.RouteOf.{route_of};
+ghost use Rattle.sb_router.specs.Ways.{route_of};
 
 use sb_link::Flow;
 

@@ -4,8 +4,7 @@ ghost use Rattle.std.specs.Prelude.{◌≡◌, ◌<◌, ◌==◌, ℕ, None, Som
 ghost use Rattle.sb_link.specs.RingPlans.{NetFlow};
 ghost use Rattle.sb_flow.specs.NetworkOf.{network_of};
 ghost use Rattle.sb_flow.specs.Tables.{paths_of};
-ghost use Rattle.sb_router.specs.RouteOf.{route_of};
-ghost use Rattle.sb_router.specs.Ways.{IsTableOf, link_on, place_of_link, place_on};
+ghost use Rattle.sb_router.specs.Ways.{IsTableOf, link_on, place_of_link, place_on, route_of};
 
 use crate::routes::Routes;
 use sb_flow::{Bundle, Paths};

@@ -5,9 +5,8 @@ ghost use Rattle.sb_flow.specs.NetworkOf.{network_of};
 ghost use Rattle.sb_flow.specs.Tables.{paths_of};
 ghost use Rattle.sb_flow.specs.Rings.{ring_link};
 ghost use Rattle.sb_port.specs.Ports.{fresh_port};
-ghost use Rattle.sb_router.specs.Fresh.{IsFreshPair};
-ghost use Rattle.sb_router.specs.Ends.{router_port};
-ghost use Rattle.sb_router.specs.Routers.{IsWholeRouter, router_ports};
+ghost use Rattle.sb_router.specs.Lanes.{IsFreshPair};
+ghost use Rattle.sb_router.specs.Routers.{IsWholeRouter, router_port, router_ports};
 ghost use Rattle.sb_router.specs.Samples.{crossing as crossing_network};
 
 use crate::router::Router;

@@ -4,8 +4,7 @@ use Rattle.std.proofs.lemmas.List.{append_assoc, append-nil, length-append, take
 use Rattle.std.proofs.Math.Nat.{div-div-eq-div-mul, pow-suc}
 use Rattle.std.proofs.lemmas.Nat.{div_below}
 use Rattle.std.specs.Int.{w64, to_le_bytes, byte_at, bytes_low_first}
-use Rattle.sb_packet.specs.Atomics.{number_of, bytes_of_number}
-use Rattle.sb_packet.specs.Memories.{overwritten}
+use Rattle.sb_packet.specs.Memories.{bytes_of_number, number_of, overwritten}
 use Rattle.sb_slot.specs.Slots.{number_bytes, body_number}
 
 pub byte_at-of : (i n : ℕ) → byte_at i n ≡ n / 256 ^ i % 256

@@ -8,7 +8,7 @@ use Rattle.std.proofs.lemmas.Nat.{pow-add, div_below, shr_below}
 use Rattle.std.proofs.lemmas.List.{replicate-append-replicate, length-append, length-drop, take_at, drop_at, take-replicate, drop-replicate}
 use Rattle.sb_slot.proofs.SlotLemmas.{length-number_bytes}
 use Rattle.sb_slot.specs.Slots.{number_bytes}
-use Rattle.sb_packet.specs.Atomics.{bytes_of_number}
+use Rattle.sb_packet.specs.Memories.{bytes_of_number}
 use Rattle.sb_slot.specs.SlotFaults.{padding_fault}
 use Rattle.sb_slot.specs.declared.item_fault.ItemFault.TheVariants.{Padding}
 

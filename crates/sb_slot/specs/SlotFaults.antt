@@ -3,7 +3,7 @@ use Rattle.std.specs.Prelude.{ℕ, ◌+◌, ◌*◌, ◌/◌, ◌%◌, ◌^◌, 
 use Rattle.std.specs.List.{position_from}
 use Rattle.std.specs.Option.{option_map, option_or}
 use Rattle.sb_word.specs.Faults.{word_fault}
-use Rattle.sb_packet.specs.Atomics.{bytes_of_number}
+use Rattle.sb_packet.specs.Memories.{bytes_of_number}
 use Rattle.sb_slot.specs.Slots.{word_in, flag_in, number_bytes, body_in}
 use Rattle.sb_slot.specs.declared.item_fault.ItemFault.{ItemFault}
 use Rattle.sb_slot.specs.declared.item_fault.ItemFault.TheVariants.{Flag, Word, Bytes, Range, Unaligned, Padding, Reserved}

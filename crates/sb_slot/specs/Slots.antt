@@ -1,7 +1,7 @@
 -- A slot: what goes over a ring, as eight numbers of 64 bits. This project's own.
 use Rattle.std.specs.Prelude.{ℕ, ◌≡◌, ◌+◌, ◌*◌, ◌/◌, ◌%◌, ◌^◌, List, [], ◌∷◌, ◌++◌, take, drop, length, replicate, slice_index}
 use Rattle.sb_word.specs.Words.{word_of, IsWordOf}
-use Rattle.sb_packet.specs.Atomics.{number_of, bytes_of_number}
+use Rattle.sb_packet.specs.Memories.{number_of, bytes_of_number}
 use Rattle.sb_packet.specs.declared.packet.Packet.{Packet}
 use Rattle.sb_packet.specs.declared.item.Item.{Item}
 use Rattle.sb_packet.specs.declared.item.Item.TheVariants as items

@@ -1,8 +1,7 @@
 //! The body of a slot, which four of its numbers hold.
 
 ghost use Rattle.std.specs.Prelude.{◌≡◌, ◌≤◌, ◌-◌, ◌++◌, true, drop, length, replicate, slice_index, take};
-ghost use Rattle.sb_packet.specs.Atomics.{number_of};
-ghost use Rattle.sb_packet.specs.Memories.{overwritten};
+ghost use Rattle.sb_packet.specs.Memories.{number_of, overwritten};
 ghost use Rattle.sb_slot.specs.Slots.{body_in, body_number, number_bytes};
 
 use sb_packet::BODY_BYTES;

@@ -3,7 +3,7 @@
 ghost use Rattle.std.specs.Prelude.{◌≡◌, ◌≤◌, ◌<◌, ◌+◌, ◌-◌, ◌%◌, ◌^◌, ◌==◌, not, drop, length, replicate, IfSome, OnOk};
 ghost use Rattle.std.specs.List.{position_from};
 ghost use Rattle.std.specs.Result.{result_err};
-ghost use Rattle.sb_packet.specs.Atomics.{bytes_of_number};
+ghost use Rattle.sb_packet.specs.Memories.{bytes_of_number};
 ghost use Rattle.sb_slot.specs.SlotFaults.{address_fault, bytes_fault, padding_fault, range_fault, reserved_fault, unaligned_fault};
 ghost use Rattle.sb_slot.specs.Slots.{body_in, number_bytes};
 

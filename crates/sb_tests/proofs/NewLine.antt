@@ -11,8 +11,7 @@ use Rattle.sb_node.specs.Sides.{RingSide, ring_side}
 use Rattle.sb_device.specs.Sides.{DeviceSide}
 use Rattle.sb_device.specs.Devices.{IsWholeDevice}
 use Rattle.sb_host.specs.Hosts.{HostSide, IsWholeHost}
-use Rattle.sb_router.specs.Fresh.{fresh_inlet}
-use Rattle.sb_router.specs.Lanes.{InletState, no_port, no_ring}
+use Rattle.sb_router.specs.Lanes.{InletState, fresh_inlet, no_port, no_ring}
 use Rattle.sb_router.specs.Routers.{IsWholeRouter, RouterSide, router_ports, router_rings}
 use Rattle.sb_member.specs.Members.{IsWholeMember}
 use Rattle.sb_member.specs.Joints.{IsJoined, IsRingPlaced, joint_at, receiver_of, sender_of}

@@ -11,7 +11,7 @@ ghost use Rattle.sb_device.specs.Devices.{IsWholeDevice};
 ghost use Rattle.sb_host.specs.Asked.{asked_by};
 ghost use Rattle.sb_host.specs.Hosts.{IsWholeHost};
 ghost use Rattle.sb_flow.specs.Tables.{paths_of};
-ghost use Rattle.sb_router.specs.Fresh.{IsFreshPair, fresh_inlet};
+ghost use Rattle.sb_router.specs.Lanes.{IsFreshPair, fresh_inlet};
 ghost use Rattle.sb_router.specs.Routers.{IsWholeRouter};
 ghost use Rattle.sb_tests.specs.Samples.{sample, sample_host};
 

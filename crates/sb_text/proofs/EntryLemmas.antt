@@ -5,8 +5,7 @@ use Rattle.std.proofs.lemmas.List.{get_or-map, length-map}
 use Rattle.std.proofs.lemmas.List.Elements.{All-head, All-tail}
 use Rattle.sb_word.specs.Words.{word_of}
 use Rattle.sb_packet.specs.Messages.{message_of}
-use Rattle.sb_packet.specs.Networks.{NetDevice}
-use Rattle.sb_packet.specs.Sides.{device_side}
+use Rattle.sb_packet.specs.Networks.{NetDevice, device_side}
 use Rattle.sb_packet.specs.declared.entry.Entry.{Entry}
 use Rattle.sb_flow.specs.NetworkOf.{network_of}
 use Rattle.sb_flow.specs.Rows.{device_of}
@@ -14,8 +13,7 @@ use Rattle.sb_flow.specs.declared.bundle.Bundle.{Bundle}
 use Rattle.sb_flow.specs.declared.device_plan.DevicePlan.{DevicePlan}
 use Rattle.sb_flow.proofs.Bundles.{device_there, few_devices}
 use Rattle.sb_text.specs.TextLines.{body_text, hex_number, text_line}
-use Rattle.sb_text.specs.Reports.{entry_line, is_printed}
-use Rattle.sb_text.specs.ReportParts.{entry_front, entry_middle, entry_part, is_shown, packet_text}
+use Rattle.sb_text.specs.Reports.{entry_front, entry_line, entry_middle, entry_part, is_printed, is_shown, packet_text}
 
 -- seven words
 in_seven : (a b c d e f g : List ℕ) → a ++ 32 ∷ (b ++ 32 ∷ []) ++ (c ++ (32 ∷ (d ++ 32 ∷ (e ++ 32 ∷ (f ++ 32 ∷ []))) ++ (g ++ 10 ∷ []))) ≡ text_line (a ∷ b ∷ c ∷ d ∷ e ∷ f ∷ g ∷ [])

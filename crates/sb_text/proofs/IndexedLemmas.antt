@@ -3,13 +3,12 @@ use Rattle.std.proofs.Common.{◌≡◌, ◌≤◌, ◌<◌, ℕ, zero, suc, ◌
 use Rattle.std.specs.Prelude.{flat_map, decimal, Result, Ok, Err, IsErr}
 use Rattle.std.specs.List.{enumerate_from}
 use Rattle.std.proofs.lemmas.List.{append-nil, take_more, take_all, take-append-drop, length-take, drop-drop}
-use Rattle.sb_packet.specs.Outcomes.{Outcome}
+use Rattle.sb_packet.specs.Answers.{Outcome}
 use Rattle.sb_text.specs.TextLines.{body_text}
-use Rattle.sb_text.specs.Reports.{outcome_line, state_text, image_rows}
+use Rattle.sb_text.specs.Reports.{image_rows, outcome_line, state_front, state_text}
 use Rattle.sb_packet.specs.declared.transaction.TxnState.{TxnState}
 use Rattle.sb_io.specs.declared.sink.Sink as sinks
 use Rattle.sb_text.specs.Printing.{IsPrinted, Prints}
-use Rattle.sb_text.specs.ReportParts.{state_front}
 use Rattle.sb_text.proofs.PrintLemmas.{printed_as, printed_before, printed_then, prints_then}
 
 -- one line after another, each by its item and its place

@@ -2,8 +2,7 @@
 use Rattle.std.proofs.Common.{◌≡◌, ◌≤◌, ◌-◌, ℕ, List, [], ◌∷◌, ◌++◌, ap, ◌∙◌, refl, append_assoc, arith, map, take, drop, length, get_or}
 use Rattle.std.proofs.lemmas.List.{take_all}
 use Rattle.std.specs.Prelude.{flat_map}
-use Rattle.sb_text.specs.LineWords.{word_text}
-use Rattle.sb_text.specs.TextLines.{text_line}
+use Rattle.sb_text.specs.TextLines.{text_line, word_text}
 use Rattle.sb_text.specs.declared.line_word.LineWord.{LineWord}
 
 -- the first word, a blank and each of the others, and the end

@@ -2,9 +2,8 @@
 use Rattle.std.proofs.Common.{◌≡◌, ◌+◌, ◌++◌, ◌∷◌, [], ◌∙◌, ℕ, List, Option, Some, None, Result, Ok, Err, ap, sym, refl, append_assoc}
 use Rattle.std.proofs.lemmas.List.{append-nil}
 use Rattle.sb_packet.specs.declared.transaction.Txn.{Txn}
-use Rattle.sb_text.specs.Sentences.{line_of}
+use Rattle.sb_text.specs.Sentences.{line_of, ◌>>=◌}
 use Rattle.sb_text.specs.Scripts.{at_line, before, transactions_from}
-use Rattle.sb_text.specs.Faults.{◌>>=◌}
 use Rattle.sb_text.specs.declared.line_fault.LineFault.{LineFault}
 use Rattle.sb_text.specs.declared.script_fault.ScriptFault.{ScriptFault}
 

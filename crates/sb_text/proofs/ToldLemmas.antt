@@ -6,8 +6,8 @@ use Rattle.std.proofs.lemmas.Bool.{and_parts, leb-true}
 use Rattle.std.proofs.Math.ListN.{get_or-map as get_or-map-both}
 use Rattle.std.proofs.lemmas.List.{get_or-map, length-map}
 use Rattle.sb_packet.specs.Networks.{NetDevice, NetHost, Network, device_size}
-use Rattle.sb_packet.specs.Outcomes.{RunResults}
-use Rattle.sb_flow.specs.Limits.{is_limited, is_limited_device, is_limited_host}
+use Rattle.sb_packet.specs.Answers.{RunResults}
+use Rattle.sb_flow.specs.Accepted.{is_limited, is_limited_device, is_limited_host}
 use Rattle.sb_flow.specs.NetworkOf.{network_of}
 use Rattle.sb_flow.specs.Rows.{device_of, host_of}
 use Rattle.sb_flow.specs.declared.bundle.Bundle.{Bundle}

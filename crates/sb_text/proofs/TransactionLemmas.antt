@@ -5,7 +5,7 @@ use Rattle.std.proofs.Math.Pow.{pow_pos}
 use Rattle.sb_packet.specs.Scripts.{HasBody}
 use Rattle.sb_packet.specs.declared.transaction.Kind.{Kind}
 use Rattle.sb_packet.specs.declared.transaction.Kind.TheVariants.{Read, Write, Posted, Atomic}
-use Rattle.sb_text.specs.Transactions.{body_of, count_of, whole_words}
+use Rattle.sb_text.specs.Sentences.{body_of, count_of, whole_words}
 
 -- as many whole words as the bytes fill are as long as the bytes
 whole : (size : ℕ) (body : List ℕ) (count : ℕ) → whole_words size body ≡ Some count → length body ≡ count * 2 ^ size

@@ -1,14 +1,10 @@
 pub mod Numerals
 pub mod Lines
-pub mod Faults
-pub mod Transactions
 pub mod Sentences
 pub mod Scripts
-pub mod TextLines
-pub mod Reports
 pub mod Told
 pub mod Printing
-pub mod LineWords
-pub mod ReportParts
+pub mod TextLines
+pub mod Reports
 pub mod Telling
 pub mod Samples

@@ -1,7 +1,7 @@
 -- A small network over two sides, for the tests of the printer.
 use Rattle.std.specs.Prelude.{ℕ, List, [], ◌∷◌, codes, false, Some, None}
 use Rattle.sb_packet.specs.Networks.{NetDevice, NetHost, NetLink, NetPlace, NetRouter, Network, at_device, at_host, at_router}
-use Rattle.sb_packet.specs.Outcomes.{RunResults}
+use Rattle.sb_packet.specs.Answers.{RunResults}
 use Rattle.sb_packet.specs.declared.transaction.Code.TheVariants.{Ok}
 use Rattle.sb_packet.specs.declared.transaction.Kind.TheVariants.{Posted, Read}
 use Rattle.sb_packet.specs.declared.transaction.Txn.{Txn}

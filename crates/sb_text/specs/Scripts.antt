@@ -1,9 +1,8 @@
 -- What a script's text says.
 use Rattle.std.specs.Prelude.{ℕ, ◌≢◌, ◌+◌, nat_le, List, [], ◌∷◌, length, sum_by, Option, Some, None, Result, Ok, Err}
 use Rattle.sb_packet.specs.declared.transaction.Txn.{Txn}
-use Rattle.sb_text.specs.Faults.{◌>>=◌, unless}
+use Rattle.sb_text.specs.Sentences.{line_of, unless, ◌>>=◌}
 use Rattle.sb_text.specs.Lines.{lines_of}
-use Rattle.sb_text.specs.Sentences.{line_of}
 use Rattle.sb_text.specs.declared.line_fault.LineFault.{LineFault}
 use Rattle.sb_text.specs.declared.line_fault.LineFault.TheVariants as line_faults
 use Rattle.sb_text.specs.declared.script_fault.ScriptFault.{ScriptFault}

@@ -1,6 +1,6 @@
 -- Results that tell what is printed of a network.
 use Rattle.sb_packet.specs.Networks.{Network}
-use Rattle.sb_packet.specs.Outcomes.{RunResults}
+use Rattle.sb_packet.specs.Answers.{RunResults}
 use Rattle.sb_text.specs.Told.{FitsNetwork}
 use Rattle.sb_text.specs.declared.results.Results as results_of
 

@@ -1,6 +1,8 @@
 -- The words of a report's lines, and the lines. This project's own.
-use Rattle.std.specs.Prelude.{ℕ, zero, suc, ◌/◌, ◌%◌, List, [], ◌∷◌, ◌++◌, codes, slice_index}
+use Rattle.std.specs.Prelude.{ℕ, zero, suc, ◌/◌, ◌%◌, List, [], ◌∷◌, ◌++◌, codes, slice_index, decimal}
 use Rattle.hex.specs.Hex.{encode_lower, lower_digits}
+use Rattle.sb_text.specs.declared.line_word.LineWord.{LineWord}
+use Rattle.sb_text.specs.declared.line_word.LineWord.TheVariants.{Number, Text}
 
 -- words with a blank between them, and a line feed
 abbrev pub text_line : List (List ℕ) → List ℕ
@@ -17,3 +19,10 @@ hex_number (suc count) n = hex_number count (n / 16) ++ slice_index lower_digits
 abbrev pub body_text : List ℕ → List ℕ
 body_text [] = codes "-"
 body_text (b ∷ bs) = encode_lower (b ∷ bs)
+
+-- The words of a line that is printed.
+
+-- a word is a text, or a number in decimal digits
+abbrev pub word_text : LineWord → List ℕ
+word_text (Text text) = text.now
+word_text (Number n) = decimal n

@@ -1,7 +1,7 @@
 -- What those tell of a run who print it.
 use Rattle.std.specs.Prelude.{ℕ, ◌≡◌, ◌<◌, List, [], length, map, slice_index_or}
 use Rattle.sb_packet.specs.Networks.{Network, device_size}
-use Rattle.sb_packet.specs.Outcomes.{Outcome, RunResults}
+use Rattle.sb_packet.specs.Answers.{Outcome, RunResults}
 
 -- what the transactions of the host at that place came to
 abbrev pub told_outcomes : RunResults → ℕ → List Outcome

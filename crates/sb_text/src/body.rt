@@ -3,7 +3,7 @@
 ghost use Rattle.std.specs.Prelude.{◌≡◌, ◌⊎◌, ◌*◌, length, IsErr, IfOk, IfErr};
 ghost use Rattle.std.specs.Bool.{OnTrue, OnFalse};
 ghost use Rattle.hex.specs.Hex.{decode_of, decode_pairs};
-ghost use Rattle.sb_text.specs.Transactions.{decoded as decoded_by};
+ghost use Rattle.sb_text.specs.Sentences.{decoded as decoded_by};
 ghost use Rattle.sb_text.specs.declared.line_fault.LineFault.TheVariants as faults;
 
 use crate::digit::digit;

@@ -13,7 +13,7 @@ mod words;
 ghost use Rattle.std.specs.Prelude.{◌≡◌, ◌<◌, ◌++◌, [], All, length, OnErr, OnOk};
 ghost use Rattle.sb_io.specs.Counts.{FaultsIncreased};
 ghost use Rattle.sb_io.specs.Written.{Gains, GainsPart};
-ghost use Rattle.sb_packet.specs.Outcomes.{RunResults};
+ghost use Rattle.sb_packet.specs.Answers.{RunResults};
 ghost use Rattle.sb_flow.specs.NetworkOf.{network_of};
 ghost use Rattle.sb_text.specs.Printing.{IsPrinted};
 ghost use Rattle.sb_text.specs.Reports.{first_line, history_lines, report_text};

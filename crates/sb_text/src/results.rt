@@ -1,7 +1,7 @@
 //! What a run came to, for those who print it.
 
 ghost use Rattle.std.specs.Prelude.{◌≡◌, ◌<◌, length};
-ghost use Rattle.sb_packet.specs.Outcomes.{Outcome, RunResults};
+ghost use Rattle.sb_packet.specs.Answers.{Outcome, RunResults};
 ghost use Rattle.sb_text.specs.Told.{told_image, told_outcome, HasOutcome};
 
 use sb_packet::TxnState;

@@ -2,7 +2,7 @@
 
 ghost use Rattle.std.specs.Prelude.{◌≡◌, ◌⊎◌, ◌≤◌, ◌*◌, ◌^◌, IfOk, IfErr};
 ghost use Rattle.sb_packet.specs.Scripts.{HasBody, IsTransaction};
-ghost use Rattle.sb_text.specs.Transactions.{body_of, count_of, most_words as most_words_of, placed as placed_by, told_count as told_by, transaction_of, whole_words as words_filled};
+ghost use Rattle.sb_text.specs.Sentences.{body_of, count_of, most_words as most_words_of, placed as placed_by, told_count as told_by, transaction_of, whole_words as words_filled};
 ghost use Rattle.sb_text.specs.declared.line_fault.LineFault.TheVariants as faults;
 
 use crate::body::decoded;

@@ -1,6 +1,6 @@
 -- Inputs of `check`, parted.
 use Rattle.std.proofs.Common.{◌≡◌, refl, codes, Some, None, [], ◌∷◌, ◌++◌}
-use Rattle.sb_top.specs.Evidence.{report_split}
+use Rattle.sb_top.specs.Judgements.{report_split}
 
 bundle_and_report : report_split (codes "{}\n%report\nsb 1\nend\n") ≡ Some (codes "{}\n", codes "sb 1\nend\n")
 bundle_and_report = refl

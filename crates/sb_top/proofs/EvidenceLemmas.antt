@@ -7,7 +7,7 @@ use Rattle.std.proofs.lemmas.Bool.{lt-ltb, ltb-true, ltb_from_iff}
 use Rattle.std.proofs.lemmas.List.{append_assoc, drop-drop}
 use Rattle.sb_text.specs.Lines.{is_line_end}
 use Rattle.sb_check.specs.ReportLines.{begun_by, report_lines}
-use Rattle.sb_top.specs.Evidence.{is_divider, report_split}
+use Rattle.sb_top.specs.Judgements.{is_divider, report_split}
 
 begun_is : (byte : ℕ) (lines : List (List ℕ)) → concat (begun_by byte lines) ≡ byte ∷ concat lines
 begun_is byte [] = refl

@@ -11,9 +11,8 @@ use Rattle.sb_word.specs.declared.command.Op.TheVariants.{ReqWrPosted}
 use Rattle.sb_packet.specs.Messages.{Message, message_of}
 use Rattle.sb_packet.specs.Accesses.{Access, access_at, accesses_of, message_accesses}
 use Rattle.sb_packet.specs.Memories.{MemoryState, access_step, answer_by, answers_in, answers_to, memory_after}
-use Rattle.sb_packet.specs.Answers.{answer_body, answer_code}
+use Rattle.sb_packet.specs.Answers.{Outcome, answer_body, answer_code, outcome_of}
 use Rattle.sb_packet.specs.Cuts.{transaction_packets}
-use Rattle.sb_packet.specs.Outcomes.{Outcome, outcome_of}
 use Rattle.sb_packet.specs.Scripts.{request_of, transaction_accesses, transaction_message}
 use Rattle.sb_top.specs.Solo.{solo_host}
 use Rattle.sb_packet.specs.declared.packet.Packet.{Packet}

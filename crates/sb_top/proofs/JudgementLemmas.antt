@@ -6,8 +6,7 @@ use Rattle.sb_check.specs.Verdicts.{IsFault, IsLawfulReport}
 use Rattle.sb_check.specs.declared.verdict.Reason.{Reason}
 use Rattle.sb_check.specs.declared.verdict.Verdict.{Verdict}
 use Rattle.sb_check.specs.declared.verdict.Verdict.TheVariants as verdicts
-use Rattle.sb_top.specs.Evidence.{IsEvidence}
-use Rattle.sb_top.specs.Judgements.{RejectedReport, rejection_text}
+use Rattle.sb_top.specs.Judgements.{IsEvidence, RejectedReport, rejection_text}
 
 -- verdicts, told apart by a number
 abbrev place_of : Verdict → ℕ

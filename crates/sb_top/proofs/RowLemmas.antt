@@ -3,9 +3,8 @@ use Rattle.std.proofs.Common.{◌≡◌, ◌≤◌, ℕ, ◌-◌, List, [], ◌�
 use Rattle.std.specs.Prelude.{map}
 use Rattle.std.specs.List.{AllByRecursion}
 use Rattle.std.proofs.lemmas.List.{take-append-le, drop-append-le, length-drop}
-use Rattle.sb_packet.specs.Outcomes.{Outcome}
-use Rattle.sb_top.specs.Collected.{Collected}
-use Rattle.sb_top.specs.Rows.{outcome_in, EndsBy}
+use Rattle.sb_packet.specs.Answers.{Outcome}
+use Rattle.sb_top.specs.Rows.{Collected, EndsBy, outcome_in}
 use Rattle.sb_top.specs.declared.outcomes.Row.{Row}
 
 pub outcome_stays : (bytes more : List ℕ) (place : ℕ) (row : Row) → place ≤ length bytes → EndsBy place row → outcome_in (bytes ++ more) row ≡ outcome_in bytes row

@@ -1,7 +1,7 @@
 -- What `solo` makes of small scripts, computed.
 use Rattle.std.proofs.Common.{◌≡◌, refl, [], ◌∷◌, List}
 use Rattle.std.proofs.lemmas.List.Elements.{All-from_recursion}
-use Rattle.sb_packet.specs.Outcomes.{host_outcomes}
+use Rattle.sb_packet.specs.Answers.{host_outcomes}
 use Rattle.sb_packet.specs.declared.transaction.Txn.{Txn}
 use Rattle.sb_packet.specs.declared.transaction.Kind.TheVariants.{Read, Posted}
 use Rattle.sb_packet.specs.declared.transaction.Code.TheVariants as the_codes

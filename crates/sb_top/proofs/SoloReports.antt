@@ -1,7 +1,7 @@
 -- What a script's run tells is what its journal comes to, and of the size of its network.
 use Rattle.std.proofs.Common.{◌≡◌, List, [], ◌∷◌, length, sym, ap, subst, arith}
 use Rattle.std.specs.Prelude.{All, get_or, map}
-use Rattle.sb_packet.specs.Outcomes.{RunResults, run_results}
+use Rattle.sb_packet.specs.Answers.{RunResults, run_results}
 use Rattle.sb_packet.specs.Scripts.{IsTransaction}
 use Rattle.sb_packet.specs.declared.entry.Entry.{Entry}
 use Rattle.sb_packet.specs.declared.transaction.Txn.{Txn}

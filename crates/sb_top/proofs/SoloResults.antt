@@ -10,8 +10,7 @@ use Rattle.sb_packet.specs.Memories.{MemoryState, memory_after, answers_in}
 use Rattle.sb_packet.specs.Networks.{opening_memory, has_address}
 use Rattle.sb_packet.specs.Scripts.{IsTransaction, transaction_message, transaction_accesses, script_accesses}
 use Rattle.sb_packet.specs.Journals.{journal_accesses}
-use Rattle.sb_packet.specs.Answers.{answer_at_first, answer_from, access_reply, transaction_answers, unreached_by, final_memory}
-use Rattle.sb_packet.specs.Outcomes.{Outcome, RunResults, outcome_of, host_outcomes, run_results}
+use Rattle.sb_packet.specs.Answers.{Outcome, RunResults, access_reply, answer_at_first, answer_from, final_memory, host_outcomes, outcome_of, run_results, transaction_answers, unreached_by}
 use Rattle.sb_top.specs.Solo.{solo_network, solo_host, solo_device, IsSoloJournal}
 use Rattle.sb_top.specs.SoloRuns.{solo_opening, solo_outcomes_from, solo_memory_from, solo_results}
 use Rattle.sb_packet.specs.declared.entry.Entry.{Entry}

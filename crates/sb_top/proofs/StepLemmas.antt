@@ -1,7 +1,7 @@
 -- What is collected where nothing comes.
 use Rattle.std.proofs.Common.{◌≡◌, ◌-◌, [], ◌++◌, refl, arith}
 use Rattle.std.proofs.lemmas.List.{append-nil}
-use Rattle.sb_top.specs.Collected.{Collected}
+use Rattle.sb_top.specs.Rows.{Collected}
 
 -- nothing comes to what was collected
 pub nothing_collected : (c : Collected) → c ≡ record c { next = c.next ++ []; spare_bytes = c.spare_bytes - 0 }

@@ -8,9 +8,8 @@ use Rattle.sb_word.specs.declared.command.Op.TheVariants.{ReqRd, ReqWr, ReqAtomi
 use Rattle.sb_packet.specs.Messages.{Message}
 use Rattle.sb_packet.specs.Accesses.{Access, access_at, message_accesses}
 use Rattle.sb_packet.specs.Memories.{reply}
-use Rattle.sb_packet.specs.Answers.{unreached_by, answer_code, answer_body}
+use Rattle.sb_packet.specs.Answers.{answer_body, answer_code, code_numbered, outcome_of, unreached_by}
 use Rattle.sb_packet.specs.Scripts.{request_of, transaction_message, transaction_accesses}
-use Rattle.sb_packet.specs.Outcomes.{code_numbered, outcome_of}
 use Rattle.sb_top.specs.Solo.{solo_host}
 use Rattle.sb_packet.specs.declared.transaction.Code.TheVariants.{NetErr}
 use Rattle.sb_packet.specs.declared.transaction.Kind.{Kind}

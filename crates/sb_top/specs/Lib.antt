@@ -1,13 +1,10 @@
 pub mod Solo
 pub mod SoloRuns
 pub mod Inputs
-pub mod Collected
 pub mod Rows
 pub mod Steps
 pub mod Refusals
-pub mod Evidence
 pub mod Judgements
-pub mod Effects
 pub mod BundleRuns
 pub mod Schedules
 pub mod TopCall

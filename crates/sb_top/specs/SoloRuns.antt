@@ -4,8 +4,7 @@ use Rattle.sb_packet.specs.Accesses.{Access}
 use Rattle.sb_packet.specs.Memories.{MemoryState, memory_after, answers_in}
 use Rattle.sb_packet.specs.Networks.{has_address, opening_of}
 use Rattle.sb_packet.specs.Scripts.{transaction_accesses}
-use Rattle.sb_packet.specs.Answers.{unreached_by}
-use Rattle.sb_packet.specs.Outcomes.{Outcome, RunResults, outcome_of}
+use Rattle.sb_packet.specs.Answers.{Outcome, RunResults, outcome_of, unreached_by}
 use Rattle.sb_top.specs.Solo.{solo_device, solo_host}
 use Rattle.sb_top.specs.declared.solo.ScriptRun.{ScriptRun}
 use Rattle.sb_packet.specs.declared.transaction.Txn.{Txn}

@@ -3,7 +3,7 @@ use Rattle.std.specs.Prelude.{ℕ, ◌≡◌, ◌+◌, ◌*◌, ◌^◌, List, [
 use Rattle.sb_packet.specs.Accesses.{Access, accesses_of}
 use Rattle.sb_packet.specs.Memories.{MemoryState, answers_to}
 use Rattle.sb_packet.specs.Networks.{has_address}
-use Rattle.sb_packet.specs.Outcomes.{Outcome, code_numbered}
+use Rattle.sb_packet.specs.Answers.{Outcome, code_numbered}
 use Rattle.sb_packet.specs.Cuts.{transaction_packets}
 use Rattle.sb_top.specs.Solo.{solo_device, solo_host}
 use Rattle.sb_packet.specs.declared.entry.Entry.{Entry}

@@ -14,8 +14,7 @@ use Rattle.sb_words.specs.declared.command.Command.{Command}
 use Rattle.sb_words.specs.declared.command.Command.TheVariants as commands
 use Rattle.sb_gen.specs.Generated.{gen_network}
 use Rattle.sb_gen.specs.Summary.{gen_text}
-use Rattle.sb_top.specs.BundleRuns.{RanNetwork}
-use Rattle.sb_top.specs.Effects.{Effects, IsUntouched}
+use Rattle.sb_top.specs.BundleRuns.{Effects, IsUntouched, RanNetwork}
 use Rattle.sb_top.specs.Inputs.{HasRead, reads_input}
 use Rattle.sb_top.specs.Judgements.{ApprovedReport, HasReport, RefusedReport, RejectedReport}
 use Rattle.sb_top.specs.Refusals.{RefusedBundle, RefusedScript}

@@ -5,8 +5,7 @@ ghost use Rattle.sb_packet.specs.Networks.{Network};
 ghost use Rattle.sb_flow.specs.NetworkOf.{network_of};
 ghost use Rattle.sb_net.specs.Nets.{CanRun, RanToTheEnd};
 ghost use Rattle.sb_top.specs.Schedules.{HasWorkers, groups_by};
-ghost use Rattle.sb_top.specs.BundleRuns.{HasRunAs};
-ghost use Rattle.sb_top.specs.Effects.{effects_in};
+ghost use Rattle.sb_top.specs.BundleRuns.{HasRunAs, effects_in};
 
 use crate::schedule::Schedule;
 use sb_drive::Gate;

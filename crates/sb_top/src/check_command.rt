@@ -3,7 +3,7 @@
 ghost use Rattle.std.specs.Prelude.{◌≡◌, ◌≢◌, ◌≤◌, ◌+◌, ◌^◌, ◌⊎◌, ℕ, [], ◌∷◌, codes, length};
 ghost use Rattle.sb_io.specs.Counts.{FaultsIncreased};
 ghost use Rattle.sb_io.specs.Written.{Gains, GainsPart};
-ghost use Rattle.sb_text.specs.LineWords.{word_text};
+ghost use Rattle.sb_text.specs.TextLines.{word_text};
 ghost use Rattle.sb_check.specs.declared.verdict.Verdict.TheVariants as verdicts;
 ghost use Rattle.sb_check.specs.declared.verdict.Reason.{Reason as AnyReason};
 ghost use Rattle.sb_top.specs.Judgements.{ApprovedReport, RefusedReport, RejectedReport, reason_text, rejection_text};

@@ -5,7 +5,7 @@ ghost use Rattle.sb_io.specs.Counts.{FaultsIncreased};
 ghost use Rattle.sb_words.specs.Commands.{IsCommandInRange, command_in};
 ghost use Rattle.sb_words.specs.declared.command.Command.{Command as AnyCommand};
 ghost use Rattle.sb_words.specs.declared.command.Command.TheVariants as commands;
-ghost use Rattle.sb_top.specs.Effects.{IsUntouched, effects_in};
+ghost use Rattle.sb_top.specs.BundleRuns.{IsUntouched, effects_in};
 ghost use Rattle.sb_top.specs.TopCall.{IsAnyText, IsFaultless, IsRefusal, IsRejection, IsRun, IsTooLong, IsUsage, Ran, Refused, Rejected, Wrote, WrotePart};
 
 use crate::bundle_command::run_input;

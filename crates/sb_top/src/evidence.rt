@@ -1,7 +1,7 @@
 //! The input of `check`: the text of a bundle, the line `%report`, and a report.
 
 ghost use Rattle.std.specs.Prelude.{◌≡◌, ◌≤◌, None, Some, IfSome, MatchOption, length};
-ghost use Rattle.sb_top.specs.Evidence.{is_divider as divides, report_split};
+ghost use Rattle.sb_top.specs.Judgements.{is_divider as divides, report_split};
 
 use sb_check::ReportLines;
 

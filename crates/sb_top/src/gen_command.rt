@@ -2,7 +2,7 @@
 
 ghost use Rattle.std.specs.Prelude.{◌≡◌, ◌≢◌, ◌⊎◌, []};
 ghost use Rattle.sb_io.specs.Counts.{FaultsIncreased};
-ghost use Rattle.sb_top.specs.Effects.{effects_in};
+ghost use Rattle.sb_top.specs.BundleRuns.{effects_in};
 ghost use Rattle.sb_top.specs.TopCall.{RanGenerated, Wrote, WrotePart};
 
 use crate::bundle_run::run_bundle;

@@ -3,7 +3,7 @@
 ghost use Rattle.std.specs.Prelude.{◌≡◌, ◌≤◌, ℕ, List, length, sum_by, All};
 ghost use Rattle.sb_packet.specs.Journals.{IsLawful};
 ghost use Rattle.sb_packet.specs.Memories.{MemoryState};
-ghost use Rattle.sb_packet.specs.Outcomes.{run_results};
+ghost use Rattle.sb_packet.specs.Answers.{run_results};
 ghost use Rattle.sb_packet.specs.Scripts.{IsTransaction};
 ghost use Rattle.sb_packet.specs.declared.entry.Entry.{Entry};
 ghost use Rattle.sb_packet.specs.declared.transaction.Txn.{Txn};

@@ -1,7 +1,7 @@
 //! What became of each transaction of a script.
 
 ghost use Rattle.std.specs.Prelude.{◌≡◌, ◌≤◌, ◌<◌, ◌+◌, ◌-◌, ◌++◌, [], ◌∷◌, length, replicate, slice_index_or, IfOk};
-ghost use Rattle.sb_packet.specs.Outcomes.{Outcome};
+ghost use Rattle.sb_packet.specs.Answers.{Outcome};
 
 use sb_packet::TxnState;
 use std::alloc::{AllocError, Global};
@@ -29,8 +29,7 @@ pub struct Outcomes {
 impl Model for Outcomes {
     ghost use Rattle.std.specs.Prelude.{◌≤◌, ◌+◌, drop, map, vec_len, vec_capacity};
     ghost use Rattle.std.specs.List.{AllByRecursion};
-    ghost use Rattle.sb_top.specs.Collected.{Collected};
-    ghost use Rattle.sb_top.specs.Rows.{outcome_in, EndsBy};
+    ghost use Rattle.sb_top.specs.Rows.{Collected, EndsBy, outcome_in};
 
     ghost Value = { Collected };
 

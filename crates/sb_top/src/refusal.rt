@@ -3,8 +3,7 @@
 ghost use Rattle.std.specs.Prelude.{◌≡◌, ◌∷◌, decimal, codes, map};
 ghost use Rattle.sb_io.specs.Counts.{FaultsIncreased};
 ghost use Rattle.sb_io.specs.Written.{Gains, GainsPart};
-ghost use Rattle.sb_text.specs.LineWords.{word_text};
-ghost use Rattle.sb_text.specs.TextLines.{text_line};
+ghost use Rattle.sb_text.specs.TextLines.{text_line, word_text};
 ghost use Rattle.sb_text.specs.declared.printed.Printed.TheVariants as printed;
 ghost use Rattle.sb_top.specs.Refusals.{line_fault_text, load_fault_words, place_words, refusal_text, script_fault_words};
 

@@ -2,12 +2,11 @@
 
 ghost use Rattle.std.specs.Prelude.{◌≡◌, ◌≤◌, ◌<◌, ◌+◌, ◌-◌, ◌*◌, ◌^◌, ◌++◌, [], ◌∷◌, All, IfOk, IsTrue, OnErr, OnOk, length, map, true};
 ghost use Rattle.sb_packet.specs.Accesses.{accesses_of};
-ghost use Rattle.sb_packet.specs.Answers.{answer_body, answer_code};
+ghost use Rattle.sb_packet.specs.Answers.{answer_body, answer_code, outcome_of};
 ghost use Rattle.sb_packet.specs.Cuts.{transaction_packets};
 ghost use Rattle.sb_packet.specs.Journals.{is_request, with_entry};
 ghost use Rattle.sb_packet.specs.Memories.{answers_to, memory_after};
 ghost use Rattle.sb_packet.specs.Networks.{has_address};
-ghost use Rattle.sb_packet.specs.Outcomes.{outcome_of};
 ghost use Rattle.sb_packet.specs.Scripts.{transaction_accesses, IsTransaction};
 ghost use Rattle.sb_top.specs.Solo.{IsSoloJournal, aimed_packets, entry_messages, solo_device, solo_host};
 ghost use Rattle.sb_top.specs.SoloRuns.{solo_answers, solo_memory_from, solo_opening, solo_outcomes_from, solo_step};

@@ -3,7 +3,7 @@
 ghost use Rattle.std.specs.Prelude.{◌≡◌, ◌≢◌, ◌≤◌, ◌^◌, ◌⊎◌, [], All, IfOk, None, OnErr, OnOk, false, length, sum_by};
 ghost use Rattle.sb_io.specs.Counts.{FaultsIncreased};
 ghost use Rattle.sb_io.specs.Written.{Gains, GainsPart};
-ghost use Rattle.sb_packet.specs.Outcomes.{run_results};
+ghost use Rattle.sb_packet.specs.Answers.{run_results};
 ghost use Rattle.sb_packet.specs.Scripts.{IsTransaction};
 ghost use Rattle.sb_flow.specs.NetworkOf.{network_of};
 ghost use Rattle.sb_text.specs.Reports.{run_report};

@@ -6,9 +6,7 @@ use Rattle.std.proofs.lemmas.List.{get_or-map, length-map}
 use Rattle.sb_packet.specs.Networks.{NetHost, Network, has_address}
 use Rattle.sb_flow.specs.Ways.{aims_at}
 use Rattle.sb_packet.specs.declared.transaction.Txn.{Txn}
-use Rattle.sb_flow.specs.Firsts.{first_told}
-use Rattle.sb_flow.specs.Ranges.{overlapping_device}
-use Rattle.sb_flow.specs.Routes.{RouteAt, lost_on_way}
+use Rattle.sb_flow.specs.Accepted.{RouteAt, first_told, lost_on_way, overlapping_device}
 use Rattle.sb_flow.specs.Rows.{device_of, host_of}
 use Rattle.sb_flow.specs.declared.device_plan.DevicePlan.{DevicePlan}
 use Rattle.sb_flow.specs.declared.host_plan.HostPlan.{HostPlan}

@@ -1,11 +1,11 @@
 -- Steps of a chain that found no fault.
 use Rattle.std.proofs.Common.{◌≡◌, ℕ, ◌+◌, Bool, true, false, List, [], ◌∷◌, refl, Option, Some, None, Result, Ok, Err}
 use Rattle.std.specs.List.{list_all}
-use Rattle.sb_text.specs.Faults.{◌>>=◌, some_or, unless}
+use Rattle.sb_text.specs.Sentences.{◌>>=◌, some_or, unless}
 use Rattle.sb_fields.specs.Counts.{each_item, in_range}
 use Rattle.sb_fields.specs.Paths.{item_of}
 use Rattle.sb_fields.specs.declared.fault.LoadFault.{LoadFault}
-use Rattle.sb_flow.specs.Limits.{is_from_to}
+use Rattle.sb_flow.specs.Accepted.{is_from_to}
 use Rattle.sb_topology.specs.Tests.{unless_found}
 
 -- both steps went well

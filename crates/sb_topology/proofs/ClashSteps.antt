@@ -4,7 +4,7 @@ use Rattle.std.specs.Prelude.{option_map}
 use Rattle.std.specs.List.{position_from}
 use Rattle.std.specs.Option.{option_or}
 use Rattle.std.proofs.lemmas.List.{length-map, length-take-le, map-append, take_more}
-use Rattle.sb_flow.specs.Firsts.{Clash, clash_behind}
+use Rattle.sb_flow.specs.Accepted.{Clash, clash_behind}
 
 module _ {A B : Type 0} (clash : B → B → Bool) (see : A → B) (xs : List A) (i : ℕ) (x : A) (below : i < length xs) (here : x ≡ get_or xs i x) where
   many : length (map see (take i xs)) ≡ i

@@ -3,8 +3,8 @@ use Rattle.std.proofs.Common.{◌≡◌, ℕ, Bool, true, ◌&&◌, List, [], co
 use Rattle.std.specs.Prelude.{nat_le}
 use Rattle.std.specs.List.{list_all}
 use Rattle.std.proofs.lemmas.Bool.{and_parts}
-use Rattle.sb_text.specs.Faults.{◌>>=◌}
-use Rattle.sb_flow.specs.Limits.{is_from_to}
+use Rattle.sb_text.specs.Sentences.{◌>>=◌}
+use Rattle.sb_flow.specs.Accepted.{is_from_to}
 use Rattle.sb_fields.specs.Counts.{all_pages, bundle_counts, device_counts, devices_counts, each_item, host_counts, in_range, link_counts, list_counts, router_counts}
 use Rattle.sb_fields.specs.Written.{WrittenBundle, WrittenDevice, WrittenHost, WrittenLink, WrittenRouter}
 use Rattle.sb_fields.specs.declared.fault.LoadFault.{LoadFault}

@@ -7,13 +7,9 @@ use Rattle.std.proofs.lemmas.Bool.{leb-true}
 use Rattle.std.proofs.lemmas.List.{length-map}
 use Rattle.std.proofs.lemmas.List.Elements.{All-nil}
 use Rattle.sb_packet.specs.Networks.{NetDevice, NetHost, NetLink, NetPlace, Network, at_device, at_host, at_router}
-use Rattle.sb_text.specs.Faults.{◌>>=◌, some_or, unless}
+use Rattle.sb_text.specs.Sentences.{◌>>=◌, some_or, unless}
 use Rattle.sb_flow.specs.Ends.{backward_link, odd_width, unfit_link, unlinked_place}
-use Rattle.sb_flow.specs.Firsts.{Clash, clash_behind, first_clash}
-use Rattle.sb_flow.specs.Limits.{is_from_to, is_limited, is_limited_device, is_limited_host, is_limited_link, is_limited_router, word_count}
-use Rattle.sb_flow.specs.Names.{is_there, names_what_is_there, repeated_id, repeated_link_name, repeated_name}
-use Rattle.sb_flow.specs.Ranges.{misplaced_device, overfull_device, overlapping_device}
-use Rattle.sb_flow.specs.Routes.{RouteAt, route_fault}
+use Rattle.sb_flow.specs.Accepted.{Clash, RouteAt, clash_behind, first_clash, is_from_to, is_limited, is_limited_device, is_limited_host, is_limited_link, is_limited_router, is_there, misplaced_device, names_what_is_there, overfull_device, overlapping_device, repeated_id, repeated_link_name, repeated_name, route_fault, word_count}
 use Rattle.sb_flow.proofs.Maps.{position_of_map, sum_by_map}
 use Rattle.sb_flow.proofs.RowNetworks.{Kept}
 use Rattle.sb_fields.specs.Counts.{all_pages, bundle_counts}

@@ -4,11 +4,9 @@ use Rattle.std.specs.Prelude.{nat_le}
 use Rattle.std.proofs.lemmas.Bool.{le-leb}
 use Rattle.std.proofs.lemmas.List.{length-map}
 use Rattle.sb_packet.specs.Networks.{NetHost, NetLink, Network}
-use Rattle.sb_text.specs.Faults.{◌>>=◌, some_or}
-use Rattle.sb_flow.specs.Accepted.{IsAccepted}
+use Rattle.sb_text.specs.Sentences.{◌>>=◌, some_or}
+use Rattle.sb_flow.specs.Accepted.{IsAccepted, repeated_id, word_count}
 use Rattle.sb_flow.specs.Ends.{unlinked_place}
-use Rattle.sb_flow.specs.Limits.{word_count}
-use Rattle.sb_flow.specs.Names.{repeated_id}
 use Rattle.sb_fields.specs.Counts.{bundle_counts}
 use Rattle.sb_fields.specs.Json.{spelled, written_by, written_in}
 use Rattle.sb_fields.specs.Objects.{bundle_in}

@@ -6,9 +6,7 @@ use Rattle.std.specs.Option.{option_or}
 use Rattle.sb_packet.specs.Networks.{NetDevice, NetHost, Network, has_address}
 use Rattle.sb_flow.specs.Ways.{aims_at, is_aimed_at, links_from, next_link}
 use Rattle.sb_packet.specs.declared.transaction.Txn.{Txn}
-use Rattle.sb_flow.specs.Firsts.{first_told}
-use Rattle.sb_flow.specs.Ranges.{overlapping_device}
-use Rattle.sb_flow.specs.Routes.{lost_behind, lost_on_way}
+use Rattle.sb_flow.specs.Accepted.{first_told, lost_behind, lost_on_way, overlapping_device}
 use Rattle.sb_flow.proofs.Apart.{device_at-is}
 use Rattle.sb_flow.proofs.Maps.{list_any_agree}
 use Rattle.sb_topology.proofs.Numbers.{numbers_more}

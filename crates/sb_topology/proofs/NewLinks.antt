@@ -6,9 +6,8 @@ use Rattle.std.specs.Option.{option_or}
 use Rattle.std.proofs.lemmas.Bool.{and_parts}
 use Rattle.std.proofs.lemmas.List.{append-nil}
 use Rattle.sb_packet.specs.Networks.{NetLink, NetPlace, at_device, at_host, at_router}
-use Rattle.sb_text.specs.Faults.{◌>>=◌}
-use Rattle.sb_flow.specs.Firsts.{clash_behind}
-use Rattle.sb_flow.specs.Limits.{is_limited_link}
+use Rattle.sb_text.specs.Sentences.{◌>>=◌}
+use Rattle.sb_flow.specs.Accepted.{clash_behind, is_limited_link}
 use Rattle.sb_flow.proofs.Maps.{position_of_map}
 use Rattle.sb_fields.specs.Paths.{item_of}
 use Rattle.sb_fields.specs.Written.{WrittenLink}

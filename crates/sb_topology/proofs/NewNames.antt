@@ -6,7 +6,7 @@ use Rattle.std.specs.Option.{option_map_or}
 use Rattle.std.proofs.lemmas.Bool.{and_parts, lt-ltb}
 use Rattle.std.proofs.lemmas.List.{append-nil}
 use Rattle.sb_packet.specs.Names.{is_name}
-use Rattle.sb_flow.specs.Firsts.{Clash, clash_behind}
+use Rattle.sb_flow.specs.Accepted.{Clash, clash_behind}
 use Rattle.sb_flow.proofs.Clashes.{option_or-None}
 use Rattle.sb_fields.specs.Paths.{item_of}
 use Rattle.sb_fields.specs.Written.{WrittenRoute, WrittenRouter}

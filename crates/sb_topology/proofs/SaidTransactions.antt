@@ -8,12 +8,10 @@ use Rattle.sb_packet.specs.Scripts.{HasBody, IsOneWordIfAtomic, IsTransaction}
 use Rattle.sb_packet.specs.declared.transaction.Kind.{Kind}
 use Rattle.sb_packet.specs.declared.transaction.Kind.TheVariants.{Read, Write, Posted, Atomic}
 use Rattle.sb_packet.specs.declared.transaction.Txn.{Txn}
-use Rattle.sb_text.specs.Faults.{◌>>=◌, some_or, unless}
+use Rattle.sb_text.specs.Sentences.{arguments_of, body_of, count_of, is_comment, kind_of, line_of, most_words, placed, sentence_of, some_or, told_count, transaction_of, unless, ◌>>=◌}
 use Rattle.sb_text.specs.Lines.{words_in_line}
 use Rattle.sb_text.specs.Numerals.{numeral_of}
 use Rattle.sb_text.specs.Scripts.{before}
-use Rattle.sb_text.specs.Sentences.{arguments_of, is_comment, kind_of, line_of, sentence_of}
-use Rattle.sb_text.specs.Transactions.{body_of, count_of, most_words, placed, told_count, transaction_of}
 use Rattle.sb_text.specs.declared.line_fault.LineFault.{LineFault}
 use Rattle.sb_text.specs.declared.line_fault.LineFault.TheVariants as faults
 use Rattle.sb_text.proofs.TransactionLemmas.{has_body}

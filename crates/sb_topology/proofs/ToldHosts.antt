@@ -8,7 +8,7 @@ use Rattle.sb_packet.specs.Networks.{NetHost}
 use Rattle.sb_packet.specs.declared.transaction.Txn.{Txn}
 use Rattle.sb_text.specs.Scripts.{before}
 use Rattle.sb_text.specs.Sentences.{line_of}
-use Rattle.sb_flow.specs.Limits.{is_limited_host}
+use Rattle.sb_flow.specs.Accepted.{is_limited_host}
 use Rattle.sb_fields.specs.Written.{WrittenHost}
 use Rattle.sb_topology.specs.Lines.{hosts_by, said_by, script_by, told_host}
 use Rattle.sb_topology.proofs.Chains.{bind_ok}

@@ -2,7 +2,7 @@
 use Rattle.std.specs.Prelude.{ℕ, List, [], Result, Ok}
 use Rattle.sb_packet.specs.Networks.{Network}
 use Rattle.sb_flow.specs.Ends.{odd_width}
-use Rattle.sb_text.specs.Faults.{◌>>=◌}
+use Rattle.sb_text.specs.Sentences.{◌>>=◌}
 use Rattle.sb_fields.specs.Json.{written_by}
 use Rattle.sb_fields.specs.Written.{WrittenBundle}
 use Rattle.sb_fields.specs.declared.fault.LoadFault.{LoadFault}

@@ -1,8 +1,7 @@
 -- What the code holds while it loads a bundle, in the words of the definitions.
 use Rattle.std.specs.Prelude.{length, map}
 use Rattle.sb_packet.specs.Networks.{NetLink, Network}
-use Rattle.sb_flow.specs.Firsts.{Clash}
-use Rattle.sb_flow.specs.Routes.{RouteAt}
+use Rattle.sb_flow.specs.Accepted.{Clash, RouteAt}
 use Rattle.sb_flow.specs.Rows.{device_of, link_of, place_of, net_router_of, rows_network}
 use Rattle.sb_fields.specs.Written.{WrittenHost}
 use Rattle.sb_topology.specs.Names.{GivenNames}

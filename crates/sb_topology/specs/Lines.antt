@@ -2,9 +2,8 @@
 use Rattle.std.specs.Prelude.{ℕ, ◌+◌, List, [], ◌∷◌, ◌++◌, Option, Result, Ok, Err}
 use Rattle.sb_packet.specs.Networks.{NetHost}
 use Rattle.sb_packet.specs.declared.transaction.Txn.{Txn}
-use Rattle.sb_text.specs.Faults.{◌>>=◌}
+use Rattle.sb_text.specs.Sentences.{line_of, ◌>>=◌}
 use Rattle.sb_text.specs.Scripts.{before}
-use Rattle.sb_text.specs.Sentences.{line_of}
 use Rattle.sb_text.specs.declared.line_fault.LineFault.{LineFault}
 use Rattle.sb_fields.specs.Written.{WrittenHost}
 use Rattle.sb_fields.specs.declared.fault.LoadFault.{LoadFault}

@@ -4,7 +4,7 @@ use Rattle.std.specs.List.{position_from}
 use Rattle.std.specs.Option.{option_or}
 use Rattle.sb_packet.specs.Names.{is_name}
 use Rattle.sb_packet.specs.Networks.{NetLink, NetPlace, at_device, at_host, at_router}
-use Rattle.sb_text.specs.Faults.{◌>>=◌, some_or, unless}
+use Rattle.sb_text.specs.Sentences.{◌>>=◌, some_or, unless}
 use Rattle.sb_fields.specs.Paths.{item_of, member_of}
 use Rattle.sb_fields.specs.Written.{WrittenBundle, WrittenLink, WrittenRoute, WrittenRouter}
 use Rattle.sb_fields.specs.declared.fault.LoadFault.{LoadFault}

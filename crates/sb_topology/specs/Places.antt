@@ -2,7 +2,7 @@
 use Rattle.std.specs.Prelude.{ℕ, List, [], bytes_eq, codes, map, Option, option_and_then, Result, Ok}
 use Rattle.std.specs.List.{find}
 use Rattle.sb_packet.specs.Networks.{NetDevice, NetHost, NetRouter, Network}
-use Rattle.sb_text.specs.Faults.{◌>>=◌}
+use Rattle.sb_text.specs.Sentences.{◌>>=◌}
 use Rattle.sb_fields.specs.Written.{WrittenBundle, WrittenDevice, WrittenHost, WrittenRoute, WrittenRouter}
 use Rattle.sb_fields.specs.declared.fault.LoadFault.{LoadFault}
 use Rattle.sb_topology.specs.Names.{GivenNames, links_by, names_by, names_of, place_among, routers_by, wire_named}

@@ -3,13 +3,10 @@ use Rattle.std.specs.Prelude.{ℕ, nat_le, length, Option, Some, None, slice_get
 use Rattle.std.specs.Option.{option_map_or}
 use Rattle.sb_packet.specs.Networks.{NetPlace, Network, at_device, at_host, at_router}
 use Rattle.sb_flow.specs.Ends.{backward_link, unfit_link, unlinked_place}
-use Rattle.sb_flow.specs.Limits.{word_count}
-use Rattle.sb_flow.specs.Names.{repeated_id}
-use Rattle.sb_flow.specs.Ranges.{misplaced_device, overfull_device, overlapping_device}
-use Rattle.sb_flow.specs.Routes.{route_fault}
+use Rattle.sb_flow.specs.Accepted.{misplaced_device, overfull_device, overlapping_device, repeated_id, route_fault, word_count}
 use Rattle.sb_flow.specs.declared.place.Place.{Place}
 use Rattle.sb_flow.specs.declared.place.Place.TheVariants.{Host, Router, Device}
-use Rattle.sb_text.specs.Faults.{◌>>=◌, unless}
+use Rattle.sb_text.specs.Sentences.{◌>>=◌, unless}
 use Rattle.sb_fields.specs.declared.fault.LoadFault.{LoadFault}
 use Rattle.sb_fields.specs.declared.fault.LoadFault.TheVariants as faults
 

@@ -2,8 +2,7 @@
 
 ghost use Rattle.std.specs.Prelude.{◌≡◌, ◌≢◌, ◌≤◌, ◌<◌, length, map, not, option_map, vec_len, IfOk, IfErr, IfSome, Ok, Err};
 ghost use Rattle.std.specs.List.{find, list_any, position_from, range_with_len};
-ghost use Rattle.sb_packet.specs.Networks.{at_router, leads_to};
-ghost use Rattle.sb_packet.specs.Sides.{leaves_from, side_at};
+ghost use Rattle.sb_packet.specs.Networks.{at_router, leads_to, leaves_from, side_at};
 ghost use Rattle.sb_flow.specs.Ways.{is_some_number};
 ghost use Rattle.sb_flow.specs.Ends.{goes_back as goes_back_by, is_fit_link, joins as joins_by, keeps_sides as keeps_sides_by, same_device, same_host, share_an_end as share_an_end_by, unfit_link, unlinked_place as unlinked_place_by};
 ghost use Rattle.sb_flow.specs.Rows.{link_of, place_of};

@@ -3,7 +3,7 @@
 ghost use Rattle.std.specs.Prelude.{◌≡◌, ◌≤◌, ◌<◌, length, option_map, vec_len};
 ghost use Rattle.sb_flow.specs.Ways.{is_some_number, next_link as next_link_by, route_at, router_at_end as router_in};
 ghost use Rattle.sb_flow.specs.Ends.{same_device};
-ghost use Rattle.sb_flow.specs.Routes.{is_other_device as is_other_by, is_stray as is_stray_by, leads_on as leads_on_by, lost_behind as lost_behind_by, stray_route as stray_route_by, stray_route_of};
+ghost use Rattle.sb_flow.specs.Accepted.{is_other_device as is_other_by, is_stray as is_stray_by, leads_on as leads_on_by, lost_behind as lost_behind_by, stray_route as stray_route_by, stray_route_of};
 ghost use Rattle.sb_flow.specs.Rows.{place_of};
 ghost use Rattle.sb_topology.specs.Held.{route_of_stray, whole_network};
 

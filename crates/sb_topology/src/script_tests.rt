@@ -1,7 +1,7 @@
 //! Routes, and the words of all scripts.
 
 ghost use Rattle.std.specs.Prelude.{◌≡◌, ◌≤◌, All, None, length, vec_len};
-ghost use Rattle.sb_flow.specs.Ranges.{overlapping_device};
+ghost use Rattle.sb_flow.specs.Accepted.{overlapping_device};
 ghost use Rattle.sb_topology.specs.Held.{whole_network};
 ghost use Rattle.sb_topology.specs.Tests.{scripts_tested as scripts_tested_by};
 

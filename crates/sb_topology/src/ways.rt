@@ -2,12 +2,9 @@
 
 ghost use Rattle.std.specs.Prelude.{◌≡◌, ◌<◌, IfSome, None, length, map, option_map, vec_len};
 ghost use Rattle.std.specs.List.{enumerate_from, list_any, position_from};
-ghost use Rattle.sb_packet.specs.Networks.{has_address};
-ghost use Rattle.sb_packet.specs.Sides.{leaves_from};
+ghost use Rattle.sb_packet.specs.Networks.{has_address, leaves_from};
 ghost use Rattle.sb_flow.specs.Ways.{aims_at, first_link as first_link_by, next_link as next_link_by, router_after as router_after_by};
-ghost use Rattle.sb_flow.specs.Firsts.{first_told};
-ghost use Rattle.sb_flow.specs.Ranges.{overlapping_device};
-ghost use Rattle.sb_flow.specs.Routes.{lost_behind as lost_behind_by, lost_flow as lost_flow_by, lost_of_host as lost_of_host_by, lost_on_way as lost_on_way_by};
+ghost use Rattle.sb_flow.specs.Accepted.{first_told, lost_behind as lost_behind_by, lost_flow as lost_flow_by, lost_of_host as lost_of_host_by, lost_on_way as lost_on_way_by, overlapping_device};
 ghost use Rattle.sb_flow.specs.Rows.{device_of, host_of, link_of};
 ghost use Rattle.sb_topology.specs.Held.{route_of_stray, whole_network};
 

@@ -1,14 +1,12 @@
 //! The devices of a report, and the rows of their memories.
 #![tactic(auto, using(sb_io::proofs::GainLemmas::part_first, crate::proofs::PrintLemmas::prints_push, crate::proofs::PrintLemmas::prints_then, crate::proofs::PrintLemmas::prints_part, crate::proofs::PrintLemmas::part_before))]
 
-ghost use Rattle.std.specs.Prelude.{◌≡◌, ◌≤◌, ◌<◌, ◌+◌, ◌*◌, ◌^◌, ◌++◌, ◌==◌, [], Option, length};
+ghost use Rattle.std.specs.Prelude.{◌≡◌, ◌≤◌, ◌<◌, ◌+◌, ◌*◌, ◌^◌, ◌++◌, ◌==◌, [], Option, length, slice_index_or};
 ghost use Rattle.std.specs.List.{list_all};
-ghost use Rattle.sb_packet.specs.Outcomes.{RunResults};
+ghost use Rattle.sb_packet.specs.Answers.{RunResults};
 ghost use Rattle.sb_flow.specs.NetworkOf.{network_of};
 ghost use Rattle.sb_flow.specs.Rows.{device_of};
-ghost use Rattle.std.specs.Prelude.{slice_index_or};
-ghost use Rattle.sb_text.specs.Reports.{device_lines, image_lines, row_line};
-ghost use Rattle.sb_text.specs.ReportParts.{device_part, devices_text};
+ghost use Rattle.sb_text.specs.Reports.{device_lines, device_part, devices_text, image_lines, row_line};
 ghost use Rattle.sb_text.specs.Printing.{IsPrinted};
 ghost use Rattle.sb_text.specs.Telling.{Tells};
 

@@ -4,8 +4,7 @@
 ghost use Rattle.std.specs.Prelude.{◌≡◌, ◌≤◌, ◌<◌, ◌++◌, [], ◌∷◌, All, filter, flat_map, length, true};
 ghost use Rattle.sb_flow.specs.NetworkOf.{network_of};
 ghost use Rattle.sb_text.specs.TextLines.{body_text};
-ghost use Rattle.sb_text.specs.Reports.{history_lines};
-ghost use Rattle.sb_text.specs.ReportParts.{entry_front, entry_middle, entry_part, is_shown as is_shown_by, packet_text};
+ghost use Rattle.sb_text.specs.Reports.{entry_front, entry_middle, entry_part, history_lines, is_shown as is_shown_by, packet_text};
 ghost use Rattle.sb_text.specs.Printing.{IsPrinted};
 ghost use Rattle.sb_packet.specs.Messages.{message_of};
 ghost use Rattle.sb_word.specs.Words.{word_of};

@@ -2,12 +2,11 @@
 #![tactic(auto, using(sb_io::proofs::GainLemmas::part_first, crate::proofs::PrintLemmas::prints_push, crate::proofs::PrintLemmas::prints_then, crate::proofs::PrintLemmas::prints_part, crate::proofs::PrintLemmas::part_before))]
 
 ghost use Rattle.std.specs.Prelude.{◌≡◌, ◌≤◌, ◌<◌, ◌++◌, [], ◌∷◌, Option, length, slice_index_or};
-ghost use Rattle.sb_packet.specs.Outcomes.{RunResults};
+ghost use Rattle.sb_packet.specs.Answers.{RunResults};
 ghost use Rattle.sb_flow.specs.NetworkOf.{network_of};
 ghost use Rattle.sb_flow.specs.Rows.{host_of};
 ghost use Rattle.sb_text.specs.TextLines.{body_text};
-ghost use Rattle.sb_text.specs.Reports.{host_lines, outcome_lines};
-ghost use Rattle.sb_text.specs.ReportParts.{host_part, hosts_text, state_front};
+ghost use Rattle.sb_text.specs.Reports.{host_lines, host_part, hosts_text, outcome_lines, state_front};
 ghost use Rattle.sb_text.specs.Printing.{IsPrinted};
 ghost use Rattle.sb_text.specs.Told.{told_outcomes};
 ghost use Rattle.sb_text.specs.Telling.{Tells};

@@ -3,8 +3,7 @@
 ghost use Rattle.std.specs.Prelude.{◌≡◌, ◌≤◌, ◌<◌, ◌+◌, ◌*◌, ◌^◌, ◌++◌, [], ◌∷◌, codes, decimal, length, slice_index};
 ghost use Rattle.hex.specs.Hex.{encode_lower, lower_digits};
 ghost use Rattle.sb_text.specs.TextLines.{hex_number, text_line};
-ghost use Rattle.sb_text.specs.Reports.{code_text, state_text};
-ghost use Rattle.sb_text.specs.ReportParts.{entry_front, entry_middle, state_front};
+ghost use Rattle.sb_text.specs.Reports.{code_text, entry_front, entry_middle, state_front, state_text};
 
 use crate::report::line_buffer::LineBuffer;
 use itoa::Buffer;
@@ -101,7 +100,7 @@ fn state_word(state: TxnState) -> &'static [u8]
 }
 
 /// Puts the front of a transaction's line, up to its body.
-#[tactic(auto, unfolding(crate::specs::ReportParts::state_front))]
+#[tactic(auto, unfolding(crate::specs::Reports::state_front))]
 #[inline(always)]
 pub fn push_state(buffer: &mut LineBuffer, index: u32, state: TxnState)
     requires { length buffer.old + 64 ≤ 8192 }
@@ -128,7 +127,7 @@ pub fn push_row(buffer: &mut LineBuffer, offset: u32, row: &[u8])
 }
 
 /// Puts the front of an entry's line, up to its device's name.
-#[tactic(auto, unfolding(crate::specs::ReportParts::entry_front))]
+#[tactic(auto, unfolding(crate::specs::Reports::entry_front))]
 pub fn push_round(buffer: &mut LineBuffer, round: u32)
     requires { length buffer.old + 64 ≤ 8192 }
     ensures { buffer.new ≡ buffer.old ++ entry_front round }
@@ -139,7 +138,7 @@ pub fn push_round(buffer: &mut LineBuffer, round: u32)
 }
 
 /// Puts what stands between its device's name and its body.
-#[tactic(auto, unfolding(crate::specs::ReportParts::entry_middle))]
+#[tactic(auto, unfolding(crate::specs::Reports::entry_middle))]
 pub fn push_addresses(buffer: &mut LineBuffer, word: u32, dst: u64, src: u64)
     requires { length buffer.old + 64 ≤ 8192 }
     ensures { buffer.new ≡ buffer.old ++ entry_middle word dst src }

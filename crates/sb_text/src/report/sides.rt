@@ -3,8 +3,7 @@
 ghost use Rattle.std.specs.Prelude.{◌≡◌, ◌<◌, ℕ, false, slice_index_or};
 ghost use Rattle.std.specs.List.{find};
 ghost use Rattle.std.specs.Option.{option_copied};
-ghost use Rattle.sb_packet.specs.Networks.{leads_to as leads_to_by};
-ghost use Rattle.sb_packet.specs.Sides.{device_side as device_side_by, host_side as host_side_by, leaves_from as leaves_from_by, side_at as side_at_by};
+ghost use Rattle.sb_packet.specs.Networks.{device_side as device_side_by, host_side as host_side_by, leads_to as leads_to_by, leaves_from as leaves_from_by, side_at as side_at_by};
 ghost use Rattle.sb_flow.specs.NetworkOf.{network_of};
 ghost use Rattle.sb_flow.specs.Rows.{link_of, place_of};
 ghost use Rattle.sb_text.specs.Reports.{is_printed};

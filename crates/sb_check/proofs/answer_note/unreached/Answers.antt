@@ -1,6 +1,6 @@
 -- All bytes of a read or an atomic are zeros.
 use Rattle.std.proofs.Common.{◌≡◌, ◌-◌, ℕ, List, false, replicate, refl, ap, ◌∙◌, arith, drop, take, inl, inr}
-use Rattle.sb_check.specs.NotedAnswers.{NotedAnswers}
+use Rattle.sb_check.specs.AnswerNotes.{NotedAnswers}
 use Rattle.sb_check.proofs.NoteLemmas.{zeros_noted}
 use Rattle.sb_check.proofs.answer_note.unreached.Goals as goal
 

@@ -1,5 +1,5 @@
 -- What is gathered of a lawful journal tells what stands behind its history.
-use Rattle.sb_packet.specs.Outcomes.{run_results}
+use Rattle.sb_packet.specs.Answers.{run_results}
 use Rattle.sb_flow.specs.NetworkOf.{network_of}
 use Rattle.sb_check.proofs.FollowLemmas.{text_faulty}
 use Rattle.sb_check.proofs.HistoryLemmas.{lawful_read}

@@ -2,7 +2,7 @@
 use Rattle.std.proofs.Common.{◌++◌, ◌∷◌, [], ℕ, List, None, append_assoc, sym}
 use Rattle.std.specs.Prelude.{codes}
 use Rattle.sb_flow.specs.NetworkOf.{network_of}
-use Rattle.sb_text.specs.ReportParts.{devices_text, hosts_text}
+use Rattle.sb_text.specs.Reports.{devices_text, hosts_text}
 use Rattle.sb_text.specs.TextLines.{text_line}
 use Rattle.sb_check.proofs.CompareLemmas.{compared_as, compared_before, compared_then}
 use Rattle.sb_check.proofs.closing_text.take_closing.Goals as goal

@@ -2,9 +2,9 @@
 use Rattle.std.proofs.Common.{take, Ok}
 use Rattle.std.specs.Prelude.{flat_map, None}
 use Rattle.std.specs.List.{enumerate_from}
-use Rattle.sb_packet.specs.Outcomes.{RunResults}
+use Rattle.sb_packet.specs.Answers.{RunResults}
 use Rattle.sb_flow.specs.NetworkOf.{network_of}
-use Rattle.sb_text.specs.ReportParts.{device_part}
+use Rattle.sb_text.specs.Reports.{device_part}
 use Rattle.sb_text.specs.Telling.{Tells}
 use Rattle.sb_check.specs.Comparing.{IsCompared}
 use Rattle.sb_check.specs.declared.unread.Differs.{Differs}

@@ -2,8 +2,8 @@
 use Rattle.std.proofs.Common.{◌≡◌, ◌^◌, ◌∙◌, ℕ, List, sym, ap, arith, Option, Some, [], ◌++◌, ◌-◌, replicate}
 use Rattle.std.specs.Prelude.{unwrap_or}
 use Rattle.sb_word.specs.declared.command.Cmd.{Cmd}
-use Rattle.sb_packet.specs.Spans.{carried_of, span_of}
 use Rattle.sb_packet.specs.Messages.{message_of}
+use Rattle.sb_packet.specs.Spans.{carried_of, span_of}
 use Rattle.sb_packet.specs.declared.packet.Packet.{Packet}
 use Rattle.sb_check.proofs.EntryLemmas.{carried_bytes, carried_length, carried_padded, decoded_command, not_both, same_packet}
 use Rattle.sb_check.proofs.entry_line.packet_of.Goals as goal

@@ -8,7 +8,7 @@ use Rattle.sb_flow.specs.NetworkOf.{network_of}
 use Rattle.sb_flow.specs.Rows.{host_of}
 use Rattle.sb_flow.specs.declared.host_plan.HostPlan.{HostPlan}
 use Rattle.sb_flow.proofs.HostLimits.{scripts_short}
-use Rattle.sb_check.specs.NotedAnswers.{NotedAnswers, first_noted}
+use Rattle.sb_check.specs.AnswerNotes.{NotedAnswers, first_noted}
 use Rattle.sb_check.proofs.GatheredOpening.{row_more}
 use Rattle.sb_check.proofs.gathered.notes_of.Goals as goal
 

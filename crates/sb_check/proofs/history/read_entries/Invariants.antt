@@ -2,8 +2,8 @@
 use Rattle.std.proofs.Common.{◌≡◌, List, length}
 use Rattle.sb_packet.specs.declared.entry.Entry.{Entry}
 use Rattle.sb_flow.specs.NetworkOf.{network_of}
-use Rattle.sb_check.specs.EntriesRead.{AreEntriesOf}
-use Rattle.sb_check.specs.Followed.{IsFollowed}
+use Rattle.sb_check.specs.Histories.{AreEntriesOf}
+use Rattle.sb_check.specs.Gathering.{IsFollowed}
 use Rattle.sb_check.specs.ReportLines.{report_lines}
 use Rattle.sb_check.proofs.history.read_entries.Given as goal
 

@@ -1,7 +1,7 @@
 -- The host's line, and those of its transactions.
 use Rattle.std.proofs.Common.{◌∙◌, [], ◌∷◌, ℕ, List, Err, Ok, ap, length}
 use Rattle.std.specs.Prelude.{codes, decimal, slice_index_or}
-use Rattle.sb_packet.specs.Outcomes.{Outcome, RunResults}
+use Rattle.sb_packet.specs.Answers.{Outcome, RunResults}
 use Rattle.sb_text.specs.Reports.{outcome_lines}
 use Rattle.sb_text.specs.TextLines.{text_line}
 use Rattle.sb_check.proofs.CompareLemmas.{compared_as, compared_before, compared_then}

@@ -5,12 +5,12 @@ use Rattle.std.specs.List.{enumerate_from}
 use Rattle.std.proofs.lemmas.List.{length-map}
 use Rattle.std.proofs.lemmas.List.FromFn.{length-enumerate_from}
 use Rattle.sb_packet.specs.Networks.{NetHost}
-use Rattle.sb_packet.specs.Outcomes.{RunResults}
+use Rattle.sb_packet.specs.Answers.{RunResults}
 use Rattle.sb_flow.specs.NetworkOf.{network_of}
 use Rattle.sb_flow.specs.Rows.{host_of}
 use Rattle.sb_flow.specs.declared.bundle.Bundle.{Bundle}
 use Rattle.sb_flow.proofs.Bundles.{host_of_network, idle_plan}
-use Rattle.sb_text.specs.ReportParts.{host_part}
+use Rattle.sb_text.specs.Reports.{host_part}
 use Rattle.sb_check.proofs.CompareLemmas.{compared_all, compared_failed, compared_more, numbered}
 use Rattle.sb_check.proofs.host_lines.take_hosts.Goals as goal
 

@@ -3,7 +3,7 @@ use Rattle.std.proofs.Common.{◌≡◌, ◌≤◌, ◌<◌, ◌∙◌, ◌∷�
 use Rattle.std.specs.Prelude.{codes, decimal, slice_index_or}
 use Rattle.std.specs.List.{enumerate_from}
 use Rattle.std.proofs.lemmas.List.FromFn.{length-enumerate_from}
-use Rattle.sb_packet.specs.Outcomes.{Outcome, RunResults}
+use Rattle.sb_packet.specs.Answers.{Outcome, RunResults}
 use Rattle.sb_packet.specs.declared.transaction.TxnState.{TxnState}
 use Rattle.sb_packet.specs.declared.transaction.TxnState.TheVariants.{Waiting}
 use Rattle.sb_text.specs.Reports.{outcome_line, state_text}

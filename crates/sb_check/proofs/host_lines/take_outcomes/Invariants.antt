@@ -2,7 +2,7 @@
 use Rattle.std.proofs.Common.{◌≡◌, [], take, length, Ok}
 use Rattle.std.specs.Prelude.{flat_map, slice_index_or}
 use Rattle.std.specs.List.{enumerate_from}
-use Rattle.sb_packet.specs.Outcomes.{RunResults}
+use Rattle.sb_packet.specs.Answers.{RunResults}
 use Rattle.sb_text.specs.Reports.{outcome_line}
 use Rattle.sb_check.specs.Comparing.{IsCompared}
 use Rattle.sb_check.specs.declared.unread.Differs.{Differs}

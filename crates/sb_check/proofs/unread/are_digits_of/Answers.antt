@@ -1,6 +1,6 @@
 -- All digits are those of their bytes, or those of one byte aren't.
 use Rattle.std.proofs.Common.{List, ℕ, sym, subst, arith}
-use Rattle.sb_check.specs.Matching.{HasDigits}
+use Rattle.sb_check.specs.Comparing.{HasDigits}
 use Rattle.sb_check.proofs.MatchLemmas.{encode_lower-at, encode_lower-by}
 use Rattle.sb_check.proofs.unread.are_digits_of.Goals as goal
 

@@ -3,7 +3,7 @@ use Rattle.std.proofs.Common.{◌∙◌, sym}
 use Rattle.std.proofs.lemmas.Grind.{flat_map-append}
 use Rattle.std.proofs.lemmas.List.Elements.{All-append}
 use Rattle.sb_packet.specs.Accesses.{message_accesses}
-use Rattle.sb_packet.specs.Soundness.{IsFine}
+use Rattle.sb_packet.specs.Cuts.{IsFine}
 use Rattle.sb_cut.specs.Folds.{fold_all, listed}
 use Rattle.sb_cut.proofs.Mergeable.{mergeable_says}
 use Rattle.sb_cut.proofs.MergedSound.{fine_merge}

@@ -1,6 +1,5 @@
 -- Each turn adds the load of one link.
-use Rattle.sb_flow.specs.Gathered.{gathered}
-use Rattle.sb_flow.specs.LoadOf.{load_of}
+use Rattle.sb_flow.specs.Gathered.{gathered, load_of}
 use Rattle.sb_flow.proofs.Tabled.{seen_push, table_end}
 use Rattle.sb_flow.proofs.gather.loads.Goals as goal
 

@@ -1,8 +1,7 @@
 -- The loads of the links so far.
 use Rattle.std.proofs.Common.{◌≡◌, map}
 use Rattle.std.specs.List.{range_with_len}
-use Rattle.sb_flow.specs.Gathered.{gathered}
-use Rattle.sb_flow.specs.LoadOf.{load_of}
+use Rattle.sb_flow.specs.Gathered.{gathered, load_of}
 use Rattle.sb_flow.proofs.gather.loads.Given as goal
 
 abbrev pub invariant-loop-link : goal.invariant-loop-link

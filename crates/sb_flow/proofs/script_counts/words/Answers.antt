@@ -1,7 +1,7 @@
 -- The words so far and one transaction's are no more than the whole script's.
 use Rattle.std.proofs.Common.{arith}
 use Rattle.sb_flow.specs.Rows.{device_of}
-use Rattle.sb_flow.specs.Counts.{words_at}
+use Rattle.sb_flow.specs.Rings.{words_at}
 use Rattle.sb_flow.proofs.ScriptSums.{words_fit, words_at-le}
 use Rattle.sb_flow.proofs.script_counts.words.Goals as goal
 

@@ -1,10 +1,9 @@
 -- hand_over: while items are handed over, and when both ends are told, they keep what they say of themselves.
 use Rattle.std.proofs.Common.{rules, refl, sym, ap, ◌∙◌, subst, ◌≡◌, ◌+◌, ◌≤◌, ◌++◌, length, List, [], ◌∷◌, arith, length-append, append_assoc}
 use Rattle.sb_link.specs.RingPlans.{RingPlan}
-use Rattle.sb_link.specs.Traffic.{AreInTurn}
+use Rattle.sb_link.specs.Traffic.{AreInTurn, front_in_turn}
 use Rattle.sb_packet.specs.declared.item.Item.{Item}
 use Rattle.sb_link.specs.PlanOf.{plan_of}
-use Rattle.sb_link.specs.InTurn.{front_in_turn}
 use Rattle.sb_link.proofs.hand.hand_over.Goals as goal
 
 pub invariant_of-tx : goal.invariant_of-tx

@@ -1,7 +1,7 @@
 -- A word has at most 8 bytes, and those at the front are what the atomic makes of the old word and the operand.
 use Rattle.std.proofs.Common.{◌≡◌, ◌≤◌, ◌^◌, ◌∙◌, ap, arith, sym, ℕ, List, Option, take, length}
 use Rattle.std.proofs.lemmas.List.{length-take}
-use Rattle.sb_packet.specs.Atomics.{number_of, bytes_of_number, combined, left_by}
+use Rattle.sb_packet.specs.Memories.{number_of, bytes_of_number, combined, left_by}
 use Rattle.sb_word.specs.declared.atomic.AtomicOp.{AtomicOp}
 use Rattle.sb_mem.proofs.Atomics.{combined_at}
 use Rattle.sb_mem.proofs.TwosComplement.{word_length}

@@ -1,7 +1,7 @@
 -- Up to 8 bytes, padded with zeros, are worth what they are without the zeros, which is below 256 to their count.
 use Rattle.std.proofs.Common.{◌≡◌, ◌∙◌, ap, List, ℕ}
 use Rattle.std.specs.Int.{from_le_bytes, w64}
-use Rattle.sb_packet.specs.Atomics.{number_of}
+use Rattle.sb_packet.specs.Memories.{number_of}
 use Rattle.sb_mem.proofs.WordBytes.{number_of_padded, number_of-below}
 use Rattle.sb_mem.proofs.atomic.number.Goals as goal
 

@@ -2,7 +2,7 @@
 use Rattle.std.proofs.Common.{◌∙◌}
 use Rattle.std.proofs.lemmas.List.Elements.{All-get_or}
 use Rattle.sb_router.specs.Lanes.{no_port}
-use Rattle.sb_router.specs.Whole.{IsWholeOutlet}
+use Rattle.sb_router.specs.Forwarding.{IsWholeOutlet}
 use Rattle.sb_router.proofs.Forwards.{has_forwarded}
 use Rattle.sb_router.proofs.laws.routers_hand_on.Goals as goal
 

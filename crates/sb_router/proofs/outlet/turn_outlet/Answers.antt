@@ -3,7 +3,7 @@ use Rattle.std.proofs.Common.{Option, ap, ◌∙◌, subst}
 use Rattle.sb_link.specs.declared.answers.Cause.{Cause}
 use Rattle.sb_node.specs.Steps.{IsPortTurned}
 use Rattle.sb_node.specs.declared.findings.Findings.{Findings}
-use Rattle.sb_router.specs.Causes.{lower}
+use Rattle.sb_router.specs.Popping.{lower}
 use Rattle.sb_router.proofs.Besides.{port_besides}
 use Rattle.sb_router.proofs.outlet.turn_outlet.Goals as goal
 

@@ -4,9 +4,8 @@ use Rattle.std.proofs.lemmas.List.{get_or-set_same, length-set}
 use Rattle.sb_node.specs.Kept.{IsPortMet}
 use Rattle.sb_packet.specs.declared.item.Item.{Item}
 use Rattle.sb_port.specs.Ports.{PortSide, PortState, with_end}
-use Rattle.sb_router.specs.Ends.{router_port}
+use Rattle.sb_router.specs.Routers.{RouterSide, router_port, router_ports}
 use Rattle.sb_router.specs.Lanes.{no_port}
-use Rattle.sb_router.specs.Routers.{RouterSide, router_ports}
 use Rattle.sb_router.proofs.EndPlaces.{port_ports, port_whole}
 use Rattle.sb_router.proofs.tests.meet.Goals as goal
 

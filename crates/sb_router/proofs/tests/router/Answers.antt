@@ -2,7 +2,7 @@
 use Rattle.std.proofs.Common.{◌≡◌, List, [], ◌∷◌, ◌++◌, All, map, sym, ap, ◌∙◌, subst}
 use Rattle.std.proofs.lemmas.List.Elements.{All-cons, All-nil}
 use Rattle.sb_port.specs.Ports.{PortSide, fresh_port}
-use Rattle.sb_router.specs.Fresh.{IsFreshPair}
+use Rattle.sb_router.specs.Lanes.{IsFreshPair}
 use Rattle.sb_router.proofs.tests.router.Goals as goal
 
 -- what holds of two holds of a list of them

@@ -1,7 +1,6 @@
 -- The router is whole, and sends by the port at the place over the ring whose far end is watched.
 use Rattle.std.specs.Prelude.{◌≡◌, ◌<◌, length}
-use Rattle.sb_router.specs.Ends.{router_port}
-use Rattle.sb_router.specs.Routers.{IsWholeRouter, router_ports}
+use Rattle.sb_router.specs.Routers.{IsWholeRouter, router_port, router_ports}
 use Rattle.sb_router.proofs.tests.watch.Given as goal
 
 abbrev pub invariant-loop-round : goal.invariant-loop-round

@@ -1,6 +1,6 @@
 -- std's bytes of a number are its eight bytes.
 use Rattle.std.proofs.Common.{◌∙◌, ap, rules}
-use Rattle.sb_packet.specs.Atomics.{number_of}
+use Rattle.sb_packet.specs.Memories.{number_of}
 use Rattle.sb_slot.proofs.SlotLemmas.{le_bytes_of_number, number_of-number_bytes}
 use Rattle.sb_slot.proofs.slot_body.bytes_of.Goals as goal
 

@@ -6,7 +6,7 @@ use Rattle.sb_link.specs.RingPlans.{RingPlan}
 use Rattle.sb_flow.specs.Rings.{ring_plan}
 use Rattle.sb_port.specs.Ports.{PortSide, fresh_port}
 use Rattle.sb_node.specs.Sides.{RingSide}
-use Rattle.sb_router.specs.Fresh.{fresh_inlet}
+use Rattle.sb_router.specs.Lanes.{fresh_inlet}
 use Rattle.sb_member.specs.Joints.{IsJoined}
 use Rattle.sb_tests.specs.Lines.{sample_joints}
 use Rattle.sb_tests.proofs.NewLine.{AreEnds, fresh_ends, new_line, seen_ends, two_ports, two_rings}

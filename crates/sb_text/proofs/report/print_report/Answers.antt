@@ -5,8 +5,7 @@ use Rattle.sb_io.specs.declared.output.WriteFailed.{WriteFailed}
 use Rattle.sb_packet.specs.Networks.{Network}
 use Rattle.sb_packet.specs.declared.entry.Entry.{Entry}
 use Rattle.sb_flow.specs.NetworkOf.{network_of}
-use Rattle.sb_text.specs.Reports.{first_line, history_lines}
-use Rattle.sb_text.specs.ReportParts.{devices_text, hosts_text}
+use Rattle.sb_text.specs.Reports.{devices_text, first_line, history_lines, hosts_text}
 use Rattle.sb_text.specs.TextLines.{text_line}
 use Rattle.sb_text.proofs.PrintLemmas.{printed_before, printed_then}
 use Rattle.sb_text.proofs.report.print_report.Goals as goal

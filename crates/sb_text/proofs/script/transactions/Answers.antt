@@ -2,7 +2,7 @@
 use Rattle.std.proofs.Common.{◌+◌, ◌++◌, ◌∙◌, ℕ, List, Ok, length, ap, sym, arith}
 use Rattle.sb_packet.specs.declared.transaction.Txn.{Txn}
 use Rattle.sb_text.specs.Lines.{lines_of}
-use Rattle.sb_text.specs.Faults.{◌>>=◌}
+use Rattle.sb_text.specs.Sentences.{◌>>=◌}
 use Rattle.sb_text.specs.Scripts.{transactions_from}
 use Rattle.sb_text.proofs.ScriptLemmas.{next_said}
 use Rattle.sb_text.proofs.script.transactions.Goals as goal

@@ -4,7 +4,7 @@ use Rattle.std.specs.Prelude.{All, vec_len}
 use Rattle.sb_packet.specs.Scripts.{IsTransaction}
 use Rattle.sb_packet.specs.declared.transaction.Txn.{Txn}
 use Rattle.sb_text.specs.Lines.{lines_of}
-use Rattle.sb_text.specs.Faults.{◌>>=◌}
+use Rattle.sb_text.specs.Sentences.{◌>>=◌}
 use Rattle.sb_text.specs.Scripts.{transactions_from}
 use Rattle.sb_text.proofs.script.transactions.Given as goal
 

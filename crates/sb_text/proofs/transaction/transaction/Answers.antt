@@ -1,6 +1,6 @@
 -- The body is as long as the words that were counted, and a read has none.
 use Rattle.std.proofs.Common.{◌≡◌, Some, sym, ◌∙◌}
-use Rattle.sb_text.specs.Transactions.{count_of}
+use Rattle.sb_text.specs.Sentences.{count_of}
 use Rattle.sb_text.proofs.TransactionLemmas.{has_body}
 use Rattle.sb_text.proofs.transaction.transaction.Goals as goal
 

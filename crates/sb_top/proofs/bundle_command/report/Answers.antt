@@ -1,7 +1,7 @@
 -- The report that is printed is that of the run's own journal.
 use Rattle.std.proofs.Common.{◌≢◌, arith, refl}
 use Rattle.sb_flow.specs.NetworkOf.{network_of}
-use Rattle.sb_packet.specs.Outcomes.{run_results}
+use Rattle.sb_packet.specs.Answers.{run_results}
 use Rattle.sb_top.proofs.StatusLemmas.{was_done}
 use Rattle.sb_top.proofs.bundle_command.report.Goals as goal
 

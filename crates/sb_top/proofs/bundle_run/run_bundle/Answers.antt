@@ -2,7 +2,7 @@
 use Rattle.std.proofs.Common.{◌≡◌, ◌≤◌, ◌∙◌, ℕ, [], arith}
 use Rattle.sb_packet.specs.Journals.{Ledger}
 use Rattle.sb_packet.specs.Networks.{Network}
-use Rattle.sb_flow.specs.Limits.{word_count}
+use Rattle.sb_flow.specs.Accepted.{word_count}
 use Rattle.sb_flow.specs.NetworkOf.{network_of}
 use Rattle.sb_flow.proofs.Bundles.{accepted}
 use Rattle.sb_net.specs.Nets.{CanRun, IsNetOf, NetSide}

@@ -2,7 +2,7 @@
 use Rattle.std.proofs.Common.{inl, inr, refl}
 use Rattle.sb_flow.specs.NetworkOf.{network_of}
 use Rattle.sb_flow.proofs.Bundles.{accepted}
-use Rattle.sb_top.specs.Evidence.{IsEvidence}
+use Rattle.sb_top.specs.Judgements.{IsEvidence}
 use Rattle.sb_top.proofs.JudgementLemmas.{rejected}
 use Rattle.sb_top.proofs.check_command.judge.Goals as goal
 

@@ -1,6 +1,6 @@
 -- What was written of a judgement leaves nothing beside it.
 use Rattle.std.proofs.Common.{inl, inr}
-use Rattle.sb_top.specs.Effects.{IsUntouched, effects_in}
+use Rattle.sb_top.specs.BundleRuns.{IsUntouched, effects_in}
 use Rattle.sb_top.proofs.command.perform.Goals as goal
 
 pub returns-in-Check-clause-part : goal.returns-in-Check-clause-part

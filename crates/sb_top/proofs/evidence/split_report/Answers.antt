@@ -2,7 +2,7 @@
 use Rattle.std.proofs.Common.{◌≡◌, ◌∙◌, ◌++◌, List, ℕ, true, false, ap, sym, take, arith}
 use Rattle.std.specs.Prelude.{Some}
 use Rattle.std.proofs.lemmas.List.{append-nil}
-use Rattle.sb_top.specs.Evidence.{is_divider, report_split}
+use Rattle.sb_top.specs.Judgements.{is_divider, report_split}
 use Rattle.sb_top.proofs.EvidenceLemmas.{behind_both, first_line_is, line_behind, line_taken, line_within, parts_behind, split_here, split_later}
 use Rattle.sb_top.proofs.evidence.split_report.Goals as goal
 

@@ -1,6 +1,6 @@
 -- What was read so far stands before the parts of the rest.
 use Rattle.std.proofs.Common.{◌≡◌, ◌≤◌, take, drop, length}
-use Rattle.sb_top.specs.Evidence.{report_split}
+use Rattle.sb_top.specs.Judgements.{report_split}
 use Rattle.sb_top.proofs.EvidenceLemmas.{parts_behind}
 use Rattle.sb_top.proofs.evidence.split_report.Given as goal
 

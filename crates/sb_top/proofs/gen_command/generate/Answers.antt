@@ -4,8 +4,7 @@ use Rattle.sb_packet.specs.Networks.{Network}
 use Rattle.sb_flow.specs.Accepted.{IsAccepted}
 use Rattle.sb_flow.proofs.Bundles.{accepted}
 use Rattle.sb_gen.specs.Summary.{gen_text}
-use Rattle.sb_top.specs.BundleRuns.{RanNetwork}
-use Rattle.sb_top.specs.Effects.{effects_in}
+use Rattle.sb_top.specs.BundleRuns.{RanNetwork, effects_in}
 use Rattle.sb_top.proofs.StatusLemmas.{was_done, was_failed}
 use Rattle.sb_top.proofs.gen_command.generate.Goals as goal
 

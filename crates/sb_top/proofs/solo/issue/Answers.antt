@@ -4,10 +4,9 @@ use Rattle.std.specs.Prelude.{map, max, All}
 use Rattle.std.proofs.lemmas.List.{map-append}
 use Rattle.std.proofs.lemmas.List.Elements.{All-push}
 use Rattle.sb_packet.specs.Messages.{Message, message_of}
-use Rattle.sb_packet.specs.Answers.{answer_body, answer_code}
+use Rattle.sb_packet.specs.Answers.{Outcome, answer_body, answer_code}
 use Rattle.sb_packet.specs.Cuts.{transaction_packets}
 use Rattle.sb_packet.specs.Memories.{answers_to, memory_after}
-use Rattle.sb_packet.specs.Outcomes.{Outcome}
 use Rattle.sb_top.specs.Solo.{solo_host}
 use Rattle.sb_packet.specs.declared.entry.Entry.{Entry}
 use Rattle.sb_packet.specs.declared.transaction.TxnState.{TxnState}

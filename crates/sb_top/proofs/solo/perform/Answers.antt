@@ -1,7 +1,7 @@
 -- Losing a transaction that is aimed at no device adds the outcome that the answers to its words come to.
 use Rattle.std.proofs.Common.{◌≡◌, ◌++◌, ◌∷◌, [], ◌∙◌, ap, sym, refl, false}
 use Rattle.sb_packet.specs.Networks.{has_address}
-use Rattle.sb_packet.specs.Outcomes.{Outcome}
+use Rattle.sb_packet.specs.Answers.{Outcome}
 use Rattle.sb_top.specs.Solo.{solo_device}
 use Rattle.sb_top.proofs.UnreachedLemmas.{outcome_of_lost}
 use Rattle.sb_top.proofs.solo.perform.Goals as goal

@@ -2,7 +2,7 @@
 use Rattle.std.proofs.Common.{◌≢◌, false, sym, subst, arith}
 use Rattle.std.specs.Prelude.{None}
 use Rattle.sb_io.specs.Written.{Gains, GainsPart}
-use Rattle.sb_packet.specs.Outcomes.{run_results}
+use Rattle.sb_packet.specs.Answers.{run_results}
 use Rattle.sb_text.specs.Reports.{report_text}
 use Rattle.sb_text.specs.Told.{FitsNetwork}
 use Rattle.sb_top.specs.Solo.{solo_network}

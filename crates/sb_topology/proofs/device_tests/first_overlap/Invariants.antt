@@ -2,7 +2,7 @@
 use Rattle.std.proofs.Common.{◌≡◌, [], drop, map, not, take}
 use Rattle.sb_link.specs.RingPlans.{are_apart}
 use Rattle.sb_flow.specs.Rings.{range_of}
-use Rattle.sb_flow.specs.Firsts.{clash_behind}
+use Rattle.sb_flow.specs.Accepted.{clash_behind}
 use Rattle.sb_flow.specs.Rows.{device_of}
 use Rattle.sb_topology.proofs.device_tests.first_overlap.Given as goal
 

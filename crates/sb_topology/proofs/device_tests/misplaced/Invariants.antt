@@ -1,7 +1,7 @@
 -- All devices so far are placed.
 use Rattle.std.proofs.Common.{◌≡◌, drop, map, not}
 use Rattle.std.specs.List.{position_from}
-use Rattle.sb_flow.specs.Ranges.{is_placed_device}
+use Rattle.sb_flow.specs.Accepted.{is_placed_device}
 use Rattle.sb_flow.specs.Rows.{device_of}
 use Rattle.sb_topology.proofs.device_tests.misplaced.Given as goal
 

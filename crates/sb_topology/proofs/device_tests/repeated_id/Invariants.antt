@@ -1,6 +1,6 @@
 -- No host so far has the id of an earlier one.
 use Rattle.std.proofs.Common.{◌≡◌, ◌==◌, [], drop, map, take}
-use Rattle.sb_flow.specs.Firsts.{clash_behind}
+use Rattle.sb_flow.specs.Accepted.{clash_behind}
 use Rattle.sb_topology.specs.Held.{draft_host}
 use Rattle.sb_topology.specs.Places.{silent_host}
 use Rattle.sb_topology.proofs.device_tests.repeated_id.Given as goal

@@ -1,7 +1,7 @@
 -- Links leave all hosts so far.
 use Rattle.std.proofs.Common.{◌≡◌, ◌-◌, map, not}
 use Rattle.std.specs.List.{find, list_any, range_with_len}
-use Rattle.sb_packet.specs.Sides.{leaves_from}
+use Rattle.sb_packet.specs.Networks.{leaves_from}
 use Rattle.sb_flow.specs.Rows.{link_of}
 use Rattle.sb_topology.proofs.link_tests.unlinked_host.Given as goal
 

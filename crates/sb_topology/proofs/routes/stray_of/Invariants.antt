@@ -3,8 +3,7 @@ use Rattle.std.proofs.Common.{◌≡◌, ◌-◌, None, Some}
 use Rattle.std.specs.Prelude.{if◌then◌else◌}
 use Rattle.std.specs.List.{range_with_len}
 use Rattle.std.specs.Vec.{vec_len}
-use Rattle.sb_flow.specs.Firsts.{first_told}
-use Rattle.sb_flow.specs.Routes.{RouteAt, is_stray, stray_route_of}
+use Rattle.sb_flow.specs.Accepted.{RouteAt, first_told, is_stray, stray_route_of}
 use Rattle.sb_topology.specs.Held.{whole_network}
 use Rattle.sb_topology.proofs.routes.stray_of.Given as goal
 

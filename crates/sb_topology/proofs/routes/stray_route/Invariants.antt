@@ -2,8 +2,7 @@
 use Rattle.std.proofs.Common.{◌≡◌, ◌-◌}
 use Rattle.std.specs.List.{range_with_len}
 use Rattle.std.specs.Vec.{vec_len}
-use Rattle.sb_flow.specs.Firsts.{first_told}
-use Rattle.sb_flow.specs.Routes.{stray_route, stray_route_of}
+use Rattle.sb_flow.specs.Accepted.{first_told, stray_route, stray_route_of}
 use Rattle.sb_topology.specs.Held.{whole_network}
 use Rattle.sb_topology.proofs.routes.stray_route.Given as goal
 

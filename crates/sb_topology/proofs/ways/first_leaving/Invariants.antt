@@ -1,7 +1,7 @@
 -- No link so far leaves the host.
 use Rattle.std.proofs.Common.{◌≡◌, drop, map}
 use Rattle.std.specs.List.{position_from}
-use Rattle.sb_packet.specs.Sides.{leaves_from}
+use Rattle.sb_packet.specs.Networks.{leaves_from}
 use Rattle.sb_flow.specs.Rows.{link_of}
 use Rattle.sb_topology.proofs.ways.first_leaving.Given as goal
 

@@ -1,8 +1,7 @@
 -- Nothing is lost of a host so far.
 use Rattle.std.proofs.Common.{◌≡◌, drop, map}
 use Rattle.std.specs.List.{enumerate_from}
-use Rattle.sb_flow.specs.Firsts.{first_told}
-use Rattle.sb_flow.specs.Routes.{lost_flow, lost_of_host}
+use Rattle.sb_flow.specs.Accepted.{first_told, lost_flow, lost_of_host}
 use Rattle.sb_flow.specs.Rows.{host_of}
 use Rattle.sb_topology.specs.Held.{whole_network}
 use Rattle.sb_topology.proofs.ways.lost_flow.Given as goal

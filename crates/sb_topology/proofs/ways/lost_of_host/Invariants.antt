@@ -4,8 +4,7 @@ use Rattle.std.specs.Prelude.{filter}
 use Rattle.std.specs.List.{range_with_len}
 use Rattle.std.specs.Vec.{vec_len}
 use Rattle.sb_flow.specs.Ways.{aims_at}
-use Rattle.sb_flow.specs.Firsts.{first_told}
-use Rattle.sb_flow.specs.Routes.{lost_of_host, lost_on_way}
+use Rattle.sb_flow.specs.Accepted.{first_told, lost_of_host, lost_on_way}
 use Rattle.sb_flow.specs.Rows.{host_of}
 use Rattle.sb_topology.specs.Held.{whole_network}
 use Rattle.sb_topology.proofs.ways.lost_of_host.Given as goal

@@ -1,8 +1,7 @@
 -- No router so far is without a route, so what is lost is ahead.
 use Rattle.std.proofs.Common.{◌≡◌, ◌-◌}
 use Rattle.sb_flow.specs.Ways.{links_from}
-use Rattle.sb_flow.specs.Firsts.{first_told}
-use Rattle.sb_flow.specs.Routes.{lost_behind, lost_on_way}
+use Rattle.sb_flow.specs.Accepted.{first_told, lost_behind, lost_on_way}
 use Rattle.sb_topology.specs.Held.{whole_network}
 use Rattle.sb_topology.proofs.ways.lost_on_way.Given as goal
 

@@ -1,7 +1,7 @@
 -- The bytes of a transaction lie among all.
 use Rattle.std.proofs.Common.{◌≡◌, ◌-◌, ℕ, List, length, true, false, inl, inr, take, drop, ap, sym, ◌∙◌, arith}
 use Rattle.std.specs.Prelude.{◌⊎◌}
-use Rattle.sb_check.specs.NotedAnswers.{NotedAnswers, noted_outcome}
+use Rattle.sb_check.specs.AnswerNotes.{NotedAnswers, noted_outcome}
 use Rattle.sb_check.proofs.NoteLemmas.{body_told, room_of, seen_at}
 use Rattle.sb_check.proofs.answer_notes.AnswerNotes.body.Goals as goal
 use Rattle.sb_check.proofs.answer_notes.AnswerNotes.body.Goals.{then-note, else-note}

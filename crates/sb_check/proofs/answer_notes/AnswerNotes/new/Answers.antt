@@ -1,8 +1,7 @@
 -- One transaction more has its first note, and room behind the others.
 use Rattle.std.proofs.Common.{replicate, ◌∙◌, arith}
 use Rattle.sb_flow.specs.NetworkOf.{network_of}
-use Rattle.sb_check.specs.AnswerNotes.{noted_in}
-use Rattle.sb_check.specs.NotedAnswers.{first_noted}
+use Rattle.sb_check.specs.AnswerNotes.{first_noted, noted_in}
 use Rattle.sb_check.proofs.NoteLemmas.{noted_next, rooms_more}
 use Rattle.sb_check.proofs.answer_notes.AnswerNotes.new.Goals as goal
 

@@ -1,8 +1,7 @@
 -- Each transaction so far has its first note, and room for its bytes behind the others.
 use Rattle.std.proofs.Common.{◌≡◌, ◌≤◌, ◌*◌, ℕ, length, map, replicate, take, vec_capacity, vec_len}
 use Rattle.sb_flow.specs.NetworkOf.{network_of}
-use Rattle.sb_check.specs.AnswerNotes.{AreBehind, noted_in}
-use Rattle.sb_check.specs.NotedAnswers.{first_noted}
+use Rattle.sb_check.specs.AnswerNotes.{AreBehind, first_noted, noted_in}
 use Rattle.sb_check.proofs.answer_notes.AnswerNotes.new.Given as goal
 
 abbrev pub invariant-loop-txn : goal.invariant-loop-txn

@@ -35,15 +35,15 @@ pub unreachable-requires : goal.unreachable-requires
 unreachable-requires c =
     let b = c.args.bundle.now in
     let r = c.requires.rightly in
-    place_some (network_of b) (accepted b) r.0 c.args.entry.now r.2 c.host_place.result c.in_default-host_place.is c.host_place.ensures.place
+    place_some (network_of b) (accepted b) r.0 c.args.entry.now r.2 c.host_in_network.result c.in_default-host_in_network.is c.host_in_network.ensures.place
 
 pub note-requires-clause-host : goal.note-requires-clause-host
 note-requires-clause-host c =
     let b = c.args.bundle.now in
     let r = c.requires.rightly in
     let e = c.args.entry.now in
-    let place = place_is (network_of b) (accepted b) r.0 e r.2 c.host_place.result c.in-Some-host_place.host c.in-Some-host_place.is c.host_place.ensures.place in
-    place_there (network_of b) (accepted b) r.0 e r.2 c.args.self.now r.1 c.in-Some-host_place.host place
+    let place = place_is (network_of b) (accepted b) r.0 e r.2 c.host_in_network.result c.in-Some-host_in_network.host c.in-Some-host_in_network.is c.host_in_network.ensures.place in
+    place_there (network_of b) (accepted b) r.0 e r.2 c.args.self.now r.1 c.in-Some-host_in_network.host place
 
 pub note-requires-clause-there : goal.note-requires-clause-there
 note-requires-clause-there c =
@@ -51,8 +51,8 @@ note-requires-clause-there c =
     let r = c.requires.rightly in
     let e = c.args.entry.now in
     let a = c.in-Some.answer in
-    let place = place_is (network_of b) (accepted b) r.0 e r.2 c.host_place.result c.in-Some-host_place.host c.in-Some-host_place.is c.host_place.ensures.place in
-    index_there (network_of b) (accepted b) r.0 e r.2 c.args.self.now r.1 c.in-Some-host_place.host _ place (number_is (network_of b) (accepted b) r.0 e r.2 a c.in-Some.ensures.fields.dst)
+    let place = place_is (network_of b) (accepted b) r.0 e r.2 c.host_in_network.result c.in-Some-host_in_network.host c.in-Some-host_in_network.is c.host_in_network.ensures.place in
+    index_there (network_of b) (accepted b) r.0 e r.2 c.args.self.now r.1 c.in-Some-host_in_network.host _ place (number_is (network_of b) (accepted b) r.0 e r.2 a c.in-Some.ensures.fields.dst)
 
 pub note-requires-clause-room : goal.note-requires-clause-room
 note-requires-clause-room c =
@@ -60,10 +60,10 @@ note-requires-clause-room c =
     let r = c.requires.rightly in
     let e = c.args.entry.now in
     let a = c.in-Some.answer in
-    let place = place_is (network_of b) (accepted b) r.0 e r.2 c.host_place.result c.in-Some-host_place.host c.in-Some-host_place.is c.host_place.ensures.place in
+    let place = place_is (network_of b) (accepted b) r.0 e r.2 c.host_in_network.result c.in-Some-host_in_network.host c.in-Some-host_in_network.is c.host_in_network.ensures.place in
     let old = memory_there (network_of b) (accepted b) r.0 e r.2 c.args.self.now r.1 c.from.result c.index_mut-memory.result.now c.from.ensures c.index_mut-memory.ensures.value in
     let given = new_given (network_of b) (accepted b) r.0 e r.2 c.index_mut-memory.result.now old (accesses_of a) c.in-Some.ensures.answers in
-    room_given (network_of b) (accepted b) r.0 e r.2 c.args.self.now r.1 a c.in-Some-host_place.host _ place (number_is (network_of b) (accepted b) r.0 e r.2 a c.in-Some.ensures.fields.dst) given
+    room_given (network_of b) (accepted b) r.0 e r.2 c.args.self.now r.1 a c.in-Some-host_in_network.host _ place (number_is (network_of b) (accepted b) r.0 e r.2 a c.in-Some.ensures.fields.dst) given
 
 pub returns : goal.returns
 returns c = record {
@@ -72,10 +72,10 @@ returns c = record {
       let g = c.args.self.now in
       let e = c.args.entry.now in
       let a = c.in-Some.answer in
-      let place = place_is (network_of b) (accepted b) journal e so c.host_place.result c.in-Some-host_place.host c.in-Some-host_place.is c.host_place.ensures.place in
+      let place = place_is (network_of b) (accepted b) journal e so c.host_in_network.result c.in-Some-host_in_network.host c.in-Some-host_in_network.is c.host_in_network.ensures.place in
       let old = memory_there (network_of b) (accepted b) journal e so g gathers c.from.result c.index_mut-memory.result.now c.from.ensures c.index_mut-memory.ensures.value in
       let given = new_given (network_of b) (accepted b) journal e so c.index_mut-memory.result.now old (accesses_of a) c.in-Some.ensures.answers in
-      let notes = notes_given (network_of b) (accepted b) journal e so g gathers c.note.new.notes.items a c.in-Some-host_place.host _ place (number_is (network_of b) (accepted b) journal e so a c.in-Some.ensures.fields.dst) given c.note.ensures.noted in
+      let notes = notes_given (network_of b) (accepted b) journal e so g gathers c.note.new.notes.items a c.in-Some-host_in_network.host _ place (number_is (network_of b) (accepted b) journal e so a c.in-Some.ensures.fields.dst) given c.note.ensures.noted in
       gathered_more (network_of b) (accepted b) journal e so g gathers _ c.index_mut-memory.result.now c.step.new.self old (ap (λ (k : ℕ). set g.memories.items k c.step.new.self) c.from.ensures)
       c.in-Some.ensures.memory c.in-Some.ensures.base c.in-Some.ensures.size notes;
 }

@@ -1,7 +1,7 @@
 -- What is noted of the transaction is its outcome.
 use Rattle.std.proofs.Common.{ℕ, [], ap, ◌∙◌, get_or, false}
-use Rattle.sb_packet.specs.Outcomes.{Outcome}
-use Rattle.sb_check.specs.NotedAnswers.{NotedAnswers}
+use Rattle.sb_packet.specs.Answers.{Outcome}
+use Rattle.sb_check.specs.AnswerNotes.{NotedAnswers}
 use Rattle.sb_check.proofs.GatheredResults.{told_here}
 use Rattle.sb_check.proofs.gathered.GatheredResults.state.Goals as goal
 

@@ -1,6 +1,6 @@
 -- The next word isn't there.
 use Rattle.std.proofs.Common.{◌∷◌, []}
-use Rattle.sb_check.specs.Matching.{piece_text}
+use Rattle.sb_check.specs.Comparing.{piece_text}
 use Rattle.sb_check.specs.declared.line_piece.LinePiece.TheVariants.{Text}
 use Rattle.sb_check.proofs.MatchLemmas.{flat_map-differs, not_matched}
 use Rattle.sb_check.proofs.unread.Unread.pieces.Goals as goal

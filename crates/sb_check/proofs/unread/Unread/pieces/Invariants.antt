@@ -1,7 +1,7 @@
 -- The words so far were there.
 use Rattle.std.proofs.Common.{◌≡◌, ◌++◌, ◌∷◌, take}
 use Rattle.std.specs.Prelude.{flat_map}
-use Rattle.sb_check.specs.Matching.{piece_text}
+use Rattle.sb_check.specs.Comparing.{piece_text}
 use Rattle.sb_check.proofs.unread.Unread.pieces.Given as goal
 
 abbrev pub invariant-loop-index : goal.invariant-loop-index

@@ -1,7 +1,7 @@
 -- add: each port that is added is whole.
 use Rattle.std.proofs.Common.{All, sym, subst}
 use Rattle.std.proofs.lemmas.List.Elements.{All-push}
-use Rattle.sb_router.specs.Whole.{IsWholeOutlet}
+use Rattle.sb_router.specs.Forwarding.{IsWholeOutlet}
 use Rattle.sb_router.proofs.ends.Ends.add.Goals as goal
 
 pub returns-clause-whole : goal.returns-clause-whole

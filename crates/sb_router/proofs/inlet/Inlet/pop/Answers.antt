@@ -7,7 +7,7 @@ use Rattle.sb_packet.specs.declared.item.Item.{Item}
 use Rattle.sb_packet.specs.declared.item.Item.TheVariants as items
 use Rattle.sb_node.specs.Sides.{RingSide, ring_side}
 use Rattle.sb_node.specs.Steps.{IsItemPopped, IsRingEmpty}
-use Rattle.sb_router.specs.Causes.{lower, nothing_found}
+use Rattle.sb_router.specs.Popping.{lower, nothing_found}
 use Rattle.sb_router.specs.Lanes.{InletState}
 use Rattle.sb_router.proofs.Besides.{close_besides, none_besides, packet_besides, seen_besides}
 use Rattle.sb_router.proofs.Lowest.{found_nothing_more}

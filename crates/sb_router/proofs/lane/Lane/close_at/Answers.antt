@@ -2,7 +2,7 @@
 use Rattle.std.proofs.Common.{sym, refl, subst, arith}
 use Rattle.sb_router.specs.Lanes.{no_port}
 use Rattle.sb_router.specs.Steps.{IsTold}
-use Rattle.sb_router.specs.Whole.{IsWholeOutlet}
+use Rattle.sb_router.specs.Forwarding.{IsWholeOutlet}
 use Rattle.sb_router.proofs.Places.{at_place, of_place}
 use Rattle.sb_router.proofs.lane.Lane.close_at.Goals as goal
 

@@ -1,6 +1,6 @@
 -- close_each: each port was told once the place is behind the last one, or none.
 use Rattle.std.proofs.Common.{refl, ◌∙◌, arith}
-use Rattle.sb_router.specs.LaneOf.{lane_of, lane_route}
+use Rattle.sb_router.specs.RouterOf.{lane_of, lane_route}
 use Rattle.sb_router.proofs.ClosingEach.{tells_all, tells_more, tells_none, tells_not}
 use Rattle.sb_router.proofs.Shapes.{steps_shape}
 use Rattle.sb_router.proofs.WholeSteps.{still_whole}

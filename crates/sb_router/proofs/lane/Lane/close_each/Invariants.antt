@@ -1,6 +1,6 @@
 -- The ports before the place were told.
 use Rattle.std.proofs.Common.{◌≡◌}
-use Rattle.sb_router.specs.LaneOf.{lane_of, lane_route}
+use Rattle.sb_router.specs.RouterOf.{lane_of, lane_route}
 use Rattle.sb_router.proofs.ClosingEach.{TellsSoFar}
 use Rattle.sb_router.proofs.lane.Lane.close_each.Given as goal
 

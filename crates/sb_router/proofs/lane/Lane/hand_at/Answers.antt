@@ -3,7 +3,7 @@ use Rattle.std.proofs.Common.{◌≡◌, inr, sym, ap, ◌∙◌, set, get_or, a
 use Rattle.sb_packet.specs.declared.packet.Packet.{Packet}
 use Rattle.sb_router.specs.Lanes.{InletState, LaneState, no_inlet, inlet_at}
 use Rattle.sb_router.specs.Steps.{emptied}
-use Rattle.sb_router.specs.LaneOf.{lane_of, lane_route}
+use Rattle.sb_router.specs.RouterOf.{lane_of, lane_route}
 use Rattle.sb_router.proofs.Places.{at_place}
 use Rattle.sb_router.proofs.SameLane.{same_lane}
 use Rattle.sb_router.proofs.NextPlaces.{next_within}

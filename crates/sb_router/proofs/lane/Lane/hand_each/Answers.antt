@@ -1,9 +1,9 @@
 -- hand_each: what is held of each ring was handed on once the place is behind the last one.
 use Rattle.std.proofs.Common.{refl, ◌∙◌, subst, arith}
 use Rattle.sb_router.specs.Lanes.{LaneState, Route}
-use Rattle.sb_router.specs.LaneOf.{lane_of, lane_route}
-use Rattle.sb_router.specs.RouteOf.{route_of}
-use Rattle.sb_router.specs.Handing.{IsHanded}
+use Rattle.sb_router.specs.RouterOf.{lane_of, lane_route}
+use Rattle.sb_router.specs.Ways.{route_of}
+use Rattle.sb_router.specs.Popping.{IsHanded}
 use Rattle.sb_router.proofs.HandingEach.{hands_all, hands_more, hands_none}
 use Rattle.sb_router.proofs.Shapes.{steps_shape}
 use Rattle.sb_router.proofs.WholeSteps.{still_whole, whole_steps}

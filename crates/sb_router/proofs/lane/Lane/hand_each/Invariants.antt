@@ -1,6 +1,6 @@
 -- What is held of the rings before the place was handed on.
 use Rattle.std.proofs.Common.{◌≡◌}
-use Rattle.sb_router.specs.LaneOf.{lane_of, lane_route}
+use Rattle.sb_router.specs.RouterOf.{lane_of, lane_route}
 use Rattle.sb_router.proofs.HandingEach.{HandsSoFar}
 use Rattle.sb_router.proofs.lane.Lane.hand_each.Given as goal
 

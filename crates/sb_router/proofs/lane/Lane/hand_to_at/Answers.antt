@@ -1,7 +1,7 @@
 -- hand_to_at: the port at the place is offered the packet, and no other one.
 use Rattle.std.proofs.Common.{sym, refl, subst, arith}
 use Rattle.sb_router.specs.Lanes.{no_port}
-use Rattle.sb_router.specs.Sending.{IsHandedTo}
+use Rattle.sb_router.specs.Steps.{IsHandedTo}
 use Rattle.sb_router.proofs.Places.{at_place}
 use Rattle.sb_router.proofs.lane.Lane.hand_to_at.Goals as goal
 

@@ -2,7 +2,7 @@
 use Rattle.std.proofs.Common.{sym, refl, subst, arith}
 use Rattle.sb_router.specs.Lanes.{no_inlet}
 use Rattle.sb_router.specs.Popping.{IsPopped}
-use Rattle.sb_router.specs.Whole.{IsWholeInlet}
+use Rattle.sb_router.specs.Forwarding.{IsWholeInlet}
 use Rattle.sb_router.proofs.Places.{at_place, of_place}
 use Rattle.sb_router.proofs.lane.Lane.pop_at.Goals as goal
 

@@ -1,6 +1,6 @@
 -- pop_each: each ring was popped once the place is behind the last one.
 use Rattle.std.proofs.Common.{refl, ◌∙◌, arith}
-use Rattle.sb_router.specs.LaneOf.{lane_of, lane_route}
+use Rattle.sb_router.specs.RouterOf.{lane_of, lane_route}
 use Rattle.sb_router.proofs.PoppingEach.{pops_all, pops_more, pops_none}
 use Rattle.sb_router.proofs.Shapes.{steps_shape}
 use Rattle.sb_router.proofs.WholeSteps.{still_whole}

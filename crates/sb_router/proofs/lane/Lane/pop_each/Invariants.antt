@@ -1,6 +1,6 @@
 -- The rings before the place were popped.
 use Rattle.std.proofs.Common.{◌≡◌}
-use Rattle.sb_router.specs.LaneOf.{lane_of, lane_route}
+use Rattle.sb_router.specs.RouterOf.{lane_of, lane_route}
 use Rattle.sb_router.proofs.PoppingEach.{PopsSoFar}
 use Rattle.sb_router.proofs.lane.Lane.pop_each.Given as goal
 

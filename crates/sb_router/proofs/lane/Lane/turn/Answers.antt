@@ -1,8 +1,8 @@
 -- turn: one part after another.
 use Rattle.std.proofs.Common.{◌∙◌, sym, subst}
 use Rattle.sb_router.specs.Lanes.{LaneState}
-use Rattle.sb_router.specs.LaneOf.{lane_of, lane_route}
-use Rattle.sb_router.specs.RouteOf.{route_of}
+use Rattle.sb_router.specs.RouterOf.{lane_of, lane_route}
+use Rattle.sb_router.specs.Ways.{route_of}
 use Rattle.sb_router.specs.Turning.{HasClosed, HasHanded, IsLaneTurn}
 use Rattle.sb_router.proofs.LaneTurns.{lane_turn, lane_whole}
 use Rattle.sb_router.proofs.WholeSteps.{still_whole}

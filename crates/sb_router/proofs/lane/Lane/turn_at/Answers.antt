@@ -3,9 +3,9 @@ use Rattle.std.proofs.Common.{sym, ap, set, get_or, subst, arith}
 use Rattle.std.proofs.lemmas.List.{get_or-set_same}
 use Rattle.sb_port.specs.Ports.{PortSide}
 use Rattle.sb_router.specs.Lanes.{LaneState, no_port}
-use Rattle.sb_router.specs.LaneOf.{lane_of}
-use Rattle.sb_router.specs.Ports.{IsOutletTurned}
-use Rattle.sb_router.specs.Whole.{IsWholeOutlet}
+use Rattle.sb_router.specs.RouterOf.{lane_of}
+use Rattle.sb_router.specs.Popping.{IsOutletTurned}
+use Rattle.sb_router.specs.Forwarding.{IsWholeOutlet}
 use Rattle.sb_router.proofs.Places.{at_place, of_place}
 use Rattle.sb_router.proofs.lane.Lane.turn_at.Goals as goal
 

@@ -1,6 +1,6 @@
 -- turn_each: each port took its turn once the place is behind the last one.
 use Rattle.std.proofs.Common.{refl, ◌∙◌, arith}
-use Rattle.sb_router.specs.LaneOf.{lane_of, lane_route}
+use Rattle.sb_router.specs.RouterOf.{lane_of, lane_route}
 use Rattle.sb_router.proofs.TurningEach.{turns_all, turns_more, turns_none}
 use Rattle.sb_router.proofs.Shapes.{steps_shape}
 use Rattle.sb_router.proofs.WholeSteps.{still_whole}

@@ -1,7 +1,7 @@
 -- The ports before the place took their turns.
 use Rattle.std.proofs.Common.{◌≡◌}
-use Rattle.sb_router.specs.Causes.{FindsBesides}
-use Rattle.sb_router.specs.LaneOf.{lane_of}
+use Rattle.sb_router.specs.Popping.{FindsBesides}
+use Rattle.sb_router.specs.RouterOf.{lane_of}
 use Rattle.sb_router.proofs.TurningEach.{TurnsSoFar}
 use Rattle.sb_router.proofs.lane.Lane.turn_each.Given as goal
 

@@ -1,6 +1,6 @@
 -- with_routes: both directions begin with the ends of the legs, at which nothing happened yet.
 use Rattle.sb_router.specs.Lanes.{LaneState}
-use Rattle.sb_router.specs.RouteOf.{route_of}
+use Rattle.sb_router.specs.Ways.{route_of}
 use Rattle.sb_router.proofs.FreshLanes.{lane_forwards, lane_whole}
 use Rattle.sb_router.proofs.router.Router.with_routes.Goals as goal
 

@@ -1,9 +1,7 @@
 -- turn: both directions took their turns.
 use Rattle.std.proofs.Common.{sym, subst}
-use Rattle.sb_router.specs.LaneOf.{lane_of}
-use Rattle.sb_router.specs.RestedRouters.{IsRestedRouter}
-use Rattle.sb_router.specs.Routers.{IsKeptDirection, IsRouterTurn, IsWholeDirection}
-use Rattle.sb_router.specs.RouterOf.{router_core_side, direction_of}
+use Rattle.sb_router.specs.RouterOf.{direction_of, lane_of, router_core_side}
+use Rattle.sb_router.specs.Routers.{IsKeptDirection, IsRestedRouter, IsRouterTurn, IsWholeDirection}
 use Rattle.sb_router.proofs.RouterTurns.{kept_direction, router_rests, router_turn}
 use Rattle.sb_router.proofs.RouterTurning.{found_done, some_cause}
 use Rattle.sb_router.proofs.router_core.RouterCore.turn.Goals as goal

@@ -2,7 +2,7 @@
 use Rattle.std.proofs.Common.{◌≡◌, ◌<◌, ◌≤◌, ◌∙◌, [], ℕ, Bool, ap, sym, arith, get_or, length}
 use Rattle.std.specs.Prelude.{if◌then◌else◌}
 use Rattle.std.proofs.lemmas.List.{length-map}
-use Rattle.sb_packet.specs.Outcomes.{RunResults}
+use Rattle.sb_packet.specs.Answers.{RunResults}
 use Rattle.sb_flow.specs.NetworkOf.{network_of}
 use Rattle.sb_flow.specs.Rows.{device_of}
 use Rattle.sb_flow.specs.declared.bundle.Bundle.{Bundle}

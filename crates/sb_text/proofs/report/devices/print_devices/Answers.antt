@@ -4,7 +4,7 @@ use Rattle.std.proofs.lemmas.List.{length-map}
 use Rattle.sb_flow.specs.NetworkOf.{network_of}
 use Rattle.sb_flow.specs.Rows.{device_of}
 use Rattle.sb_text.proofs.ToldLemmas.{device_of_network, no_plan}
-use Rattle.sb_text.specs.ReportParts.{device_part}
+use Rattle.sb_text.specs.Reports.{device_part}
 use Rattle.sb_text.proofs.IndexedLemmas.{lines_all, lines_failed, lines_more}
 use Rattle.sb_text.proofs.report.devices.print_devices.Goals as goal
 

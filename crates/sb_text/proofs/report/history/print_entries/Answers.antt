@@ -4,7 +4,7 @@ use Rattle.std.specs.Prelude.{Bool}
 use Rattle.sb_packet.specs.Networks.{Network}
 use Rattle.sb_packet.specs.declared.entry.Entry.{Entry}
 use Rattle.sb_flow.specs.NetworkOf.{network_of}
-use Rattle.sb_text.specs.ReportParts.{entry_part}
+use Rattle.sb_text.specs.Reports.{entry_part}
 use Rattle.sb_text.proofs.PrintLemmas.{printed_as}
 use Rattle.sb_text.proofs.IndexedLemmas.{indexed_plain, lines_all, lines_failed, lines_more}
 use Rattle.sb_text.proofs.report.history.print_entries.Goals as goal

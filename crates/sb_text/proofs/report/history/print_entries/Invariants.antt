@@ -2,7 +2,7 @@
 use Rattle.std.proofs.Common.{take, Ok}
 use Rattle.sb_io.specs.declared.output.WriteFailed.{WriteFailed}
 use Rattle.sb_flow.specs.NetworkOf.{network_of}
-use Rattle.sb_text.specs.ReportParts.{entry_part}
+use Rattle.sb_text.specs.Reports.{entry_part}
 use Rattle.sb_text.specs.Printing.{IsPrinted}
 use Rattle.sb_text.proofs.IndexedLemmas.{indexed}
 use Rattle.sb_text.proofs.report.history.print_entries.Given as goal

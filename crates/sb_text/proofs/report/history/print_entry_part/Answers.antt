@@ -2,8 +2,7 @@
 use Rattle.std.proofs.Common.{◌∙◌, ◌++◌, ℕ, Bool, List, [], ap, sym}
 use Rattle.std.specs.Prelude.{if◌then◌else◌}
 use Rattle.sb_flow.specs.NetworkOf.{network_of}
-use Rattle.sb_text.specs.Reports.{entry_line}
-use Rattle.sb_text.specs.ReportParts.{entry_front, packet_text}
+use Rattle.sb_text.specs.Reports.{entry_front, entry_line, packet_text}
 use Rattle.sb_text.proofs.EntryLemmas.{entry_parts}
 use Rattle.sb_text.proofs.PrintLemmas.{printed_as}
 use Rattle.sb_text.proofs.ToldLemmas.{read_at}

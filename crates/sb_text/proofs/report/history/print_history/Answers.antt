@@ -1,7 +1,7 @@
 -- How many entries are printed, and their lines.
 use Rattle.std.proofs.Common.{◌≡◌, ◌∙◌, [], ◌∷◌, ℕ, List, Err, Ok, ap, length}
 use Rattle.std.specs.Prelude.{codes, decimal, filter, flat_map}
-use Rattle.sb_packet.specs.Sides.{device_side}
+use Rattle.sb_packet.specs.Networks.{device_side}
 use Rattle.sb_packet.specs.declared.entry.Entry.{Entry}
 use Rattle.sb_flow.specs.NetworkOf.{network_of}
 use Rattle.sb_text.specs.Reports.{entry_line, is_printed}

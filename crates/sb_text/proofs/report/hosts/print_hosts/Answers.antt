@@ -4,7 +4,7 @@ use Rattle.std.proofs.lemmas.List.{length-map}
 use Rattle.sb_flow.specs.NetworkOf.{network_of}
 use Rattle.sb_flow.specs.Rows.{host_of}
 use Rattle.sb_flow.proofs.Bundles.{host_of_network, idle_plan}
-use Rattle.sb_text.specs.ReportParts.{host_part}
+use Rattle.sb_text.specs.Reports.{host_part}
 use Rattle.sb_text.proofs.IndexedLemmas.{lines_all, lines_failed, lines_more}
 use Rattle.sb_text.proofs.report.hosts.print_hosts.Goals as goal
 

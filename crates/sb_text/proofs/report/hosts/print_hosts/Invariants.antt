@@ -1,10 +1,10 @@
 -- The lines of the hosts so far are printed or wait, and the sink has not failed.
 use Rattle.std.proofs.Common.{take, Ok}
-use Rattle.sb_packet.specs.Outcomes.{RunResults}
+use Rattle.sb_packet.specs.Answers.{RunResults}
 use Rattle.sb_flow.specs.NetworkOf.{network_of}
 use Rattle.sb_io.specs.declared.output.WriteFailed.{WriteFailed}
 use Rattle.sb_text.specs.Printing.{IsPrinted}
-use Rattle.sb_text.specs.ReportParts.{host_part}
+use Rattle.sb_text.specs.Reports.{host_part}
 use Rattle.sb_text.specs.Telling.{Tells}
 use Rattle.sb_text.proofs.IndexedLemmas.{indexed}
 use Rattle.sb_text.proofs.report.hosts.print_hosts.Given as goal

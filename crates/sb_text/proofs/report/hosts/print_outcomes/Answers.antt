@@ -1,7 +1,7 @@
 -- One transaction more adds its line, up to the line of the last; where the sink fails, a first part of all lines was written.
 use Rattle.std.proofs.Common.{◌≤◌, ◌<◌, [], ℕ, List, length, arith}
 use Rattle.std.specs.Prelude.{slice_index_or}
-use Rattle.sb_packet.specs.Outcomes.{Outcome, RunResults}
+use Rattle.sb_packet.specs.Answers.{Outcome, RunResults}
 use Rattle.sb_text.specs.Reports.{outcome_line}
 use Rattle.sb_packet.specs.declared.transaction.TxnState.TheVariants.{Waiting}
 use Rattle.sb_text.proofs.IndexedLemmas.{lines_all, lines_failed, lines_more, outcome_parts}

@@ -1,7 +1,7 @@
 -- The lines of the transactions so far are printed or wait, and the sink has not failed.
 use Rattle.std.proofs.Common.{◌≡◌, [], take, length, Ok}
 use Rattle.std.specs.Prelude.{slice_index_or}
-use Rattle.sb_packet.specs.Outcomes.{RunResults}
+use Rattle.sb_packet.specs.Answers.{RunResults}
 use Rattle.sb_io.specs.declared.output.WriteFailed.{WriteFailed}
 use Rattle.sb_text.specs.Reports.{outcome_line}
 use Rattle.sb_text.specs.Printing.{IsPrinted}

@@ -1,7 +1,7 @@
 -- The word and both addresses, each behind a blank, and a blank.
 use Rattle.std.proofs.Common.{◌≡◌, ◌∙◌, ◌++◌, [], ◌∷◌, ap, List, ℕ, append_assoc, refl}
 use Rattle.sb_text.specs.TextLines.{hex_number}
-use Rattle.sb_text.specs.ReportParts.{entry_middle}
+use Rattle.sb_text.specs.Reports.{entry_middle}
 use Rattle.sb_text.proofs.report.pieces.push_addresses.Goals as goal
 
 behind : (b x y z : List ℕ) → b ++ 32 ∷ x ++ 32 ∷ y ++ 32 ∷ z ++ 32 ∷ [] ≡ b ++ 32 ∷ (x ++ 32 ∷ (y ++ 32 ∷ (z ++ 32 ∷ [])))

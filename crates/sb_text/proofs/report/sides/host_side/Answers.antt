@@ -1,6 +1,6 @@
 -- The side is that of the row's link.
 use Rattle.std.proofs.Common.{◌∙◌}
-use Rattle.sb_packet.specs.Sides.{leaves_from, side_at}
+use Rattle.sb_packet.specs.Networks.{leaves_from, side_at}
 use Rattle.sb_flow.specs.NetworkOf.{network_of}
 use Rattle.sb_flow.specs.Rows.{link_of}
 use Rattle.sb_text.proofs.SideLemmas.{found_by}

@@ -1,6 +1,6 @@
 -- The blank, and the word behind it.
 use Rattle.std.proofs.Common.{rules, [], ◌∷◌}
-use Rattle.sb_text.specs.LineWords.{word_text}
+use Rattle.sb_text.specs.TextLines.{word_text}
 use Rattle.sb_text.proofs.PrintLemmas.{on_err, part_before, printed_then}
 use Rattle.sb_text.proofs.report.words.print_next.Goals as goal
 

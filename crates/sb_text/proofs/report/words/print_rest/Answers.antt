@@ -1,6 +1,6 @@
 -- A word more is printed behind those so far.
 use Rattle.std.proofs.Common.{◌≤◌, ◌<◌, ◌∷◌, [], ℕ, List, length, arith, refl}
-use Rattle.sb_text.specs.LineWords.{word_text}
+use Rattle.sb_text.specs.TextLines.{word_text}
 use Rattle.sb_text.specs.declared.line_word.LineWord.{LineWord}
 use Rattle.sb_text.specs.declared.line_word.LineWord.TheVariants.{Text}
 use Rattle.sb_text.proofs.PrintLemmas.{printed_as, printed_nothing}

@@ -1,6 +1,6 @@
 -- The words so far are printed or wait, and the sink has not failed.
 use Rattle.std.proofs.Common.{◌∷◌, take, Ok}
-use Rattle.sb_text.specs.LineWords.{word_text}
+use Rattle.sb_text.specs.TextLines.{word_text}
 use Rattle.sb_text.specs.Printing.{IsPrinted}
 use Rattle.sb_io.specs.declared.output.WriteFailed.{WriteFailed}
 use Rattle.sb_text.proofs.IndexedLemmas.{indexed}
