@@ -40,6 +40,11 @@ impl<F: Fabric + Drop> Line<F> {
         self.sender.push(packet)
     }
 
+    /// Publishes what was sent.
+    pub fn flush(&mut self) {
+        self.sender.flush();
+    }
+
     /// Ends the traffic.
     pub fn close(&mut self) -> Option<Push> {
         self.sender.close()

@@ -50,6 +50,14 @@ impl<T: TxEnd> Sender<T> {
         }
     }
 
+    /// Publishes what was sent.
+    pub fn flush(&mut self)
+        ensures plan { T.planned self.new.tx ≡ T.planned self.old.tx }
+        ensures mark { T.mark self.new.tx ≡ T.mark self.old.tx }
+    {
+        self.tx.flush();
+    }
+
     /// Ends the traffic; `None` where it was ended before.
     pub fn close(&mut self) -> Option<Push>
         ensures plan { T.planned self.new.tx ≡ T.planned self.old.tx }

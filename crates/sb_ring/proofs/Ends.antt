@@ -1,23 +1,32 @@
--- What an end knows after a whole push or pop, step by step.
-use Rattle.std.proofs.Common.{◌≡◌, ℕ, ◌+◌, List, [], ◌∷◌, ◌++◌, length, length-append, ap, subst, ◌∙◌}
+-- What an end knows after an item was sent, published or received.
+use Rattle.std.proofs.Common.{◌≡◌, ℕ, ◌+◌, List, [], ◌∷◌, ◌++◌, length, length-append, append_assoc, ap, subst, sym, ◌∙◌}
+use Rattle.std.proofs.lemmas.List.{append-nil}
 use Rattle.std.specs.Prelude.{Option, Some}
 use Rattle.atomic_table.specs.Table.{Me}
 use Rattle.sb_link.specs.Traffic.{MayFollow}
 use Rattle.sb_packet.specs.declared.item.Item.{Item}
 use Rattle.sb_link.specs.PlanOf.{plan_of}
 use Rattle.sb_link.specs.declared.plan.LinkPlan.{LinkPlan}
-use Rattle.sb_ring.specs.Plays.{with_item, with_learnt, with_part}
+use Rattle.sb_ring.specs.Plays.{with_ahead, with_item, with_part, with_published}
+use Rattle.sb_ring.specs.Rule.{sent_of}
 use Rattle.sb_ring.specs.Sending.{MaySendBy, MaySend}
 use Rattle.sb_ring.specs.declared.view.View.{View}
 
--- a seat learnt a count, stored or loaded a slot, and sent or received an item
-pub seat_after : (m a b d : Me ℕ (View (Option LinkPlan) Item)) (n : ℕ) (slot : List ℕ) (item : Item)
-    → a ≡ (with_learnt m.0 n, m.1) → b ≡ (with_part a.0 slot, a.1) → d ≡ (with_item b.0 item, b.1)
-    → d ≡ (with_item (with_part (with_learnt m.0 n) slot) item, m.1)
-seat_after m a b d n slot item learnt part more =
-    more
-    ∙ ap (λ (z : Me ℕ (View (Option LinkPlan) Item)). (with_item z.0 item, z.1)) part
-    ∙ ap (λ (z : Me ℕ (View (Option LinkPlan) Item)). (with_item (with_part z.0 slot) item, z.1)) learnt
+-- what a seat of a ring's table knows
+abbrev pub RingMe : Type 0
+RingMe = Me ℕ (View (Option LinkPlan) Item)
+
+-- a producer sent one more item
+pub sent_more : (me after : RingMe) (item : Item) → after ≡ (with_ahead me.0 item, me.1) → sent_of after.0 ≡ sent_of me.0 ++ item ∷ []
+sent_more me after item more = ap (λ (z : RingMe). sent_of z.0) more ∙ sym (append_assoc me.0.items me.0.ahead (item ∷ []))
+
+-- and published it
+pub sent_same : (me after : RingMe) → after ≡ (with_published me.0, me.1) → sent_of after.0 ≡ sent_of me.0
+sent_same me after published = ap (λ (z : RingMe). sent_of z.0) published ∙ append-nil (sent_of me.0)
+
+-- a consumer loaded a slot, and received its item
+pub seat_after : (me loaded after : RingMe) (slot : List ℕ) (item : Item) → loaded ≡ (with_part me.0 slot, me.1) → after ≡ (with_item loaded.0 item, loaded.1) → after ≡ (with_item me.0 item, me.1)
+seat_after me loaded after slot item part more = more ∙ ap (λ (z : RingMe). (with_item z.0 item, z.1)) part
 
 -- a list with one more item is longer by one
 pub one_more : (list : List Item) (item : Item) → length (list ++ item ∷ []) ≡ length list + 1

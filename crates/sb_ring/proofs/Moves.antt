@@ -1,5 +1,5 @@
 -- The rule allows each step of the two seats, and the splits and joins.
-use Rattle.std.proofs.Common.{◌≡◌, ℕ, zero, suc, ◌+◌, ◌*◌, ◌<◌, ⊎_elim, false, true≢false, List, [], ◌∷◌, ◌++◌, length, length-append, get_or, set, sym, refl, ap, ◌∙◌, subst, arith}
+use Rattle.std.proofs.Common.{◌≡◌, ℕ, zero, suc, ◌+◌, ◌*◌, ◌<◌, ⊎_elim, false, true≢false, List, [], ◌∷◌, ◌++◌, length, length-append, append_assoc, get_or, set, sym, refl, ap, ◌∙◌, subst, arith}
 use Rattle.std.proofs.lemmas.List.{set-get_or}
 use mathlib.Core.Option.{some, some-injective, some-ne-none}
 use lib.ListN.{get_elem?}
@@ -9,10 +9,10 @@ use Rattle.sb_ring.specs.declared.view.View.{View}
 use Rattle.sb_ring.specs.declared.view.Role.TheVariants.{Producer, Consumer, ReceivedNote, SentNote}
 use Rattle.sb_link.specs.Prefixes.{IsPrefix}
 use Rattle.sb_ring.specs.Layout.{head_word, slots_word, tail_word}
-use Rattle.sb_ring.specs.Rule.{IsRing, IsRuled, IsSeat, new_consumer, new_producer, slot_place}
-use Rattle.sb_ring.specs.Plays.{note_of_received, note_of_sent, read_note, with_told, with_consumer, with_last, with_part, IsHeadLoad, IsWordLoad, IsWordStore, IsTailStore, IsTailLoad, IsHeadStore}
+use Rattle.sb_ring.specs.Rule.{IsRing, IsRuled, IsSeat, new_consumer, new_producer, sent_of, slot_place}
+use Rattle.sb_ring.specs.Plays.{note_of_received, note_of_sent, read_note, with_told, with_consumer, with_last, with_part, IsHeadLoad, IsWordLoad, IsWordStore, IsItemEnd, IsTailStore, IsTailLoad, IsHeadStore}
 use Rattle.sb_ring.proofs.Prefixes.{prefix_refl, prefix_nil, prefix_more, prefix_trans, prefix_length, next_of, front_full, last_of, with_last-snoc}
-use Rattle.sb_ring.proofs.Words.{head_loaded, word_found, word_replaced, tail_stored, tail_loaded, word_loaded, head_stored, paired_off, told_producer, told_consumer}
+use Rattle.sb_ring.proofs.Words.{head_loaded, word_found, word_replaced, item_ended, tail_stored, tail_loaded, word_loaded, head_stored, paired_off, told_producer, told_consumer}
 use Rattle.sb_ring.proofs.Seats.{all_set, all_snoc, is_producer, is_consumer, producer_steps, consumer_steps, set_apart, set_there}
 
 none_follow : {I : Type 0} (follows : List I → I → Type 0) (ys zs : List I) (x : I) → [] ≡ ys ++ x ∷ zs → follows ys x
@@ -38,7 +38,7 @@ module _ {P I : Type 0} where
 module _ {S P I : Type 0} (width : ℕ) (enc : I → List ℕ) (enc_length : (x : I) → length (enc x) ≡ width) (follows : P → List I → I → Type 0) (c : ℕ) where
   pub head_load_allowed : (slots id : ℕ) (me : Me S (View P I)) → me.0.role ≡ Producer → Allows (IsRuled width enc follows c) slots id me head_word (λ n. n) (IsHeadLoad me)
   head_load_allowed slots id me role s k len at small = let r = is_producer width enc follows c s k id me.0 at role in let n : ℕ = get_or s.words head_word 0 in
-      let w : View P I = record me.0 { learnt = n } in let b = prefix_trans me.0.told k.consumer.items me.0.items r.told_producer r.in_order in (
+      let w : View P I = record me.0 { learnt = n; loads = me.0.loads + 1 } in let b = prefix_trans me.0.told k.consumer.items me.0.items r.told_producer r.in_order in (
         w,
         keeps,
         tt,
@@ -53,8 +53,8 @@ module _ {S P I : Type 0} (width : ℕ) (enc : I → List ℕ) (enc_length : (x 
         },
       )
 
-  pub word_find_allowed : (slots id : ℕ) (me : Me S (View P I)) (i : ℕ) → me.0.role ≡ Producer → length me.0.items < me.0.learnt + c → length me.0.part < width
-      → i ≡ slot_place width c (length me.0.items) + length me.0.part → Allows (IsRuled width enc follows c) slots id me i (λ n. n) (λ n. IsWordLoad me n)
+  pub word_find_allowed : (slots id : ℕ) (me : Me S (View P I)) (i : ℕ) → me.0.role ≡ Producer → length (sent_of me.0) < me.0.learnt + c → length me.0.part < width
+      → i ≡ slot_place width c (length (sent_of me.0)) + length me.0.part → Allows (IsRuled width enc follows c) slots id me i (λ n. n) (λ n. IsWordLoad me n)
   word_find_allowed slots id me i role room narrow is s k len at small = let r = is_producer width enc follows c s k id me.0 at role in let n : ℕ = get_or s.words i 0 in
       let w : View P I = record me.0 { part = me.0.part ++ n ∷ [] } in (
         w,
@@ -67,37 +67,51 @@ module _ {S P I : Type 0} (width : ℕ) (enc : I → List ℕ) (enc_length : (x 
       )
 
   pub word_store_allowed : (slots id : ℕ) (me : Me S (View P I)) (i x : ℕ) → me.0.role ≡ Producer → 0 < length me.0.part
-      → i + 1 ≡ slot_place width c (length me.0.items) + length me.0.part → Allows (IsRuled width enc follows c) slots id me i (λ _. x) (λ _. IsWordStore me x)
+      → i + 1 ≡ slot_place width c (length (sent_of me.0)) + length me.0.part → Allows (IsRuled width enc follows c) slots id me i (λ _. x) (λ _. IsWordStore me x)
   word_store_allowed slots id me i x role more is s k len at small = let r = is_producer width enc follows c s k id me.0 at role in
       let last = last_of me.0.part more in let front : List ℕ = last.0 in let w : View P I = record me.0 { part = front ++ x ∷ [] } in
       let longer : length me.0.part ≡ length front + 1 = ap length last.2 ∙ length-append front (last.1 ∷ []) in
-      let here : i ≡ slot_place width c (length me.0.items) + length front = omega arith in
+      let here : i ≡ slot_place width c (length (sent_of me.0)) + length front = omega arith in
       let now : front ++ x ∷ [] ≡ with_last me.0.part x = sym (ap (λ (part : List ℕ). with_last part x) last.2 ∙ with_last-snoc front last.1 x) in (
         w,
         keeps,
         tt,
         subst (λ j. IsRuled width enc follows c record { words = set s.words j x; homes = s.homes; views = set s.views id w }) (sym here)
-            (producer_steps width enc follows c s k id me.0 at role (set s.words (slot_place width c (length me.0.items) + length front) x) s.homes w role refl (prefix_refl me.0.items)
+            (producer_steps width enc follows c s k id me.0 at role (set s.words (slot_place width c (length (sent_of me.0)) + length front) x) s.homes w role refl (prefix_refl me.0.items)
             (word_replaced width enc enc_length follows c s.words me.0 k.consumer front last.1 x r last.2)),
         record { replaced = ap (λ (part : List ℕ). (with_part me.0 part, me.1)) now },
       )
 
-  pub tail_store_allowed : (slots id : ℕ) (me : Me S (View P I)) (n : ℕ) (x : I) → me.0.role ≡ Producer → 0 < width → enc x ≡ me.0.part → follows me.0.plan me.0.items x
-      → n ≡ length me.0.items + 1 → Allows (IsRuled width enc follows c) slots id me tail_word (λ _. n) (λ _. IsTailStore enc follows me)
-  tail_store_allowed slots id me n x role wide is may count s k len at small = let r = is_producer width enc follows c s k id me.0 at role in
-      let w : View P I = record me.0 { items = me.0.items ++ x ∷ []; part = [] } in (
+  -- the step has no word of its own: it is a load of any word, of which nothing is used
+  pub item_end_allowed : (slots id : ℕ) (me : Me S (View P I)) (i : ℕ) (x : I) → me.0.role ≡ Producer → 0 < width → enc x ≡ me.0.part → follows me.0.plan (sent_of me.0) x
+      → Allows (IsRuled width enc follows c) slots id me i (λ n. n) (λ _. IsItemEnd enc follows me)
+  item_end_allowed slots id me i x role wide is may s k len at small = let r = is_producer width enc follows c s k id me.0 at role in
+      let w : View P I = record me.0 { ahead = me.0.ahead ++ x ∷ []; part = [] } in (
+        w,
+        keeps,
+        tt,
+        subst (λ ws. IsRuled width enc follows c record { words = ws; homes = s.homes; views = set s.views id w }) (sym (set-get_or s.words i 0))
+            (producer_steps width enc follows c s k id me.0 at role s.words s.homes w role refl (prefix_refl me.0.items)
+            (item_ended width enc enc_length follows c s.words me.0 k.consumer x r wide is may)),
+        record { item = x; spelt = is; lawful = may; sent = refl },
+      )
+
+  pub tail_store_allowed : (slots id : ℕ) (me : Me S (View P I)) (n : ℕ) → me.0.role ≡ Producer → n ≡ length (sent_of me.0)
+      → Allows (IsRuled width enc follows c) slots id me tail_word (λ _. n) (λ _. IsTailStore me)
+  tail_store_allowed slots id me n role count s k len at small = let r = is_producer width enc follows c s k id me.0 at role in
+      let w : View P I = record me.0 { items = sent_of me.0; ahead = [] } in (
         w,
         keeps,
         tt,
         subst (λ m. IsRuled width enc follows c record { words = set s.words 0 m; homes = s.homes; views = set s.views id w }) (sym count)
-            (producer_steps width enc follows c s k id me.0 at role (set s.words 0 (length me.0.items + 1)) s.homes w role refl (prefix_more me.0.items (x ∷ []))
-            (tail_stored width enc enc_length follows c s.words me.0 k.consumer x r wide is may)),
-        record { item = x; spelt = is; lawful = may; sent = refl },
+            (producer_steps width enc follows c s k id me.0 at role (set s.words 0 (length (sent_of me.0))) s.homes w role refl (prefix_more me.0.items me.0.ahead)
+            (tail_stored width enc enc_length follows c s.words me.0 k.consumer r)),
+        record { published = refl },
       )
 
   pub tail_load_allowed : (slots id : ℕ) (me : Me S (View P I)) → me.0.role ≡ Consumer → Allows (IsRuled width enc follows c) slots id me tail_word (λ n. n) (IsTailLoad me)
   tail_load_allowed slots id me role s k len at small = let r = is_consumer width enc follows c s k id me.0 at role in let n : ℕ = get_or s.words 0 0 in
-      let pair = ((k.seats id me.0 at).one_consumer role).2 in let w : View P I = record me.0 { learnt = n } in (
+      let pair = ((k.seats id me.0 at).one_consumer role).2 in let w : View P I = record me.0 { learnt = n; loads = me.0.loads + 1 } in (
         w,
         keeps,
         tt,
@@ -139,7 +153,8 @@ module _ {S P I : Type 0} (width : ℕ) (enc : I → List ℕ) (enc_length : (x 
         record {
           item = x;
           spelt = front_full me.0.part (enc x) (r.loaded x found.3) (full ∙ sym (enc_length x));
-          lawful = subst (λ b. follows b me.0.items x) (sym r.one_plan) (r.lawful me.0.items found.1 x found.2);
+          lawful = subst (λ b. follows b me.0.items x) (sym r.one_plan)
+              (r.lawful me.0.items (found.1 ++ k.producer.ahead) x (ap (λ l. l ++ k.producer.ahead) found.2 ∙ append_assoc me.0.items (x ∷ found.1) k.producer.ahead));
           received = refl;
         },
       )

@@ -5,7 +5,7 @@ use Rattle.std.specs.Prelude.{ℕ}
 abbrev pub slot_width : ℕ
 slot_width = 8
 
--- the word with the count of the items sent
+-- the word with the count of the items published
 abbrev pub tail_word : ℕ
 tail_word = 0
 
@@ -16,3 +16,7 @@ head_word = 8
 -- the first word of the first slot
 abbrev pub slots_word : ℕ
 slots_word = 16
+
+-- so many items at most are published by one store of the tail
+abbrev pub batch_size : ℕ
+batch_size = 8

@@ -1,7 +1,8 @@
 -- What each step tells the seat that makes it.
-use Rattle.std.specs.Prelude.{◌≡◌, ℕ, ◌≤◌, true, false, List, [], ◌∷◌, ◌++◌, length}
+use Rattle.std.specs.Prelude.{◌≡◌, ℕ, ◌+◌, ◌≤◌, true, List, [], ◌∷◌, ◌++◌, length}
 use Rattle.atomic_table.specs.Table.{Me}
 use Rattle.sb_link.specs.Prefixes.{IsPrefix}
+use Rattle.sb_ring.specs.Rule.{bare_view, sent_of}
 use Rattle.sb_ring.specs.declared.view.View.{View}
 use Rattle.sb_ring.specs.declared.view.Role.TheVariants.{ReceivedNote, SentNote, Spent}
 
@@ -12,15 +13,23 @@ with_last (x ∷ []) word = word ∷ []
 with_last (x ∷ y ∷ rest) word = x ∷ with_last (y ∷ rest) word
 
 module _ {P I : Type 0} where
-  -- a seat has learnt a count
+  -- a seat has loaded the other end's count
   abbrev pub with_learnt : View P I → ℕ → View P I
-  with_learnt v n = record v { learnt = n }
+  with_learnt v n = record v { learnt = n; loads = v.loads + 1 }
 
   -- a seat has these words of its next item
   abbrev pub with_part : View P I → List ℕ → View P I
   with_part v part = record v { part = part }
 
-  -- a seat has sent or received one more item
+  -- a producer has sent one more item, and not published it
+  abbrev pub with_ahead : View P I → I → View P I
+  with_ahead v item = record v { ahead = v.ahead ++ item ∷ []; part = [] }
+
+  -- a producer has published all that it sent
+  abbrev pub with_published : View P I → View P I
+  with_published v = record v { items = sent_of v; ahead = [] }
+
+  -- a consumer has received one more item
   abbrev pub with_item : View P I → I → View P I
   with_item v item = record v { items = v.items ++ item ∷ []; part = [] }
 
@@ -34,19 +43,19 @@ module _ {P I : Type 0} where
 
   -- a note of what the consumer received
   abbrev pub note_of_received : View P I → View P I
-  note_of_received v = record { role = ReceivedNote; paired = false; plan = v.plan; items = v.items; learnt = 0; part = []; told = [] }
+  note_of_received v = bare_view ReceivedNote v.plan v.items
 
-  -- a note of what the producer sent
+  -- a note of what the producer published
   abbrev pub note_of_sent : View P I → View P I
-  note_of_sent v = record { role = SentNote; paired = false; plan = v.plan; items = v.items; learnt = 0; part = []; told = [] }
+  note_of_sent v = bare_view SentNote v.plan v.items
 
   -- a note that was read; `plan` is any plan
   abbrev pub read_note : P → View P I
-  read_note plan = record { role = Spent; paired = false; plan = plan; items = []; learnt = 0; part = []; told = [] }
+  read_note plan = bare_view Spent plan []
 
 module _ {S P I : Type 0} where
   -- the producer loaded the head word: it knows that so many items were taken, and that the note which it read last
-  -- began what it has sent and was no longer than that
+  -- began what it has published and was no longer than that
   pub record IsHeadLoad (before : Me S (View P I)) (count : ℕ) (after : Me S (View P I)) : Type 0 where
     pub known_now : after ≡ (with_learnt before.0 count, before.1)
     pub risen : before.0.learnt ≤ count
@@ -63,15 +72,19 @@ module _ {S P I : Type 0} where
   pub record IsWordStore (before : Me S (View P I)) (word : ℕ) (after : Me S (View P I)) : Type 0 where
     pub replaced : after ≡ (with_part before.0 (with_last before.0.part word), before.1)
 
-  -- the producer stored the tail word: the words that it has are an item that may be sent there, and it is sent
-  pub record IsTailStore (spelling : I → List ℕ) (MaySend : P → List I → I → Type 0) (before after : Me S (View P I)) : Type 0 where
+  -- the producer sent an item: the words that it has are an item's that may be sent there
+  pub record IsItemEnd (spelling : I → List ℕ) (MaySend : P → List I → I → Type 0) (before after : Me S (View P I)) : Type 0 where
     pub item : I
     pub spelt : spelling item ≡ before.0.part
-    pub lawful : MaySend before.0.plan before.0.items item
-    pub sent : after ≡ (with_item before.0 item, before.1)
+    pub lawful : MaySend before.0.plan (sent_of before.0) item
+    pub sent : after ≡ (with_ahead before.0 item, before.1)
 
-  -- the consumer loaded the tail word: it knows that so many items were sent, and that the note which it read last was
-  -- no longer than that
+  -- the producer stored the tail word: all that it sent is published
+  pub record IsTailStore (before after : Me S (View P I)) : Type 0 where
+    pub published : after ≡ (with_published before.0, before.1)
+
+  -- the consumer loaded the tail word: it knows that so many items were published, and that the note which it read last
+  -- was no longer than that
   pub record IsTailLoad (before : Me S (View P I)) (count : ℕ) (after : Me S (View P I)) : Type 0 where
     pub known_now : after ≡ (with_learnt before.0 count, before.1)
     pub risen : before.0.learnt ≤ count

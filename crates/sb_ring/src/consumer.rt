@@ -13,7 +13,7 @@ use crate::rule::{RingSeat, RingWords};
 use sb_packet::Item;
 use sb_slot::from_slot;
 
-/// Loads the count of the items that were sent.
+/// Loads the count of the items that are published.
 pub(crate) fn load_tail(words: &RingWords, seat: &mut RingSeat) -> u64
     requires table { seat.old.table_id ≡ words.now.table_id }
     requires size { head_word < words.now.table_id.words }

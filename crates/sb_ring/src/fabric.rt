@@ -4,6 +4,7 @@ ghost use Rattle.std.specs.Prelude.{◌≡◌, ◌+◌, ◌*◌, ◌≤◌, ◌<
 ghost use Rattle.sb_link.specs.Prefixes.{IsPrefix};
 ghost use Rattle.sb_link.specs.Ends.{HaveMet};
 ghost use Rattle.sb_ring.specs.Layout.{slot_width, slots_word};
+ghost use Rattle.sb_ring.specs.Rule.{sent_of};
 
 use crate::layout::{SLOT_WIDTH, SLOTS_WORD};
 use crate::meet::meet_ends;
@@ -15,7 +16,8 @@ use sb_link::{Fabric, LinkPlan, MeetFabric, RingRegistry};
 use std::alloc::{AllocError, Global};
 use std::sync::Arc;
 
-/// Makes rings whose ends may be on two threads. What either end knows of the other is what it loaded last.
+/// Makes rings whose ends may be on two threads. What either end knows of the other is what it loaded last, and what was
+/// sent can be received once it is published: a batch, a Close, and what was left before a `Full` or a `flush`.
 #[derive(Drop)]
 pub struct RingFabric {
     registry: RingRegistry<RingRx>,
@@ -59,8 +61,10 @@ impl Fabric for RingFabric {
         Ok(ends)
     }
 
-    // nothing is kept back, so that there is nothing to hand over
-    fn hand(_tx: &mut RingTx, _rx: &mut RingRx) {}
+    // what was sent is published; each end learns of the other by itself
+    fn hand(tx: &mut RingTx, _rx: &mut RingRx) {
+        tx.publish();
+    }
 
     fn settle(&mut self, mut tx: RingTx, mut rx: RingRx) {
         meet_ends(&mut tx, &mut rx);
@@ -78,7 +82,7 @@ impl MeetFabric for RingFabric {
 fn new_ring(alloc: Global, plan: &LinkPlan) -> Result<(RingTx, RingRx), AllocError>
     ensures tx_plan { IfOk result (λ ends. ends.0.plan ≡ plan.now) }
     ensures rx_plan { IfOk result (λ ends. ends.1.plan ≡ plan.now) }
-    ensures sent { IfOk result (λ ends. ends.0.seat.me.0.items ≡ []) }
+    ensures sent { IfOk result (λ ends. sent_of ends.0.seat.me.0 ≡ []) }
     ensures received { IfOk result (λ ends. ends.1.seat.me.0.items ≡ []) }
     ensures taken { IfOk result (λ ends. ends.0.seat.me.0.learnt ≡ 0) }
     ensures known { IfOk result (λ ends. ends.1.seat.me.0.learnt ≡ 0) }
@@ -95,12 +99,15 @@ fn new_ring(alloc: Global, plan: &LinkPlan) -> Result<(RingTx, RingRx), AllocErr
         table,
         seat: producer,
         sent: 0,
+        unpublished: 0,
+        taken: 0,
     };
     let rx = RingRx {
         plan: *plan,
         table: other,
         seat: consumer,
         received: 0,
+        known: 0,
     };
     Ok((tx, rx))
 }

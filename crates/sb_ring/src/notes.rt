@@ -35,7 +35,7 @@ pub(crate) fn note_received(words: &RingWords, seat: &mut RingSeat) -> RingSeat
     words.split_seat::<ReceivedNote>(seat)
 }
 
-/// The producer writes a note of what it sent.
+/// The producer writes a note of what it published.
 pub(crate) fn note_sent(words: &RingWords, seat: &mut RingSeat) -> RingSeat
     requires table { seat.old.table_id ≡ words.now.table_id }
     requires size { 0 < words.now.table_id.words }

@@ -30,15 +30,24 @@ impl Play<u8, RingView> for WordStore {
     ghost then = { λ s before n after. IsWordStore before n after };
 }
 
+// the producer sends the item whose words it has
+pub(crate) struct ItemEnd;
+
+impl Play<u8, RingView> for ItemEnd {
+    ghost use Rattle.sb_slot.specs.Slots.{slot_of};
+    ghost use Rattle.sb_ring.specs.Plays.{IsItemEnd};
+    ghost use Rattle.sb_ring.specs.Sending.{MaySend};
+
+    ghost then = { λ s before n after. IsItemEnd slot_of MaySend before after };
+}
+
 // the producer stores the tail word
 pub(crate) struct TailStore;
 
 impl Play<u8, RingView> for TailStore {
-    ghost use Rattle.sb_slot.specs.Slots.{slot_of};
     ghost use Rattle.sb_ring.specs.Plays.{IsTailStore};
-    ghost use Rattle.sb_ring.specs.Sending.{MaySend};
 
-    ghost then = { λ s before n after. IsTailStore slot_of MaySend before after };
+    ghost then = { λ s before n after. IsTailStore before after };
 }
 
 // the consumer loads the tail word
@@ -84,7 +93,7 @@ impl Split<RingView> for ReceivedNote {
     ghost right = { note_of_received };
 }
 
-// the producer writes a note of what it sent
+// the producer writes a note of what it published
 pub(crate) struct SentNote;
 
 impl Split<RingView> for SentNote {

@@ -1,4 +1,4 @@
-//! A ring of one place that carries a Close.
+//! Rings that carry a Close.
 
 ghost use Rattle.std.specs.Prelude.{◌≡◌, []};
 
@@ -9,12 +9,13 @@ use std::alloc::Global;
 use std::process::Abort;
 use std::test::Fail;
 
-// sends and receives a Close over a fabric's first ring, whose ends meet in between
+// sends and receives a Close over a fabric's first ring; its ends meet in between, or learn of each other by themselves
 fn carry_close<F: MeetFabric + Drop>(
     rt: &impl Abort,
     alloc: Global,
     mut fabric: F,
     plan: &LinkPlan,
+    meets: bool,
 ) -> Result<(), Fail>
     requires unused { F.made fabric ≡ [] }
 {
@@ -27,7 +28,9 @@ fn carry_close<F: MeetFabric + Drop>(
         }
     );
     assert_eq!(rt; tx.try_push(&Item::Close), Push::Done);
-    F::meet(&mut tx, &mut rx);
+    if meets {
+        F::meet(&mut tx, &mut rx);
+    }
     assert_eq!(rt; rx.try_pop(), Pop::Item(Item::Close));
     assert_eq!(rt;
         rx.try_pop(),
@@ -40,13 +43,13 @@ fn carry_close<F: MeetFabric + Drop>(
     Ok(())
 }
 
-#[test]
-fn ring_carries_a_close(rt: HostRuntime) -> Result<(), Fail> {
-    let plan = LinkPlan {
+// the plan of a ring over which nothing but a Close goes
+fn close_plan(capacity: u16) -> LinkPlan {
+    LinkPlan {
         ring: 3,
         up: true,
         width: 8,
-        capacity: 1,
+        capacity: capacity.clamp(1, 1024),
         budget: 0,
         flows: Flows {
             count: 0,
@@ -54,6 +57,17 @@ fn ring_carries_a_close(rt: HostRuntime) -> Result<(), Fail> {
             bytes: [0; 32],
             through: [0; 32],
         },
-    };
-    carry_close(&rt, rt.alloc(), RingFabric::new(rt.alloc()), &plan)
+    }
+}
+
+#[test]
+fn ring_carries_a_close(rt: HostRuntime) -> Result<(), Fail> {
+    let fabric = RingFabric::new(rt.alloc());
+    carry_close(&rt, rt.alloc(), fabric, &close_plan(1), true)
+}
+
+#[test]
+fn close_is_published_at_once(rt: HostRuntime) -> Result<(), Fail> {
+    let fabric = RingFabric::new(rt.alloc());
+    carry_close(&rt, rt.alloc(), fabric, &close_plan(16), false)
 }

@@ -2,17 +2,16 @@
 use Rattle.std.proofs.Common.{◌≡◌, ℕ, ◌+◌, ◌*◌, [], length, get_or, ◌∙◌, ap, sym, subst, List}
 use Rattle.std.proofs.lemmas.List.{length-replicate}
 use Rattle.std.proofs.Math.ListN.{replicate}
-use Rattle.std.specs.Prelude.{Option, Some}
-use Rattle.atomic_table.specs.Table.{Me}
+use Rattle.std.specs.Prelude.{Some}
 use Rattle.sb_slot.specs.Slots.{slot_of}
 use Rattle.sb_link.specs.Traffic.{AreInTurn}
 use Rattle.sb_packet.specs.declared.item.Item.{Item}
 use Rattle.sb_link.specs.PlanOf.{plan_of}
-use Rattle.sb_link.specs.declared.plan.LinkPlan.{LinkPlan}
 use Rattle.sb_link.proofs.InTurn.{nothing_in_turn}
 use Rattle.sb_ring.specs.Layout.{slot_width, slots_word}
 use Rattle.sb_ring.specs.Sending.{MaySend}
-use Rattle.sb_ring.specs.declared.view.View.{View}
+use Rattle.sb_ring.specs.Rule.{sent_of}
+use Rattle.sb_ring.proofs.Ends.{RingMe}
 use Rattle.sb_ring.proofs.Moves.{opens}
 use Rattle.sb_ring.proofs.Slots.{slot_length}
 use Rattle.sb_ring.proofs.Zeros.{zero_at}
@@ -26,7 +25,7 @@ of_words-requires c = let plan = c.args.plan.now in let n : ℕ = slots_word + p
 
 pub invariant_of-tx-clause-in_turn : goal.invariant_of-tx-clause-in_turn
 invariant_of-tx-clause-in_turn c =
-    let items : c.make_consumer-consumer.new.seat.me.0.items ≡ [] =
-    ap (λ (m : Me ℕ (View (Option LinkPlan) Item)). m.0.items) c.make_consumer-consumer.ensures.paired
-    ∙ ap (λ (m : Me ℕ (View (Option LinkPlan) Item)). m.0.items) c.in_ok-table.ensures.4 in
-    subst (λ (list : List Item). AreInTurn (plan_of c.args.plan.now) list) (sym items) nothing_in_turn
+    let sent : sent_of c.make_consumer-consumer.new.seat.me.0 ≡ [] =
+    ap (λ (me : RingMe). sent_of me.0) c.make_consumer-consumer.ensures.paired
+    ∙ ap (λ (me : RingMe). sent_of me.0) c.in_ok-table.ensures.4 in
+    subst (λ (list : List Item). AreInTurn (plan_of c.args.plan.now) list) (sym sent) nothing_in_turn
