@@ -1,13 +1,10 @@
 -- A host that begins is in order.
-use Rattle.std.proofs.Common.{◌≡◌, ◌≤◌, ◌<◌, ◌+◌, ℕ, zero, suc, arith, refl, sym, ap, subst, ◌∙◌, length, List, [], ◌∷◌, ◌++◌, Bool, true, false, true≢false}
-use Rattle.std.specs.Prelude.{◌&&◌, nat_le, flat_map, map, All, if◌then◌else◌}
-use Rattle.std.specs.List.{list_all}
+use Rattle.std.proofs.Common.{◌≡◌, ◌<◌, ◌+◌, ℕ, arith, refl, sym, ap, subst, ◌∙◌, length, List, [], ◌∷◌, ◌++◌, true, false, true≢false}
+use Rattle.std.specs.Prelude.{flat_map, map, All, if◌then◌else◌}
 use Rattle.std.proofs.Math.ListN.{get_or}
-use Rattle.std.proofs.lemmas.Bool.Decides.{nat_tests}
 use Rattle.std.proofs.lemmas.Grind.{flat_map-append}
 use Rattle.std.proofs.lemmas.List.{get_or-map, length-map}
 use Rattle.std.proofs.lemmas.List.Elements.{All-nil, All-cons, All-head, All-tail}
-use Rattle.std.proofs.lemmas.Bool.{and_parts}
 use Rattle.sb_packet.specs.Accesses.{Access, message_accesses}
 use Rattle.sb_packet.specs.Cuts.{cut_parts}
 use Rattle.sb_packet.specs.Networks.{NetHost, Network}
@@ -19,7 +16,7 @@ use Rattle.sb_packet.proofs.CutWords.{words_of_cut}
 use Rattle.sb_port.specs.Ports.{PortSide, PortState, port_accesses}
 use Rattle.sb_port.specs.Waiting.{nothing_waits}
 use Rattle.sb_node.specs.Sides.{RingSide, has_ended}
-use Rattle.sb_flow.specs.Limits.{is_limited_host}
+use Rattle.sb_flow.specs.Accepted.{is_limited_host}
 use Rattle.sb_flow.specs.NetworkOf.{network_of}
 use Rattle.sb_flow.specs.Rows.{host_of}
 use Rattle.sb_flow.specs.declared.bundle.Bundle.{Bundle}
@@ -27,12 +24,10 @@ use Rattle.sb_flow.specs.declared.host_plan.HostPlan.{HostPlan}
 use Rattle.sb_flow.proofs.HostLimits.{host_limits, limits_of, passes_at}
 use Rattle.sb_host.specs.declared.transaction_plan.TransactionPlan.{TransactionPlan}
 use Rattle.sb_host.specs.declared.script_plan.ScriptPlan.{ScriptPlan}
-use Rattle.sb_host.specs.Asked.{Asked, accesses_from, line_accesses, line_in, line_message, packets_from, sent_accesses, sent_packets}
+use Rattle.sb_host.specs.Asked.{AreTransactions, Asked, accesses_from, line_accesses, line_in, line_message, packets_from, sent_accesses, sent_packets}
 use Rattle.sb_host.specs.Hosts.{IsHostInOrder}
-use Rattle.sb_host.specs.Issuing.{IsMadeFor, packets_left}
-use Rattle.sb_host.specs.Lines.{AreTransactions}
+use Rattle.sb_host.specs.Progress.{IsMadeFor, TransactionsSide, packets_left}
 use Rattle.sb_host.specs.Places.{AreIssuable, asked_of}
-use Rattle.sb_host.specs.Progress.{TransactionsSide}
 use Rattle.sb_host.specs.Rows.{IsTable}
 
 -- the words of a transaction's packets are its words
@@ -69,6 +64,7 @@ begins_in_order t port ring new issuable made state received table =
       closes = λ told. absurd (true≢false (sym told ∙ ap (λ (s : PortState). s.close_requested) state));
       table = subst (λ (list : List Item). IsTable t.asked (item_accesses list) t.rows) (sym received) table;
       ends = sym (ap (λ (list : List Item). has_ended (record ring { received = list })) received);
+      window = λ k i at behind. absurd (omega (arith, behind));
     } in
     subst (λ (x : TransactionsSide). IsHostInOrder x port ring) (sym new) begins
 

@@ -6,9 +6,8 @@ use Rattle.std.proofs.lemmas.Simd.{map-map}
 use Rattle.std.proofs.lemmas.List.Folds.{sum_by-zero, list_all-map}
 use Rattle.sb_word.specs.declared.command.Op.TheVariants.{RespRd, RespWr}
 use Rattle.sb_packet.specs.Accesses.{Access, access_at}
-use Rattle.sb_packet.specs.Answers.{answer_body, answer_code, unreached_by}
+use Rattle.sb_packet.specs.Answers.{answer_body, answer_code, code_numbered, outcome_of, unreached_by}
 use Rattle.sb_packet.specs.Memories.{reply}
-use Rattle.sb_packet.specs.Outcomes.{code_numbered, outcome_of}
 use Rattle.sb_packet.specs.Scripts.{request_of}
 use Rattle.sb_packet.specs.declared.transaction.Code.TheVariants.{NetErr}
 use Rattle.sb_packet.specs.declared.transaction.Kind.{Kind}

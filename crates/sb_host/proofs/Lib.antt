@@ -1,3 +1,6 @@
+pub mod Slots
+pub mod Waits
+pub mod WindowKept
 pub mod RowAnswers
 pub mod Placed
 pub mod TableSteps
@@ -19,3 +22,4 @@ pub mod MadeRings
 pub mod OwnBudget
 pub mod OwnRings
 pub mod SmallNetwork
+pub mod Missing

@@ -6,20 +6,19 @@ use Rattle.std.specs.Option.{option_map, option_map_or}
 use Rattle.std.proofs.Math.ListN.{get_or}
 use Rattle.std.proofs.lemmas.Bool.Decides.{nat_tests}
 use Rattle.std.proofs.lemmas.List.Elements.{All-nil, All-append, All-head, All-tail, All-weaker}
-use Rattle.sb_packet.specs.Cuts.{cut_parts}
+use Rattle.sb_packet.specs.Cuts.{cut_parts, device_place}
 use Rattle.sb_packet.specs.Journals.{is_request}
 use Rattle.sb_packet.specs.Messages.{Message, message_span}
 use Rattle.sb_packet.specs.Networks.{NetHost, Network, device_at, has_address}
 use Rattle.sb_link.specs.RingPlans.{NetFlow, device_ranges, goes_home, goes_through, holds_span, message_flow}
 use Rattle.sb_flow.specs.Rings.{is_upward, ring_flows, ring_plan}
 use Rattle.sb_packet.specs.Scripts.{IsTransaction, request_of}
-use Rattle.sb_packet.specs.Soundness.{device_place}
 use Rattle.sb_link.specs.Traffic.{IsPlanned}
 use Rattle.sb_flow.specs.Ways.{aims_at, first_link, is_aimed_at}
 use Rattle.sb_packet.specs.declared.transaction.Kind.{Kind}
 use Rattle.sb_packet.specs.declared.transaction.Kind.TheVariants.{Read, Write, Posted, Atomic}
 use Rattle.sb_packet.specs.declared.transaction.Txn.{Txn}
-use Rattle.sb_flow.specs.Ranges.{is_placed_device}
+use Rattle.sb_flow.specs.Accepted.{is_placed_device}
 use Rattle.sb_flow.proofs.FlowWords.{request_asks}
 use Rattle.sb_host.specs.Asked.{asked_by, asked_packets, line_in, line_message, packets_from, sent_packets}
 use Rattle.sb_host.proofs.OwnWays.{any_at, own_flow_through}

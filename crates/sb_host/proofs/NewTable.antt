@@ -8,7 +8,7 @@ use Rattle.std.proofs.lemmas.Simd.{map-map}
 use Rattle.std.proofs.lemmas.List.{get_or-map, get_or_append_left, get_or_default}
 use Rattle.std.proofs.lemmas.List.FromFn.{get_or-enumerate_from, length-enumerate_from}
 use Rattle.sb_packet.specs.Accesses.{Access, access_at}
-use Rattle.sb_packet.specs.Outcomes.{Outcome}
+use Rattle.sb_packet.specs.Answers.{Outcome}
 use Rattle.sb_packet.specs.Scripts.{IsTransaction}
 use Rattle.std.proofs.lemmas.List.Elements.{All-get_or}
 use Rattle.sb_host.specs.declared.transaction_plan.TransactionPlan.{TransactionPlan}

@@ -14,14 +14,13 @@ use Rattle.sb_link.specs.Traffic.{MayPass, has_close}
 use Rattle.sb_packet.specs.declared.transaction.Txn.{Txn}
 use Rattle.sb_packet.proofs.Lists.{All-made, filter_all, filter_none}
 use Rattle.sb_packet.proofs.ReplyAddresses.{word_within}
-use Rattle.sb_flow.specs.Ranges.{misplaced_device}
+use Rattle.sb_flow.specs.Accepted.{misplaced_device}
 use Rattle.sb_flow.proofs.Pages.{device_at-page}
 use Rattle.sb_port.specs.Ports.{offered_words}
 use Rattle.sb_host.specs.declared.transaction_plan.TransactionPlan.{TransactionPlan}
 use Rattle.sb_host.specs.Asked.{Asked, accesses_from, asked_accesses, asked_by, line_in, packets_from, sent_accesses}
 use Rattle.sb_host.specs.Hosts.{HostSide, IsWholeHost}
-use Rattle.sb_host.specs.Issuing.{HasOffered, packets_left}
-use Rattle.sb_host.specs.Progress.{left_of}
+use Rattle.sb_host.specs.Progress.{HasOffered, left_of, packets_left}
 use Rattle.sb_host.proofs.Passing.{next_passes}
 
 -- what was offered begins all words

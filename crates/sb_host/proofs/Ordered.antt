@@ -1,17 +1,19 @@
 -- A host stays in order where it passes over transactions, offers its next packet, and tells its port to close.
-use Rattle.std.proofs.Common.{◌≡◌, ◌≤◌, ◌∷◌, ◌++◌, List, [], true, false, true≢false, length, sym, ap, subst, ◌∙◌, arith, append-nil}
-use Rattle.std.specs.Prelude.{flat_map}
+use Rattle.std.proofs.Common.{◌≡◌, ◌≤◌, ◌+◌, ◌∷◌, ◌++◌, List, [], inl, inr, refl, None, true, false, true≢false, length, sym, ap, subst, ◌∙◌, arith, append-nil}
+use Rattle.std.specs.Prelude.{◌⊎◌, flat_map, is_some}
 use Rattle.sb_packet.specs.Accesses.{Access, message_accesses}
 use Rattle.sb_packet.specs.Messages.{Message}
 use Rattle.sb_link.specs.RingPlans.{RingPlan}
 use Rattle.sb_link.specs.Prefixes.{IsPrefix}
-use Rattle.sb_port.specs.Ports.{PortSide, offered_words}
+use Rattle.sb_port.specs.Ports.{PortSide, offered_words, owes}
 use Rattle.sb_node.specs.Sides.{RingSide}
 use Rattle.sb_host.specs.Hosts.{IsHostInOrder}
-use Rattle.sb_host.specs.Issuing.{HasComeTo, HasOffered, IsMadeFor}
-use Rattle.sb_host.specs.Progress.{TransactionsSide, left_of}
+use Rattle.sb_host.specs.Progress.{HasComeTo, HasOffered, IsMadeFor, TransactionsSide, left_of}
+use Rattle.sb_host.specs.Steps.{IsNextOffered}
+use Rattle.sb_host.specs.Windows.{IsHeldBack, begun_count, begun_slots, window_cause, window_wait}
 use Rattle.sb_host.proofs.Offering.{none_left}
 use Rattle.sb_host.proofs.Passing.{next_offered}
+use Rattle.sb_host.proofs.WindowKept.{window_taken, window_unmoved}
 
 -- the words of the first packet that was left come behind those that were offered
 pub offered_first : (m first : Message) (rest others left : List Message) (words words_then : List Access) → left ≡ first ∷ others → words_then ≡ words ++ message_accesses first
@@ -31,11 +33,18 @@ some_left t m rest come past left =
     let both : m ∷ rest ≡ [] = sym left ∙ none in
     absurd (cc)
 
+-- where no packet is offered, none is left, or the port owes an item, or the host waits for a slot
+pub not_offered : (t t_then : TransactionsSide) (port port_then : PortSide) → HasComeTo t_then.asked t_then.next t_then.part → left_of t_then ≡ left_of t
+    → (length t_then.asked.lines ≤ t_then.next) ⊎ ((owes port.state ≡ true) ⊎ (is_some (window_cause t_then) ≡ true)) → IsNextOffered t port port_then ⊎ IsHeldBack t t_then
+not_offered t t_then port port_then come left (inl past) = inl (λ ready m rest here. absurd (some_left t_then m rest come past (left ∙ here)))
+not_offered t t_then port port_then come left (inr (inl owing)) = inl (λ ready m rest here. absurd (true≢false (sym owing ∙ ready)))
+not_offered t t_then port port_then come left (inr (inr waits)) = inr (record { left = left; waits = waits })
+
 module _ (t t_then : TransactionsSide) (port port_then : PortSide) (ring : RingSide) where
   -- it passed over transactions of which no packet is left
   pub passed_in_order : t_then ≡ record t { next = t_then.next } → HasComeTo t_then.asked t_then.next t_then.part → t.next ≤ t_then.next → left_of t_then ≡ left_of t
-      → IsHostInOrder t port ring → IsHostInOrder t_then port ring
-  passed_in_order is come onward left o =
+      → begun_slots t_then ≡ begun_slots t → IsHostInOrder t port ring → IsHostInOrder t_then port ring
+  passed_in_order is come onward left begun o =
       let n = t_then.next in
       let come_here : HasComeTo t.asked n t.part = subst (λ (x : TransactionsSide). HasComeTo x.asked x.next x.part) is come in
       let left_here : left_of (record t { next = n }) ≡ left_of t = subst (λ (x : TransactionsSide). left_of x ≡ left_of t) is left in
@@ -47,13 +56,14 @@ module _ (t t_then : TransactionsSide) (port port_then : PortSide) (ring : RingS
         closes = λ told. let all = o.closes told in let within = come_here.within in omega (arith, all, within, onward);
         table = o.table;
         ends = o.ends;
+        window = window_unmoved t (record t { next = n }) (subst (λ (x : TransactionsSide). begun_slots x ≡ begun_slots t) is begun) refl o.window;
       })
 
   -- it offered the first packet that was left
   pub offered_in_order : (m : Message) → t_then ≡ record t { next = t_then.next; part = t_then.part } → HasComeTo t_then.asked t_then.next t_then.part → left_of t ≡ m ∷ left_of t_then
       → port_then.plan ≡ port.plan → port_then.state.close_requested ≡ false → offered_words port_then ≡ offered_words port ++ message_accesses m
-      → IsHostInOrder t port ring → IsHostInOrder t_then port_then ring
-  offered_in_order m is come left plan untold words o =
+      → window_wait t ≡ None → begun_count t_then ≡ t.next + 1 → IsHostInOrder t port ring → IsHostInOrder t_then port_then ring
+  offered_in_order m is come left plan untold words free begun o =
       let n = t_then.next in
       let k = t_then.part in
       let left_here : left_of t ≡ m ∷ left_of (record t { next = n; part = k }) = subst (λ (x : TransactionsSide). left_of t ≡ m ∷ left_of x) is left in
@@ -65,6 +75,7 @@ module _ (t t_then : TransactionsSide) (port port_then : PortSide) (ring : RingS
         closes = λ told. absurd (true≢false (sym told ∙ untold));
         table = o.table;
         ends = o.ends;
+        window = window_taken t free o.window (record t { next = n; part = k }) refl refl (subst (λ (x : TransactionsSide). begun_count x ≡ t.next + 1) is begun);
       })
 
   -- it told its port to close, behind the last packet
@@ -77,6 +88,7 @@ module _ (t t_then : TransactionsSide) (port port_then : PortSide) (ring : RingS
     closes = λ told. all;
     table = o.table;
     ends = o.ends;
+    window = o.window;
   })
 
 -- a turn of its port changes nothing of that
@@ -90,4 +102,5 @@ turned_in_order t port port_then ring plan words told o = record {
   closes = λ close_requested. o.closes (sym told ∙ close_requested);
   table = o.table;
   ends = o.ends;
+  window = o.window;
 }

@@ -16,7 +16,7 @@ use Rattle.sb_flow.specs.Ways.{NetWay, aims_at, first_link, host_ways, way_links
 use Rattle.sb_packet.specs.declared.transaction.Txn.{Txn}
 use Rattle.sb_packet.proofs.Lists.{All-made}
 use Rattle.sb_link.proofs.Truths.{same_number}
-use Rattle.sb_flow.specs.Ranges.{misplaced_device}
+use Rattle.sb_flow.specs.Accepted.{misplaced_device}
 use Rattle.sb_flow.proofs.FlowWords.{request_asks}
 use Rattle.sb_host.specs.Asked.{asked_accesses, asked_by}
 use Rattle.sb_host.proofs.Offering.{asks_what_is_aimed, within_page}

@@ -8,20 +8,17 @@ use Rattle.std.proofs.lemmas.Bool.{eqb-true}
 use Rattle.std.proofs.lemmas.Bool.Decides.{nat_tests}
 use Rattle.std.proofs.lemmas.List.Elements.{All-get_or}
 use Rattle.std.proofs.lemmas.Option.{get_or_from_slice_get, slice_get-get_or}
-use Rattle.sb_packet.specs.Networks.{NetHost, NetLink, Network, at_host, at_router}
+use Rattle.sb_packet.specs.Networks.{NetHost, NetLink, Network, at_host, at_router, leaves_from}
 use Rattle.sb_flow.specs.Rings.{ring_link, ring_plan}
 use Rattle.sb_packet.specs.Scripts.{IsTransaction}
-use Rattle.sb_packet.specs.Sides.{leaves_from}
 use Rattle.sb_flow.specs.Ways.{first_link}
 use Rattle.sb_port.specs.Waiting.{IsWidth}
-use Rattle.sb_flow.specs.Accepted.{IsAccepted}
+use Rattle.sb_flow.specs.Accepted.{IsAccepted, is_limited, is_limited_host, is_placed_device}
 use Rattle.sb_flow.specs.Ends.{is_link_width}
-use Rattle.sb_flow.specs.Limits.{is_limited, is_limited_host}
-use Rattle.sb_flow.specs.Ranges.{is_placed_device}
 use Rattle.sb_flow.proofs.AcceptedLinks.{got_below}
 use Rattle.sb_flow.proofs.Clashes.{all_pass}
 use Rattle.sb_host.specs.Asked.{asked_by}
-use Rattle.sb_host.specs.Issuing.{IsMadeFor}
+use Rattle.sb_host.specs.Progress.{IsMadeFor}
 use Rattle.sb_flow.proofs.HostLimits.{host_limits, limits_of, passes_at}
 use Rattle.sb_host.proofs.MadeRings.{place_below, planned_host}
 use Rattle.sb_host.proofs.OwnBudget.{words_within}

@@ -7,7 +7,7 @@ use Rattle.sb_packet.specs.Messages.{Message}
 use Rattle.sb_packet.specs.Cuts.{cut_parts}
 use Rattle.sb_host.specs.declared.transaction_plan.TransactionPlan.{TransactionPlan}
 use Rattle.sb_host.specs.Asked.{Asked, line_message, packets_from, sent_packets}
-use Rattle.sb_host.specs.Issuing.{HasComeTo, packets_left}
+use Rattle.sb_host.specs.Progress.{HasComeTo, packets_left}
 
 drop_here : {X : Type 0} (xs : List X) (n : ℕ) (d : X) → n < length xs → drop n xs ≡ get_or xs n d ∷ drop (n + 1) xs
 drop_here [] n d below = absurd (omega arith)

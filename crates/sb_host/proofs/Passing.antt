@@ -7,14 +7,13 @@ use Rattle.sb_packet.specs.Accesses.{Access, access_at, message_accesses}
 use Rattle.sb_packet.specs.Messages.{Message}
 use Rattle.sb_link.specs.RingPlans.{RingPlan}
 use Rattle.sb_packet.specs.Scripts.{IsTransaction}
-use Rattle.sb_packet.specs.Soundness.{IsFine, IsSound}
+use Rattle.sb_packet.specs.Cuts.{IsFine, IsSound, cut_parts}
 use Rattle.sb_link.specs.Traffic.{IsPlanned, MayPass}
-use Rattle.sb_packet.specs.Cuts.{cut_parts}
 use Rattle.sb_packet.proofs.Lists.{All-right}
 use Rattle.sb_packet.proofs.FineParts.{fine_cut, transaction_sound, transaction_whole}
 use Rattle.sb_host.specs.declared.transaction_plan.TransactionPlan.{TransactionPlan}
 use Rattle.sb_host.specs.Asked.{Asked, asked_accesses, asked_packets, line_message, packets_from, sent_packets}
-use Rattle.sb_host.specs.Issuing.{HasOffered, IsMadeFor, packets_left}
+use Rattle.sb_host.specs.Progress.{HasOffered, IsMadeFor, packets_left}
 use Rattle.sb_host.specs.Places.{AreIssuable}
 
 -- what holds of all packets holds of those from a transaction on

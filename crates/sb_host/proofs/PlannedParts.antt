@@ -19,7 +19,7 @@ use Rattle.sb_link.specs.RingPlans.{AddressRange, device_ranges, holds_span}
 use Rattle.sb_flow.specs.Rings.{range_of, ring_flows}
 use Rattle.sb_packet.proofs.CutWords.{more_than_fit}
 use Rattle.sb_link.proofs.Truths.{same_test}
-use Rattle.sb_flow.specs.Ranges.{is_placed_device}
+use Rattle.sb_flow.specs.Accepted.{is_placed_device}
 
 -- a part lies within its message
 pub record LiesIn (m p : Message) : Type 0 where

@@ -13,6 +13,7 @@ use Rattle.sb_host.specs.declared.answer_row.AnswerRow.{AnswerRow}
 use Rattle.sb_host.specs.Hosts.{IsHostInOrder}
 use Rattle.sb_host.specs.Progress.{TransactionsSide}
 use Rattle.sb_host.specs.Rows.{IsTable}
+use Rattle.sb_host.proofs.WindowKept.{window_answered}
 
 module _ (t : TransactionsSide) (port : PortSide) (ring ring_then : RingSide) where
   -- a packet came, and the table took it
@@ -27,6 +28,7 @@ module _ (t : TransactionsSide) (port : PortSide) (ring ring_then : RingSide) wh
     closes = is.closes;
     table = subst (λ (words : List Access). IsTable t.asked words rows_then) (sym (ap item_accesses came ∙ item_more ring.received (items.Packet p))) (taken (received_words ring) is.table);
     ends = is.ends ∙ sym (ap has_close came ∙ has_close-packet ring.received p);
+    window = window_answered t rows_then (received_words ring) (accesses_of p) is.table (taken (received_words ring) is.table) is.window;
   }
 
   -- the Close came
@@ -39,6 +41,7 @@ module _ (t : TransactionsSide) (port : PortSide) (ring ring_then : RingSide) wh
     closes = is.closes;
     table = subst (λ (words : List Access). IsTable t.asked words t.rows) (sym (ap item_accesses came ∙ item_more ring.received items.Close ∙ append-nil (received_words ring))) is.table;
     ends = sym (ap has_close came ∙ has_close-close ring.received);
+    window = is.window;
   }
 
   -- nothing came
@@ -51,4 +54,5 @@ module _ (t : TransactionsSide) (port : PortSide) (ring ring_then : RingSide) wh
     closes = is.closes;
     table = subst (λ (list : List Item). IsTable t.asked (item_accesses list) t.rows) (sym same) is.table;
     ends = is.ends ∙ sym (ap has_close same);
+    window = is.window;
   }

@@ -13,7 +13,7 @@ whole_at_ring h ring w met =
     let o = w.in_order in record {
       fit = w.fit;
       in_order = subst (λ (list : List Item). IsHostInOrder h.transactions h.requests (record ring { received = list })) (sym met.received)
-          (record { issuable = o.issuable; made = o.made; come = o.come; offered = o.offered; closes = o.closes; table = o.table; ends = o.ends });
+          (record { issuable = o.issuable; made = o.made; come = o.come; offered = o.offered; closes = o.closes; table = o.table; ends = o.ends; window = o.window });
     }
 
 -- the port has its plan and its state
@@ -23,5 +23,5 @@ whole_at_port h port w met =
       fit = subst (λ (p : RingPlan). IsFit p port.state) (sym met.plan) (subst (λ (s : PortState). IsFit h.requests.plan s) (sym met.state) w.fit);
       in_order = subst (λ (p : RingPlan). IsHostInOrder h.transactions (record port { plan = p }) h.answers) (sym met.plan)
           (subst (λ (s : PortState). IsHostInOrder h.transactions (record port { plan = h.requests.plan; state = s }) h.answers) (sym met.state)
-          (record { issuable = o.issuable; made = o.made; come = o.come; offered = o.offered; closes = o.closes; table = o.table; ends = o.ends }));
+          (record { issuable = o.issuable; made = o.made; come = o.come; offered = o.offered; closes = o.closes; table = o.table; ends = o.ends; window = o.window }));
     }

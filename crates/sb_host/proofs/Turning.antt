@@ -1,6 +1,6 @@
 -- What a turn answers, by what the ring and the port did in it.
 use Rattle.std.proofs.Common.{◌≡◌, ◌≢◌, ◌⊎◌, inl, inr, ⊎_elim, ℕ, ◌+◌, Bool, true, false, true≢false, List, [], ◌∷◌, length, refl, sym, ap, ◌∙◌, subst, arith}
-use Rattle.std.specs.Prelude.{◌&&◌, Option, Some, None, if◌then◌else◌}
+use Rattle.std.specs.Prelude.{◌&&◌, Option, Some, None, is_some, if◌then◌else◌}
 use Rattle.sb_link.specs.declared.answers.Turn.{Turn}
 use Rattle.sb_link.specs.declared.answers.Turn.TheVariants.{Moved, Idle, Done}
 use Rattle.sb_link.specs.declared.answers.Cause.{Cause}
@@ -16,7 +16,9 @@ use Rattle.sb_node.specs.Found.{or_else, IsTurnOf}
 use Rattle.sb_node.specs.Steps.{HasFewMore, IsPortTurned, HasPortMoved, IsPortFull, IsPortClear, IsRingEmpty, IsRingServed}
 use Rattle.sb_node.specs.declared.findings.Findings.{Findings}
 use Rattle.sb_node.proofs.Answering.{HasGone, HasStood, answered_by, moves_kept, untold, moves_of_two, no_findings, one_of, same_moves}
-use Rattle.sb_host.specs.Steps.{HasOfferedNone, HasOfferedOne, IsIdleHost, IsIssued, IsReceiveStep}
+use Rattle.sb_host.specs.Progress.{TransactionsSide}
+use Rattle.sb_host.specs.Steps.{HasOfferedNone, HasOfferedOne, IsIdleHost, IsIssued, IsReceiveStep, IsWaitFound}
+use Rattle.sb_host.specs.Windows.{window_cause}
 
 -- a host is done where its port sent its Close, and its ring gave one
 pub done_by_both : (port : PortSide) (ring : RingSide) → is_done (port ∷ []) (ring ∷ []) ≡ (port.state.close_sent && has_ended ring)
@@ -41,7 +43,18 @@ still_moved more port port_then found found_then turned moved = ⊎_elim
     rest)
     turned
 
-module _ (ring ring_then : RingSide) (port middle port_then : PortSide) where
+-- what is found where a host waits, behind an empty ring
+wait_behind : (wait : Option Cause) (found found_then : Findings) (empty : Cause) → IsWaitFound wait found found_then → found ≡ record no_findings { empty = Some empty }
+    → found_then ≡ record no_findings { waits = wait; empty = Some empty }
+wait_behind None found found_then empty same is = same ∙ is
+wait_behind (Some wait) found found_then empty more is = more ∙ ap (λ (f : Findings). record f { waits = or_else f.waits wait }) is
+
+-- to wait is no move
+pub wait_unmoved : (wait : Option Cause) (found found_then : Findings) → IsWaitFound wait found found_then → found_then.moved ≡ found.moved
+wait_unmoved None found found_then same = ap (λ (f : Findings). f.moved) same
+wait_unmoved (Some wait) found found_then more = ap (λ (f : Findings). f.moved) more
+
+module _ (t_then : TransactionsSide) (ring ring_then : RingSide) (port middle port_then : PortSide) where
   -- how much went through the host before the turn, and after it
   abbrev pub before : ℕ
   before = node_moves (port ∷ []) (ring ∷ [])
@@ -51,13 +64,13 @@ module _ (ring ring_then : RingSide) (port middle port_then : PortSide) where
 
   -- the causes that hold after the turn, and the host at rest
   abbrev pub causes_then : List (Option Cause)
-  causes_then = idle_causes (port_then ∷ []) (None ∷ []) (ring_then ∷ [])
+  causes_then = idle_causes (port_then ∷ []) (window_cause t_then ∷ []) (ring_then ∷ [])
 
   abbrev pub done_then : Bool
   done_then = is_done (port_then ∷ []) (ring_then ∷ [])
 
   abbrev pub AtRest : Type 0
-  AtRest = IsIdleHost port_then ring_then
+  AtRest = IsIdleHost t_then port_then ring_then
 
   -- an item was popped
   gone_by_pop : (found_then : Findings) → length ring_then.received ≡ length ring.received + 1 → found_then.moved ≡ true → IsKeptPort port middle → IsKeptPort middle port_then → HasGone found_then before after
@@ -84,7 +97,7 @@ module _ (ring ring_then : RingSide) (port middle port_then : PortSide) where
   }
 
   -- neither: the port is as it was, but that it may be told to close
-  as_before : (found found_then : Findings) → HasOfferedNone port middle found found_then → port_moves middle ≡ port_moves port
+  as_before : (found found_then : Findings) → HasOfferedNone t_then port middle found found_then → port_moves middle ≡ port_moves port
   as_before found found_then none = ap port_moves none.same
 
   -- the port moved
@@ -107,86 +120,107 @@ module _ (ring ring_then : RingSide) (port middle port_then : PortSide) where
       let b = moves_of_two port_then ring_then in omega (arith, same, ports, items, a, b)
 
   -- the port's ring was full
-  stood_by_full : (found found_then : Findings) → HasOfferedNone port middle found found → IsRingEmpty ring ring_then no_findings found → IsPortFull middle port_then found found_then
-      → HasStood found_then before after done_then causes_then AtRest
-  stood_by_full found found_then none empty full =
-      let cause = causes.Full port_then.plan.ring (length port_then.state.sent) port_then.taken in record {
-        unmoved = ap (λ (f : Findings). f.moved) full.found_full ∙ ap (λ (f : Findings). f.moved) empty.found_empty;
-        same = nothing_went (as_before found found none) full.same empty.same;
+  stood_by_full : (found found_waited found_then : Findings) → HasOfferedNone t_then port middle found found_waited → IsRingEmpty ring ring_then no_findings found
+      → IsPortFull middle port_then found_waited found_then → HasStood found_then before after done_then causes_then AtRest
+  stood_by_full found found_waited found_then none empty full =
+      let cause = causes.Full port_then.plan.ring (length port_then.state.sent) port_then.taken in
+      let waited = wait_behind (window_cause t_then) found found_waited (causes.Empty ring_then.plan.ring (length ring_then.received) ring_then.known) none.found_wait empty.found_empty in record {
+        unmoved = ap (λ (f : Findings). f.moved) full.found_full ∙ ap (λ (f : Findings). f.moved) waited;
+        same = nothing_went (as_before found found_waited none) full.same empty.same;
         cause = λ undone. (
           cause,
           ap (λ (o : Option Cause). first_cause (o ∷ found_then.waits ∷ found_then.empty ∷ []))
-              (ap (λ (f : Findings). f.full) full.found_full ∙ ap (λ (o : Option Cause). or_else o cause) (ap (λ (f : Findings). f.full) empty.found_empty)),
-          ap (λ b. first_cause ((if b then Some cause else None) ∷ None ∷ empty_cause ring_then ∷ [])) full.rest,
+              (ap (λ (f : Findings). f.full) full.found_full ∙ ap (λ (o : Option Cause). or_else o cause) (ap (λ (f : Findings). f.full) waited)),
+          ap (λ b. first_cause ((if b then Some cause else None) ∷ window_cause t_then ∷ empty_cause ring_then ∷ [])) full.rest,
         );
         at_rest = record {
           at_rest = record {
             owing_ports_are_full = one_of (λ port. has_rest port ≡ true → is_full port ≡ true) port_then (λ rest. full.full);
             open_rings_are_drained = one_of (λ ring. has_ended ring ≡ false → (is_drained ring ≡ true) ⊎ ⊥) ring_then (λ unended. inl empty.drained);
           };
-          open_host_is_blocked = λ unclosed. record {
-            owing = ap owes full.same ∙ none.waits (sym (ap (λ (s : PortState). s.close_requested) full.same) ∙ unclosed);
-            full = full.full;
-          };
+          open_host_is_blocked = λ unclosed. ⊎_elim
+              (λ (owing : owes middle.state ≡ true). inl (record { owing = ap owes full.same ∙ owing; full = full.full }))
+              (λ (waits : is_some (window_cause t_then) ≡ true). inr waits)
+              (none.waits (sym (ap (λ (s : PortState). s.close_requested) full.same) ∙ unclosed));
         };
       }
 
   -- the port had nothing to send, and the ring was empty
-  stood_by_empty : (found found_then : Findings) → HasOfferedNone port middle found found → IsRingEmpty ring ring_then no_findings found → IsPortClear false middle port_then found found_then
-      → HasStood found_then before after done_then causes_then AtRest
-  stood_by_empty found found_then none empty clear =
-      let cause = causes.Empty ring_then.plan.ring (length ring_then.received) ring_then.known in
-      let found_is : found_then ≡ record no_findings { empty = Some cause } = clear.found_nothing ∙ empty.found_empty in
-      let never : port_then.state.close_requested ≡ false → ⊥ = λ unclosed.
-      true≢false (sym (none.waits (sym (ap (λ (s : PortState). s.close_requested) clear.same) ∙ unclosed)) ∙ sym (ap owes clear.same) ∙ clear.ready) in record {
-        unmoved = ap (λ (f : Findings). f.moved) found_is;
-        same = nothing_went (as_before found found none) clear.same empty.same;
-        cause = λ undone.
-            let close_sent : port_then.state.close_sent ≡ true = by_shut never clear.ready in
-            let unended : has_ended ring_then ≡ false = other_fails port_then.state.close_sent (has_ended ring_then) (sym (done_by_both port_then ring_then) ∙ undone) close_sent in (
-              cause,
-              ap (λ (f : Findings). first_cause (f.full ∷ f.waits ∷ f.empty ∷ [])) found_is,
-              ap (λ b. first_cause ((if b then Some (causes.Full port_then.plan.ring (length port_then.state.sent) port_then.taken) else None) ∷ None ∷ empty_cause ring_then ∷ [])) (clear.rest refl)
-                  ∙ ap (λ b. first_cause ((if b then None else Some cause) ∷ [])) unended,
-            );
-        at_rest = record {
-          at_rest = record {
-            owing_ports_are_full = one_of (λ port. has_rest port ≡ true → is_full port ≡ true) port_then (λ rest. absurd (true≢false (sym rest ∙ clear.rest refl)));
-            open_rings_are_drained = one_of (λ ring. has_ended ring ≡ false → (is_drained ring ≡ true) ⊎ ⊥) ring_then (λ unended. inl empty.drained);
-          };
-          open_host_is_blocked = λ unclosed. absurd (never unclosed);
-        };
-      }
+  stood_by_empty : (found found_waited found_then : Findings) → HasOfferedNone t_then port middle found found_waited → IsRingEmpty ring ring_then no_findings found
+      → IsPortClear false middle port_then found_waited found_then → HasStood found_then before after done_then causes_then AtRest
+  stood_by_empty found found_waited found_then none empty clear = record {
+    unmoved = ap (λ (f : Findings). f.moved) found_is;
+    same = nothing_went (as_before found found_waited none) clear.same empty.same;
+    cause = λ undone. by_wait undone (window_cause t_then) refl;
+    at_rest = record {
+      at_rest = record {
+        owing_ports_are_full = one_of (λ port. has_rest port ≡ true → is_full port ≡ true) port_then (λ rest. absurd (true≢false (sym rest ∙ clear.rest refl)));
+        open_rings_are_drained = one_of (λ ring. has_ended ring ≡ false → (is_drained ring ≡ true) ⊎ ⊥) ring_then (λ unended. inl empty.drained);
+      };
+      open_host_is_blocked = λ unclosed. inr (waiting unclosed);
+    };
+  }
     where
+      empty_is : Cause
+      empty_is = causes.Empty ring_then.plan.ring (length ring_then.received) ring_then.known
+
+      found_is : found_then ≡ record no_findings { waits = window_cause t_then; empty = Some empty_is }
+      found_is = clear.found_nothing ∙ wait_behind (window_cause t_then) found found_waited empty_is none.found_wait empty.found_empty
+
+      -- a port that wasn't told to close owes nothing, so the host waits
+      waiting : port_then.state.close_requested ≡ false → is_some (window_cause t_then) ≡ true
+      waiting unclosed = ⊎_elim
+          (λ (owing : owes middle.state ≡ true). absurd (true≢false (sym owing ∙ sym (ap owes clear.same) ∙ clear.ready)))
+          (λ (waits : is_some (window_cause t_then) ≡ true). waits)
+          (none.waits (sym (ap (λ (s : PortState). s.close_requested) clear.same) ∙ unclosed))
+
       by_shut : (port_then.state.close_requested ≡ false → ⊥) → owes port_then.state ≡ false → port_then.state.close_sent ≡ true
       by_shut never ready = elim port_then.state.close_sent as (λ b. port_then.state.close_sent ≡ b → port_then.state.close_sent ≡ true) [
         | true ↦ λ close_sent. close_sent
         | false ↦ λ unshut. absurd (never (untold (some_owed port_then.state.waiting) port_then.state.close_requested port_then.state.close_sent ready unshut))
       ] refl
 
+      -- the causes that are left where the port has none
+      clear_causes : first_cause causes_then ≡ first_cause (window_cause t_then ∷ empty_cause ring_then ∷ [])
+      clear_causes =
+          ap (λ b. first_cause ((if b then Some (causes.Full port_then.plan.ring (length port_then.state.sent) port_then.taken) else None) ∷ window_cause t_then ∷ empty_cause ring_then ∷ []))
+          (clear.rest refl)
+
+      by_wait : done_then ≡ false → (o : Option Cause) → window_cause t_then ≡ o
+          → (c : Cause) × (first_cause (found_then.full ∷ found_then.waits ∷ found_then.empty ∷ []) ≡ Some c) × (first_cause causes_then ≡ Some c)
+      by_wait undone (Some wait) e = (
+        wait,
+        ap (λ (f : Findings). first_cause (f.full ∷ f.waits ∷ f.empty ∷ [])) found_is ∙ ap (λ (o : Option Cause). first_cause (None ∷ o ∷ Some empty_is ∷ [])) e,
+        clear_causes ∙ ap (λ (o : Option Cause). first_cause (o ∷ empty_cause ring_then ∷ [])) e,
+      )
+      by_wait undone None e =
+          let never : port_then.state.close_requested ≡ false → ⊥ = λ unclosed. true≢false (sym (waiting unclosed) ∙ ap is_some e) in
+          let close_sent : port_then.state.close_sent ≡ true = by_shut never clear.ready in
+          let unended : has_ended ring_then ≡ false = other_fails port_then.state.close_sent (has_ended ring_then) (sym (done_by_both port_then ring_then) ∙ undone) close_sent in (
+            empty_is,
+            ap (λ (f : Findings). first_cause (f.full ∷ f.waits ∷ f.empty ∷ [])) found_is ∙ ap (λ (o : Option Cause). first_cause (None ∷ o ∷ Some empty_is ∷ [])) e,
+            clear_causes ∙ ap (λ (o : Option Cause). first_cause (o ∷ empty_cause ring_then ∷ [])) e ∙ ap (λ b. first_cause ((if b then None else Some empty_is) ∷ [])) unended,
+          )
+
   -- what came of the ring and the port
-  pub came_of : (popped offered : Bool) (found_1 found_2 found_then : Findings) → IsReceiveStep ring ring_then no_findings found_1 popped → IsIssued port middle found_1 found_2 offered
+  pub came_of : (popped offered : Bool) (found_1 found_2 found_then : Findings) → IsReceiveStep ring ring_then no_findings found_1 popped → IsIssued t_then port middle found_1 found_2 offered
       → IsPortTurned found_2.moved middle port_then found_2 found_then → IsKeptPort port middle → IsKeptPort middle port_then
       → HasGone found_then before after ⊎ HasStood found_then before after done_then causes_then AtRest
   came_of true true found_1 found_2 found_then received issued turned kept kept_then =
       inl (gone_by_pop found_then received.one (still_moved found_2.moved middle port_then found_2 found_then turned (ap (λ (f : Findings). f.moved) issued.found_move)) kept kept_then)
   came_of true false found_1 found_2 found_then received issued turned kept kept_then =
-      inl (gone_by_pop found_then received.one (still_moved found_2.moved middle port_then found_2 found_then turned (ap (λ (f : Findings). f.moved) issued.found_nothing ∙ ap (λ (f : Findings). f.moved) received.found_move)) kept kept_then)
+      inl (gone_by_pop found_then received.one (still_moved found_2.moved middle port_then found_2 found_then turned (wait_unmoved (window_cause t_then) found_1 found_2 issued.found_wait ∙ ap (λ (f : Findings). f.moved) received.found_move)) kept kept_then)
   came_of false true found_1 found_2 found_then received issued turned kept kept_then =
       inl (gone_by_offer found_1 found_2 received.same issued found_then (still_moved found_2.moved middle port_then found_2 found_then turned (ap (λ (f : Findings). f.moved) issued.found_move)) kept_then)
   came_of false false found_1 found_2 found_then received issued turned kept kept_then =
-      let none : HasOfferedNone port middle found_1 found_1 = record { same = issued.same; found_nothing = refl; waits = issued.waits } in
-      let unmoved : found_1.moved ≡ false = ap (λ (f : Findings). f.moved) received.found_empty in
-      let here : IsPortTurned false middle port_then found_1 found_then =
-      subst (λ (b : Bool). IsPortTurned b middle port_then found_1 found_then) unmoved
-      (subst (λ (f : Findings). IsPortTurned f.moved middle port_then f found_then) issued.found_nothing turned) in
+      let unmoved : found_2.moved ≡ false = wait_unmoved (window_cause t_then) found_1 found_2 issued.found_wait ∙ ap (λ (f : Findings). f.moved) received.found_empty in
       ⊎_elim
-      (λ (m : HasPortMoved middle port_then found_1 found_then). inl (gone_by_port found_1 found_then (as_before found_1 found_1 none) m received.same))
-      (λ (rest : IsPortFull middle port_then found_1 found_then ⊎ IsPortClear false middle port_then found_1 found_then). ⊎_elim
-      (λ (f : IsPortFull middle port_then found_1 found_then). inr (stood_by_full found_1 found_then none received f))
-      (λ (c : IsPortClear false middle port_then found_1 found_then). inr (stood_by_empty found_1 found_then none received c))
+      (λ (m : HasPortMoved middle port_then found_2 found_then). inl (gone_by_port found_2 found_then (as_before found_1 found_2 issued) m received.same))
+      (λ (rest : IsPortFull middle port_then found_2 found_then ⊎ IsPortClear false middle port_then found_2 found_then). ⊎_elim
+      (λ (f : IsPortFull middle port_then found_2 found_then). inr (stood_by_full found_1 found_2 found_then issued received f))
+      (λ (c : IsPortClear false middle port_then found_2 found_then). inr (stood_by_empty found_1 found_2 found_then issued received c))
       rest)
-      here
+      (subst (λ (b : Bool). IsPortTurned b middle port_then found_2 found_then) unmoved turned)
 
   -- no more items were popped than a turn takes
   pub few_popped : (popped : Bool) (found : Findings) → IsReceiveStep ring ring_then no_findings found popped → HasFewMore ring ring_then
@@ -199,7 +233,7 @@ module _ (ring ring_then : RingSide) (port middle port_then : PortSide) where
   ring_served false found received = inr received.drained
 
   -- the turn, as it is answered
-  pub ends_turned : (popped offered : Bool) (found_1 found_2 found_then : Findings) (answer : Turn) → IsReceiveStep ring ring_then no_findings found_1 popped → IsIssued port middle found_1 found_2 offered
+  pub ends_turned : (popped offered : Bool) (found_1 found_2 found_then : Findings) (answer : Turn) → IsReceiveStep ring ring_then no_findings found_1 popped → IsIssued t_then port middle found_1 found_2 offered
       → IsPortTurned found_2.moved middle port_then found_2 found_then → IsKeptPort port middle → IsKeptPort middle port_then
       → IsTurnOf found_then (port_then.state.close_sent && has_ended ring_then) answer
       → IsAnswered before after done_then causes_then answer × (answer ≢ Moved → AtRest)
@@ -219,9 +253,9 @@ none_popped ring ring_then true found found_then received unmoved = absurd (true
 none_popped ring ring_then false found found_then received unmoved = refl
 
 -- nor offered
-pub none_offered : (port port_then : PortSide) (offered : Bool) (found found_then : Findings) → IsIssued port port_then found found_then offered → found_then.moved ≡ false → offered ≡ false
-none_offered port port_then true found found_then issued unmoved = absurd (true≢false (sym (ap (λ (f : Findings). f.moved) issued.found_move) ∙ unmoved))
-none_offered port port_then false found found_then issued unmoved = refl
+pub none_offered : (t_then : TransactionsSide) (port port_then : PortSide) (offered : Bool) (found found_then : Findings) → IsIssued t_then port port_then found found_then offered → found_then.moved ≡ false → offered ≡ false
+none_offered t_then port port_then true found found_then issued unmoved = absurd (true≢false (sym (ap (λ (f : Findings). f.moved) issued.found_move) ∙ unmoved))
+none_offered t_then port port_then false found found_then issued unmoved = refl
 
 -- what hasn't moved behind a step hadn't before it
 pub unmoved_before : (now later : Bool) → (now ≡ true → later ≡ true) → later ≡ false → now ≡ false
@@ -229,8 +263,8 @@ unmoved_before true later goes_on unmoved = absurd (true≢false (sym (goes_on r
 unmoved_before false later goes_on unmoved = refl
 
 -- a port at which a host offered nothing rests
-pub rested_by_none : (port port_then : PortSide) (found found_then : Findings) → HasOfferedNone port port_then found found_then → IsKeptPort port port_then → IsRestedPort port port_then
-rested_by_none port port_then found found_then none kept = record {
+pub rested_by_none : (t_then : TransactionsSide) (port port_then : PortSide) (found found_then : Findings) → HasOfferedNone t_then port port_then found found_then → IsKeptPort port port_then → IsRestedPort port port_then
+rested_by_none t_then port port_then found found_then none kept = record {
   plan = ap (λ (p : PortSide). p.plan) none.same;
   mark = ap (λ (p : PortSide). p.mark) none.same;
   sent = ap (λ (p : PortSide). p.state.sent) none.same;

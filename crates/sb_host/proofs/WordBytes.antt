@@ -9,9 +9,9 @@ use Rattle.sb_word.specs.declared.command.Op.{Op}
 use Rattle.sb_word.specs.declared.command.Op.TheVariants.{ReqRd, ReqWr, ReqWrPosted, ReqAtomic, RespRd, RespWr}
 use Rattle.sb_packet.specs.Accesses.{Access, access_at, share}
 use Rattle.sb_packet.specs.Messages.{Message, message_of}
-use Rattle.sb_packet.specs.Scripts.{request_of}
-use Rattle.sb_packet.specs.Soundness.{IsWhole}
 use Rattle.sb_packet.specs.Spans.{word_count_of}
+use Rattle.sb_packet.specs.Scripts.{request_of}
+use Rattle.sb_packet.specs.Cuts.{IsWhole}
 use Rattle.sb_packet.specs.declared.packet.Packet.{Packet}
 use Rattle.sb_packet.specs.declared.transaction.Kind.{Kind}
 use Rattle.sb_packet.specs.declared.transaction.Kind.TheVariants.{Read, Write, Posted, Atomic}

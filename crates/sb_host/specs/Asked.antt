@@ -1,13 +1,14 @@
 -- What a host asks for: its script, and whether a device has the address of each transaction.
-use Rattle.std.specs.Prelude.{ℕ, List, [], map, flat_map, if◌then◌else◌, is_some}
+use Rattle.std.specs.Prelude.{ℕ, List, [], map, flat_map, if◌then◌else◌, is_some, All}
 use Rattle.std.specs.List.{enumerate_from}
 use Rattle.sb_packet.specs.Accesses.{Access, message_accesses}
 use Rattle.sb_packet.specs.Messages.{Message}
 use Rattle.sb_packet.specs.Cuts.{cut_parts}
 use Rattle.sb_packet.specs.Networks.{NetHost, Network, device_at}
-use Rattle.sb_packet.specs.Scripts.{request_message}
+use Rattle.sb_packet.specs.Scripts.{IsTransaction, request_message}
 use Rattle.sb_packet.specs.declared.transaction.Txn.{Txn}
 use Rattle.sb_host.specs.declared.transaction_plan.TransactionPlan.{TransactionPlan}
+use Rattle.sb_flow.specs.Issuable.{IsTransaction-prop}
 
 -- what a host asks for, with the fields that all its packets have
 pub record Asked : Type 0 where
@@ -56,3 +57,12 @@ packets_from asked i lines = flat_map (λ p. sent_packets asked p.0 p.1) (enumer
 -- All packets of a host that go to devices, in order.
 abbrev pub asked_packets : Asked → List Message
 asked_packets asked = packets_from asked 0 asked.lines
+
+-- That each transaction of a host can be issued is one fact.
+
+-- all transactions of a host can be issued
+abbrev pub AreTransactions : List TransactionPlan → Type 0
+AreTransactions lines = All (λ l. IsTransaction l.txn) lines
+
+pub AreTransactions-prop : (lines : List TransactionPlan) → IsProp (AreTransactions lines)
+AreTransactions-prop lines = hlevel (λ (l : TransactionPlan). IsTransaction-prop l.txn)

@@ -1,25 +1,31 @@
 -- Hosts: they issue the packets of their scripts in order, and keep what was answered.
-use Rattle.std.specs.Prelude.{◌≡◌, ◌≢◌, ◌≤◌, ℕ, Bool, true, List, [], ◌∷◌, length, Option, None}
+use Rattle.std.specs.Prelude.{◌≡◌, ◌≢◌, ◌≤◌, ℕ, Bool, true, List, [], ◌∷◌, length, Option, ◌⊎◌}
 use Rattle.std.proofs.Common.{refl, ◌∙◌, arith}
 use Rattle.sb_link.specs.declared.answers.Cause.{Cause}
 use Rattle.sb_link.specs.declared.answers.Turn.{Turn}
 use Rattle.sb_link.specs.declared.answers.Turn.TheVariants.{Moved}
 use Rattle.sb_port.specs.Ports.{PortSide, IsFit, offered_words}
-use Rattle.sb_node.specs.Sides.{RingSide, is_done, node_moves, received_words, has_ended}
+use Rattle.sb_link.specs.declared.ends.RxEnd as rx
+use Rattle.sb_node.specs.Sides.{RingSide, is_done, node_moves, received_words, has_ended, ring_side}
 use Rattle.sb_node.specs.Kept.{IsKeptPort, IsKeptRing, kept_port_same, kept_port_then, kept_ring_same, kept_ring_then}
 use Rattle.sb_node.specs.Turns.{IsAnswered, idle_causes}
 use Rattle.sb_node.specs.Steps.{HasFewMore, IsPortServed, IsRingServed}
-use Rattle.sb_host.specs.Issuing.{HasComeTo, HasOffered, IsMadeFor}
+use Rattle.sb_host.specs.Progress.{HasComeTo, HasOffered, IsMadeFor, IsNextAimed, TransactionsSide}
 use Rattle.sb_host.specs.Places.{AreIssuable}
-use Rattle.sb_host.specs.Progress.{IsNextAimed, TransactionsSide}
 use Rattle.sb_host.specs.Rows.{IsTable}
 use Rattle.sb_host.specs.Steps.{IsIdleHost, IsNextOffered}
+use Rattle.sb_host.specs.Windows.{IsHeldBack, KeepsWindow, window_cause}
+use Rattle.sb_host.specs.declared.host_core.HostCore.{HostCore}
 
 -- a host, as rounds see it: its transactions, and its two ends
 pub record HostSide : Type 0 where
   pub transactions : TransactionsSide
   pub requests : PortSide
   pub answers : RingSide
+
+-- a host over ends of any kind, as rounds see it
+abbrev pub host_core_side : {T U : Type 0} → rx.Ghosts U → HostCore T U → HostSide
+host_core_side rx core = record { transactions = core.transactions; requests = core.requests; answers = ring_side rx core.answers }
 
 -- What always holds of a host's transactions and its ends.
 pub record IsHostInOrder (t : TransactionsSide) (port : PortSide) (ring : RingSide) : Type 0 where
@@ -33,6 +39,8 @@ pub record IsHostInOrder (t : TransactionsSide) (port : PortSide) (ring : RingSi
   -- its table keeps the first answer to each word, of all that came
   pub table : IsTable t.asked (received_words ring) t.rows
   pub ends : t.ended ≡ has_ended ring
+  -- of its transactions that are answered from the network, at most 64 are under way
+  pub window : KeepsWindow t
 
 -- A host is whole.
 pub record IsWholeHost (h : HostSide) : Type 0 where
@@ -54,9 +62,9 @@ host_moves h = node_moves (h.requests ∷ []) (h.answers ∷ [])
 abbrev pub is_done_host : HostSide → Bool
 is_done_host h = is_done (h.requests ∷ []) (h.answers ∷ [])
 
--- what a host waits for itself: nothing, as each transaction has its own row for its answers
+-- what a host waits for itself: that the transaction which took the next one's slot before misses no word
 abbrev pub host_wait : HostSide → Option Cause
-host_wait h = None
+host_wait h = window_cause h.transactions
 
 -- the causes for which a host did nothing: its port, what it waits for itself, and its ring
 abbrev pub host_causes : HostSide → List (Option Cause)
@@ -65,12 +73,12 @@ host_causes h = idle_causes (h.requests ∷ []) (host_wait h ∷ []) (h.answers 
 -- What one turn of a host does in a round, and answers. Nothing of it depends on the round yet.
 pub record IsHostTurn (before : HostSide) (round : ℕ) (answer : Turn) (after : HostSide) : Type 0 where
   pub answered : IsAnswered (host_moves before) (host_moves after) (is_done_host after) (host_causes after) answer
-  pub idle : answer ≢ Moved → IsIdleHost after.requests after.answers
+  pub idle : answer ≢ Moved → IsIdleHost after.transactions after.requests after.answers
   pub few : HasFewMore before.answers after.answers
   pub port_served : IsPortServed before.requests after.requests
   pub ring_served : IsRingServed before.answers after.answers
-  -- its next packet was offered where its port was ready, whatever else moved
-  pub next_offered : IsNextOffered before.transactions before.requests after.requests
+  -- its next packet was offered where its port was ready, whatever else moved, or its transaction waits for a slot after what came
+  pub next_offered : IsNextOffered before.transactions before.requests after.requests ⊎ IsHeldBack before.transactions after.transactions
   -- it has passed over all that was next and is aimed at no device, and told its port to close where nothing is left
   pub aimed : IsNextAimed after.transactions
   pub closes_when_due : after.transactions.next ≡ length after.transactions.asked.lines → after.requests.state.close_requested ≡ true

@@ -1,12 +1,10 @@
 pub mod Asked
-pub mod Lines
 pub mod Outcomes
 pub mod Rows
 pub mod Places
-pub mod Issuing
 pub mod Progress
+pub mod Windows
 pub mod Steps
 pub mod Hosts
 pub mod Rested
-pub mod CoreOf
 pub mod SmallNetwork

@@ -4,8 +4,7 @@ use Rattle.std.specs.List.{enumerate_from, find, list_all}
 use Rattle.sb_word.specs.declared.command.Op.{Op}
 use Rattle.sb_word.specs.declared.command.Op.TheVariants.{ReqRd, ReqWr, ReqWrPosted, ReqAtomic, RespRd, RespWr}
 use Rattle.sb_packet.specs.Accesses.{Access}
-use Rattle.sb_packet.specs.Answers.{unreached_by}
-use Rattle.sb_packet.specs.Outcomes.{Outcome, outcome_of}
+use Rattle.sb_packet.specs.Answers.{Outcome, outcome_of, unreached_by}
 use Rattle.sb_packet.specs.declared.transaction.Kind.{Kind}
 use Rattle.sb_packet.specs.declared.transaction.Kind.TheVariants.{Read, Write, Posted, Atomic}
 use Rattle.sb_packet.specs.declared.transaction.TxnState.TheVariants as states

@@ -4,8 +4,7 @@ use Rattle.sb_word.specs.declared.command.Op.{Op}
 use Rattle.sb_packet.specs.Scripts.{reply_address, request_of}
 use Rattle.sb_host.specs.declared.transaction_plan.TransactionPlan.{TransactionPlan}
 use Rattle.sb_host.specs.declared.script_plan.ScriptPlan.{ScriptPlan}
-use Rattle.sb_host.specs.Asked.{Asked}
-use Rattle.sb_host.specs.Lines.{AreTransactions}
+use Rattle.sb_host.specs.Asked.{AreTransactions, Asked}
 use Rattle.sb_host.specs.Outcomes.{is_answered_by}
 
 -- what a host asks for, by the plan of its script

@@ -1,9 +1,9 @@
 //! How far a host has come with its packets.
 
-ghost use Rattle.std.specs.Prelude.{◌≡◌, ◌≤◌, ◌<◌, [], ◌∷◌, true, length, slice_index_or};
+ghost use Rattle.std.specs.Prelude.{◌≡◌, ◌≤◌, ◌<◌, ◌+◌, ◌⊎◌, [], ◌∷◌, true, length, slice_index_or};
 ghost use Rattle.sb_packet.specs.Messages.{message_of};
 ghost use Rattle.sb_host.specs.declared.transaction_plan.TransactionPlan.{TransactionPlan};
-ghost use Rattle.sb_host.specs.Issuing.{HasComeTo, HasPassedOver, packets_left};
+ghost use Rattle.sb_host.specs.Progress.{HasComeTo, HasPassedOver, packets_left};
 ghost use Rattle.sb_host.specs.Places.{asked_of};
 
 use crate::script_plan::ScriptPlan;
@@ -44,6 +44,8 @@ impl Cursor {
             ≡ message_of result ∷ packets_left (asked_of script_plan.now) self.new.next self.new.part }
         ensures come { HasComeTo (asked_of script_plan.now) self.new.next self.new.part }
         ensures onward { self.old.next ≤ self.new.next }
+        ensures step { (self.new.next ≡ self.old.next + 1) × (self.new.part ≡ 0)
+            ⊎ (self.new.next ≡ self.old.next) × (self.new.part ≡ self.old.part + 1) }
     {
         let txn = &script_plan.lines[self.next].txn;
         let limit = BODY_BYTES as u8;

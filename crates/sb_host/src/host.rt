@@ -4,7 +4,7 @@ ghost use Rattle.std.specs.Prelude.{◌≡◌, ◌<◌, ◌*◌, List, [], Some,
 ghost use Rattle.std.specs.Borrow.{sem, Lends};
 ghost use Rattle.sb_packet.specs.Accesses.{Access};
 ghost use Rattle.sb_packet.specs.Networks.{NetHost};
-ghost use Rattle.sb_packet.specs.Outcomes.{Outcome};
+ghost use Rattle.sb_packet.specs.Answers.{Outcome};
 ghost use Rattle.sb_flow.specs.Rings.{ring_plan};
 ghost use Rattle.sb_flow.specs.Ways.{first_link};
 ghost use Rattle.sb_port.specs.Ports.{fresh_port};
@@ -40,7 +40,7 @@ impl<F: Fabric> Model for Host<F> {
 
     ghost Value = { HostSide };
 
-    ghost use Rattle.sb_host.specs.CoreOf.{host_core_side};
+    ghost use Rattle.sb_host.specs.Hosts.{host_core_side};
 
     ghost view = { λ h. host_core_side F.Rx.RxEnd h.core };
 }

@@ -20,7 +20,7 @@ pub struct HostCore<T: TxEnd, U: RxEnd> {
 }
 
 impl<T: TxEnd, U: RxEnd> HostCore<T, U> {
-    ghost use Rattle.sb_host.specs.CoreOf.{host_core_side};
+    ghost use Rattle.sb_host.specs.Hosts.{host_core_side};
 
     // the ring of answers gave Close, and the port sent its own
     fn is_done(&self) -> bool

@@ -1,24 +1,23 @@
 //! Laws of hosts.
 
-ghost use Rattle.std.specs.Prelude.{◌≡◌, ◌∷◌, ◌*◌, ℕ, List, true, None, Some, All, filter, is_some, length, slice_get};
+ghost use Rattle.std.specs.Prelude.{◌≡◌, ◌≤◌, ◌∷◌, ◌*◌, ℕ, List, true, None, Some, All, filter, is_some, length, slice_get};
 ghost use Rattle.sb_flow.specs.Rings.{ring_plan};
 ghost use Rattle.sb_flow.specs.Ways.{first_link};
 ghost use Rattle.sb_port.specs.Waiting.{IsWidth};
-ghost use Rattle.sb_flow.specs.Accepted.{IsAccepted};
-ghost use Rattle.sb_host.specs.Issuing.{IsMadeFor};
+ghost use Rattle.sb_flow.specs.Accepted.{IsAccepted, misplaced_device};
+ghost use Rattle.sb_host.specs.Progress.{IsMadeFor, left_of};
 ghost use Rattle.sb_packet.specs.Networks.{NetHost, Network, device_at};
 ghost use Rattle.sb_link.specs.Prefixes.{IsPrefix};
 ghost use Rattle.sb_packet.specs.Scripts.{IsTransaction, script_accesses};
 ghost use Rattle.sb_packet.specs.Messages.{Message};
 ghost use Rattle.sb_link.specs.Traffic.{MayPass, has_close};
-ghost use Rattle.sb_flow.specs.Ranges.{misplaced_device};
 ghost use Rattle.sb_port.specs.Ports.{PortSide, let_go, offered_words};
 ghost use Rattle.sb_node.specs.Kept.{IsPortMet, IsRingMet};
-ghost use Rattle.sb_node.specs.Sides.{RingSide};
+ghost use Rattle.sb_node.specs.Sides.{RingSide, received_words};
 ghost use Rattle.sb_host.specs.Asked.{asked_accesses, asked_by};
-ghost use Rattle.sb_host.specs.Hosts.{HostSide, IsWholeHost};
-ghost use Rattle.sb_host.specs.Progress.{left_of};
+ghost use Rattle.sb_host.specs.Hosts.{HostSide, IsWholeHost, host_wait};
 ghost use Rattle.sb_host.specs.Rested.{IsRestedHost};
+ghost use Rattle.sb_host.specs.Windows.{IsAnswerMissed, under_way, window_slots};
 
 /// What a host has offered begins its words that go to devices, and once it has told its port to close, or the Close was
 /// sent, it is all of them. Its next packet passes, so none is dropped.
@@ -56,6 +55,17 @@ pub fn unmoved_hosts_are_still()
     ensures let_go { (before after : HostSide) → IsRestedHost before after → let_go after.requests.state ≡ let_go before.requests.state }
     ensures left { (before after : HostSide) → IsRestedHost before after → left_of after.transactions ≡ left_of before.transactions }
     ensures kept { (before after : HostSide) → IsRestedHost before after → after.transactions.rows ≡ before.transactions.rows }
+{}
+
+/// Of the transactions of a host that are answered from the network, at most 64 are under way.
+pub fn hosts_keep_their_windows()
+    ensures few { (h : HostSide) → IsWholeHost h → length (under_way h.transactions) ≤ window_slots }
+{}
+
+/// A host that waits for a slot has offered a word that is answered, and nothing that answers it has come.
+pub fn waiting_hosts_miss_answers()
+    ensures missed { (h : HostSide) → IsWholeHost h → is_some (host_wait h) ≡ true
+        → IsAnswerMissed h.transactions.asked.id (offered_words h.requests) (received_words h.answers) }
 {}
 
 /// In an accepted network the ring of requests of a host's own link is made for the host: for each of its packets, and for

@@ -1,7 +1,7 @@
 //! What has become of a transaction, by what is kept of its answers.
 
 ghost use Rattle.std.specs.Prelude.{◌≡◌};
-ghost use Rattle.sb_packet.specs.Outcomes.{code_numbered};
+ghost use Rattle.sb_packet.specs.Answers.{code_numbered};
 ghost use Rattle.sb_packet.specs.declared.transaction.TxnState.TheVariants as states;
 ghost use Rattle.sb_host.specs.Rows.{is_settled, kept_outcome, settled_code};
 

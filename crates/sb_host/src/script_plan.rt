@@ -1,7 +1,7 @@
 //! What a host asks for.
 
 ghost use Rattle.std.specs.Prelude.{◌≤◌, length};
-ghost use Rattle.sb_host.specs.Lines.{AreTransactions, AreTransactions-prop};
+ghost use Rattle.sb_host.specs.Asked.{AreTransactions, AreTransactions-prop};
 
 use crate::transaction_plan::TransactionPlan;
 

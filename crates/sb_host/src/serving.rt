@@ -1,16 +1,17 @@
 //! What a host does at its two ends.
 
-ghost use Rattle.std.specs.Prelude.{◌≡◌, ◌≤◌, ◌<◌, true, false, length};
+ghost use Rattle.std.specs.Prelude.{◌≡◌, ◌≤◌, ◌<◌, ◌⊎◌, None, true, false, is_some, length};
 ghost use Rattle.sb_port.specs.Ports.{IsFit, PortSide, owes};
 ghost use Rattle.sb_node.specs.Kept.{IsKeptPort, IsKeptRing};
 ghost use Rattle.sb_node.specs.Rested.{IsRestedRing};
 ghost use Rattle.sb_node.specs.Sides.{RingSide, port_moves, ring_side};
 ghost use Rattle.sb_host.specs.Hosts.{IsHostInOrder};
 ghost use Rattle.sb_host.specs.Progress.{IsNextAimed, left_of};
-ghost use Rattle.sb_host.specs.Steps.{IsIssued, IsNextOffered, IsReceiveStep};
+ghost use Rattle.sb_host.specs.Steps.{IsIssued, IsNextOffered, IsReceiveStep, IsWaitFound};
+ghost use Rattle.sb_host.specs.Windows.{IsHeldBack, window_cause, window_wait};
 
 use crate::transactions::Transactions;
-use sb_link::{RxEnd, TxEnd};
+use sb_link::{Cause, RxEnd, TxEnd};
 use sb_node::{Findings, pop_ring};
 use sb_packet::Item;
 use sb_port::OutPort;
@@ -45,6 +46,7 @@ fn offer_next<T: TxEnd>(transactions: &mut Transactions, requests: &mut OutPort<
     requires ready { owes requests.old.state ≡ false }
     requires some { transactions.old.next < length transactions.old.asked.lines }
     requires aimed { IsNextAimed transactions.old }
+    requires free { window_wait transactions.old ≡ None }
     ensures next_offered { IsNextOffered transactions.old requests.old requests.new }
     ensures more { port_moves requests.old < port_moves requests.new }
     ensures kept { IsKeptPort requests.old requests.new }
@@ -60,8 +62,40 @@ fn offer_next<T: TxEnd>(transactions: &mut Transactions, requests: &mut OutPort<
     requests.offer(&packet);
 }
 
-/// Passes over what is aimed at no device, offers the next packet where the port is ready, and tells the port to close
-/// where none is left. Says whether it offered a packet. Takes no memory.
+// finds for which transaction the next one waits, and says whether it does
+fn find_wait(transactions: &Transactions, found: &mut Findings) -> bool
+    ensures found { IsWaitFound (window_cause transactions.now) found.old found.new }
+    ensures waits { result ≡ is_some (window_cause transactions.now) }
+    ensures free { result ≡ false → window_wait transactions.now ≡ None }
+    ensures found_nothing { result ≡ false → found.new ≡ found.old }
+{
+    match transactions.waits_for() {
+        Some(index) => found.add_wait(Cause::Window { index }),
+        None => return false,
+    }
+    true
+}
+
+// says whether the next packet is offered now, and finds for which transaction it waits
+fn may_offer<T: TxEnd>(
+    transactions: &Transactions,
+    requests: &OutPort<T>,
+    found: &mut Findings,
+) -> bool
+    ensures some { result ≡ true → transactions.now.next < length transactions.now.asked.lines }
+    ensures ready { result ≡ true → owes requests.now.state ≡ false }
+    ensures free { result ≡ true → window_wait transactions.now ≡ None }
+    ensures found_nothing { result ≡ true → found.new ≡ found.old }
+    ensures found_wait { IsWaitFound (window_cause transactions.now) found.old found.new }
+    ensures none { result ≡ false → (length transactions.now.asked.lines ≤ transactions.now.next)
+        ⊎ ((owes requests.now.state ≡ true) ⊎ (is_some (window_cause transactions.now) ≡ true)) }
+{
+    let waits = find_wait(transactions, found);
+    !waits && transactions.any_left() && requests.ready()
+}
+
+/// Passes over what is aimed at no device, offers the next packet where the port is ready and its transaction waits for no
+/// slot, and tells the port to close where none is left. Says whether it offered a packet. Takes no memory.
 pub(crate) fn issue_next<T: TxEnd>(
     transactions: &mut Transactions,
     requests: &mut OutPort<T>,
@@ -69,8 +103,8 @@ pub(crate) fn issue_next<T: TxEnd>(
 ) -> bool
     requires in_order { (ring : RingSide) × IsHostInOrder transactions.old requests.old ring }
     requires fit { IsFit requests.old.plan requests.old.state }
-    ensures issued { IsIssued requests.old requests.new found.old found.new result }
-    ensures next_offered { IsNextOffered transactions.old requests.old requests.new }
+    ensures issued { IsIssued transactions.new requests.old requests.new found.old found.new result }
+    ensures next_offered { IsNextOffered transactions.old requests.old requests.new ⊎ IsHeldBack transactions.old transactions.new }
     ensures kept { IsKeptPort requests.old requests.new }
     ensures sent { requests.new.state.sent ≡ requests.old.state.sent }
     ensures onward { transactions.old.next ≤ transactions.new.next }
@@ -83,7 +117,7 @@ pub(crate) fn issue_next<T: TxEnd>(
     ensures fit { IsFit requests.new.plan requests.new.state }
 {
     transactions.pass_over();
-    let offers = transactions.any_left() && requests.ready();
+    let offers = may_offer(transactions, requests, found);
     if offers {
         offer_next(transactions, requests);
         found.add_move();

@@ -19,7 +19,7 @@ use std::test::Fail;
 const REPLIES: u64 = 1 << 40;
 
 /// A read of so many words of 8 bytes.
-fn read(alloc: Global, count: u16, aimed: bool) -> TransactionPlan
+pub(crate) fn read(alloc: Global, count: u16, aimed: bool) -> TransactionPlan
     requires some { 0 < count }
     requires most { count ≤ 256 }
     ensures transaction { IsTransaction result.txn }
@@ -37,7 +37,7 @@ fn read(alloc: Global, count: u16, aimed: bool) -> TransactionPlan
 }
 
 /// A write of four words of 8 bytes, posted or not.
-fn write(alloc: Global, kind: Kind, aimed: bool) -> Result<TransactionPlan, AllocError>
+pub(crate) fn write(alloc: Global, kind: Kind, aimed: bool) -> Result<TransactionPlan, AllocError>
     requires kind { IsTransaction (record { kind = kind; size = 3; addr = 0; count = 4; body = replicate 32 7 }) }
     ensures transaction { IfOk result (λ l. IsTransaction l.txn) }
 {
@@ -78,7 +78,7 @@ fn command(op: Op, size: u8, tail: u8) -> Cmd
 }
 
 /// Four words of 8 bytes that answer host 1, at that place of its addresses.
-fn bytes(place: u64, tail: u8, byte: u8) -> Packet
+pub(crate) fn bytes(place: u64, tail: u8, byte: u8) -> Packet
     requires aligned { place % 8 ≡ 0 }
     requires range { place ≤ 8192 }
     requires tail { tail ≤ 3 }

@@ -5,7 +5,7 @@ ghost use Rattle.sb_packet.specs.Accesses.{Access, access_at, accesses_of};
 ghost use Rattle.sb_packet.specs.Messages.{message_of};
 ghost use Rattle.sb_packet.specs.Spans.{word_count_of};
 ghost use Rattle.sb_host.specs.Places.{asked_of};
-ghost use Rattle.sb_packet.specs.Outcomes.{Outcome};
+ghost use Rattle.sb_packet.specs.Answers.{Outcome};
 ghost use Rattle.sb_packet.specs.Scripts.{IsTransaction};
 ghost use Rattle.sb_host.specs.Outcomes.{outcomes_so_far};
 ghost use Rattle.sb_host.specs.Rows.{IsRow, IsTable, answer_width};

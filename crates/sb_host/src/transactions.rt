@@ -1,18 +1,19 @@
 //! A host's transactions.
 
-ghost use Rattle.std.specs.Prelude.{◌≡◌, ◌≤◌, ◌<◌, ◌++◌, List, [], ◌∷◌, IfOk, true, false, length, slice_index_or};
+ghost use Rattle.std.specs.Prelude.{◌≡◌, ◌≤◌, ◌<◌, ◌+◌, ◌++◌, List, [], ◌∷◌, IfOk, true, false, length, slice_index_or};
 ghost use Rattle.sb_packet.specs.Accesses.{Access, accesses_of};
 ghost use Rattle.sb_packet.specs.Messages.{message_of};
-ghost use Rattle.sb_packet.specs.Outcomes.{Outcome};
-ghost use Rattle.sb_host.specs.Issuing.{HasComeTo};
+ghost use Rattle.sb_packet.specs.Answers.{Outcome};
+ghost use Rattle.sb_host.specs.Progress.{HasComeTo, IsNextAimed, left_of};
 ghost use Rattle.sb_host.specs.Outcomes.{outcomes_so_far};
 ghost use Rattle.sb_host.specs.Places.{asked_of};
-ghost use Rattle.sb_host.specs.Progress.{IsNextAimed, left_of};
 ghost use Rattle.sb_host.specs.Rows.{IsTable};
+ghost use Rattle.sb_host.specs.Windows.{begun_count, begun_slots, window_wait};
 
 use crate::cursor::Cursor;
 use crate::script_plan::ScriptPlan;
 use crate::transaction_table::TransactionTable;
+use crate::window::{Window, takes_slot};
 use sb_packet::{Packet, TxnState};
 use std::alloc::{AllocError, Global};
 use std::marker::Model;
@@ -23,6 +24,7 @@ pub struct Transactions {
     script_plan: ScriptPlan,
     cursor: Cursor,
     table: TransactionTable,
+    window: Window,
     // the ring of answers gave Close
     ended: bool,
 }
@@ -34,12 +36,14 @@ impl Model for Transactions {
     ghost Value = { TransactionsSide };
 
     ghost use Rattle.sb_host.specs.Places.{asked_of};
+    ghost use Rattle.sb_host.specs.Windows.{IsWindow};
 
     ghost view = { λ t.
         record { asked = asked_of t.script_plan; rows = t.table.rows.items; next = t.cursor.next; part = t.cursor.part; ended = t.ended } };
 
-    // the table has a row for each transaction
-    ghost invariant = { λ t. length t.table.rows.items ≡ length t.script_plan.lines.items };
+    // the table has a row for each transaction, and the window is that of all before the next one
+    ghost invariant = { λ t. (length t.table.rows.items ≡ length t.script_plan.lines.items)
+        × IsWindow t.script_plan.lines.items t.cursor.next t.window.oldest t.window.taken };
 }
 
 impl Transactions {
@@ -57,6 +61,7 @@ impl Transactions {
             script_plan,
             cursor: Cursor { next: 0, part: 0 },
             table,
+            window: Window::new(),
             ended: false,
         })
     }
@@ -126,10 +131,27 @@ impl Transactions {
         ensures come { HasComeTo self.new.asked self.new.next self.new.part }
         ensures onward { self.old.next ≤ self.new.next }
         ensures left { left_of self.new ≡ left_of self.old }
+        ensures begun { begun_slots self.new ≡ begun_slots self.old }
         ensures aimed { IsNextAimed self.new }
         ensures rest { self.new ≡ record self.old { next = self.new.next } }
     {
         self.cursor.pass_over(&self.script_plan);
+    }
+
+    /// The transaction for which the next one waits, before its first packet: it took the same slot, and misses a word.
+    pub(crate) fn waits_for(&self) -> Option<u32>
+        ensures waits { result ≡ window_wait self.now }
+    {
+        let line = self.script_plan.lines.get(self.cursor.next)?;
+        if self.cursor.part > 0 || !takes_slot(line) {
+            return None;
+        }
+        let before = self.window.slot_before()?;
+        if self.table.rows[before].missing == 0 {
+            None
+        } else {
+            Some(before as u32)
+        }
     }
 
     /// The next packet, of a transaction that is aimed at a device, and goes on behind it.
@@ -140,8 +162,14 @@ impl Transactions {
         ensures packet { left_of self.old ≡ message_of result ∷ left_of self.new }
         ensures come { HasComeTo self.new.asked self.new.next self.new.part }
         ensures onward { self.old.next ≤ self.new.next }
+        ensures begun { begun_count self.new ≡ self.old.next + 1 }
         ensures rest { self.new ≡ record self.old { next = self.new.next; part = self.new.part } }
     {
-        self.cursor.issue(&self.script_plan)
+        let next = self.cursor.next;
+        let packet = self.cursor.issue(&self.script_plan);
+        if self.cursor.next > next {
+            self.window.go_beyond(&self.script_plan, next);
+        }
+        packet
     }
 }

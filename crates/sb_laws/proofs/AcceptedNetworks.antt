@@ -8,23 +8,17 @@ use Rattle.std.proofs.lemmas.Bool.Decides.{nat_tests}
 use Rattle.std.proofs.lemmas.Option.{slice_get-get_or}
 use Rattle.std.proofs.lemmas.List.Elements.{All-weaker}
 use Rattle.std.proofs.lemmas.List.FromFn.{length-range_with_len, get_or-range_with_len, length-enumerate_from, get_or-enumerate_from}
-use Rattle.sb_packet.specs.Networks.{NetHost, NetDevice, NetLink, NetPlace, Network, at_host, at_router, at_device, device_size, has_address, leads_to}
-use Rattle.sb_packet.specs.Sides.{leaves_from}
+use Rattle.sb_packet.specs.Networks.{NetDevice, NetHost, NetLink, NetPlace, Network, at_device, at_host, at_router, device_size, has_address, leads_to, leaves_from}
 use Rattle.sb_link.specs.RingPlans.{are_apart}
 use Rattle.sb_flow.specs.Ways.{router_at_end, router_before, router_after, route_at, aims_at, is_some_number, way_links}
 use Rattle.sb_flow.specs.Rings.{range_of}
 use Rattle.sb_packet.proofs.Lists.{All-kept}
-use Rattle.sb_flow.specs.Limits.{is_from_to, is_limited_host, is_limited_router, is_limited_device, is_limited_link, is_limited, page_count}
-use Rattle.sb_flow.specs.Names.{is_there, is_link_there}
-use Rattle.sb_flow.specs.Ranges.{is_placed_device}
+use Rattle.sb_flow.specs.Accepted.{IsAccepted, RouteAt, is_from_to, is_limited, is_limited_device, is_limited_host, is_limited_link, is_limited_router, is_link_there, is_other_device, is_placed_device, is_stray, is_there, leads_on, lost_behind, lost_flow, lost_of_host, lost_on_way, page_count, stray_route, stray_route_of}
 use Rattle.sb_flow.specs.Ends.{joins, goes_back}
-use Rattle.sb_flow.specs.Routes.{RouteAt, is_other_device, leads_on, is_stray, stray_route_of, stray_route, lost_behind, lost_on_way, lost_of_host, lost_flow}
-use Rattle.sb_flow.specs.Accepted.{IsAccepted}
 use Rattle.sb_flow.proofs.Clashes.{option_or-None, option_map-None}
 use Rattle.sb_flow.proofs.WayCourses.{some_number-is, place-is}
 use Rattle.sb_laws.specs.Layouts.{HasScripts}
-use Rattle.sb_laws.specs.NetworkWays.{is_link_to}
-use Rattle.sb_laws.specs.Routed.{LeadsOn, IsRoute, IsFirstLink, IsRouted}
+use Rattle.sb_laws.specs.NetworkLayouts.{IsFirstLink, IsRoute, IsRouted, LeadsOn, is_link_to}
 use Rattle.sb_laws.proofs.LinksToDevices.{found_place, none_found}
 use Rattle.sb_laws.proofs.NoFaults.{none_passes, nothing_found, all_pass, nothing_told, at_place, some_place, All-at, AllPairs-at, no_clash}
 use Rattle.sb_laws.proofs.FitLinks.{AreFit, fit_links, is_false, host_start, only_link}

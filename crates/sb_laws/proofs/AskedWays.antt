@@ -21,8 +21,7 @@ use Rattle.sb_link.proofs.Truths.{same_test}
 use Rattle.sb_flow.proofs.FlowWords.{request_asks}
 use Rattle.sb_flow.proofs.LinkMarks.{list_any-map}
 use Rattle.sb_laws.specs.Flows.{is_of, is_same_flow, is_among_flows, asked_words}
-use Rattle.sb_laws.specs.NetworkLayouts.{way_flow, network_flows}
-use Rattle.sb_laws.specs.Routed.{IsRouted}
+use Rattle.sb_laws.specs.NetworkLayouts.{IsRouted, network_flows, way_flow}
 use Rattle.sb_laws.proofs.FlowMembers.{not_true, of_device, same_flow_from}
 use Rattle.sb_laws.proofs.ListPlaces.{All-enumerated, any_passing, any_joined}
 use Rattle.sb_laws.proofs.Journals.{place_below}

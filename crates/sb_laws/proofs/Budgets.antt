@@ -5,9 +5,8 @@ use Rattle.std.proofs.lemmas.List.Elements.{All-filter, All-weaker}
 use Rattle.sb_packet.specs.Networks.{Network}
 use Rattle.sb_link.specs.RingPlans.{NetFlow}
 use Rattle.sb_packet.proofs.Lists.{filter_none}
-use Rattle.sb_laws.specs.Flows.{is_of, words_of_flow, is_among_flows}
+use Rattle.sb_laws.specs.Flows.{CarriesItsFlows, Course, IsOneWay, budget_over, came_for_ring, flows_over, goes_over, is_among_flows, is_of, is_of_ring, words_of_flow}
 use Rattle.sb_laws.specs.Moments.{Moment, arrived}
-use Rattle.sb_laws.specs.Courses.{Course, goes_over, flows_over, budget_over, is_of_ring, came_for_ring, CarriesItsFlows, IsOneWay}
 use Rattle.sb_laws.proofs.Sums.{sum_by_le, sum_by_swap, sum_of_one}
 use Rattle.sb_laws.proofs.FlowMembers.{not_true, among_from, among_passing}
 use Rattle.sb_laws.proofs.Counts.{flows_cover}

@@ -16,13 +16,11 @@ use Rattle.sb_packet.proofs.Lists.{filter_all, filter_none}
 use Rattle.sb_router.specs.Forwarding.{IsLaid}
 use Rattle.sb_port.specs.Ports.{PortSide}
 use Rattle.sb_router.specs.Lanes.{InletState, LaneState, Route, inlet_at, no_inlet, no_port, next_place, outlet_at}
-use Rattle.sb_router.specs.RouteOf.{route_of}
+use Rattle.sb_router.specs.Ways.{route_of}
 use Rattle.sb_router.specs.Routers.{DirectionSide}
-use Rattle.sb_laws.specs.Courses.{Course, flows_over, goes_over, is_of_ring}
-use Rattle.sb_laws.specs.Flows.{is_among_flows, is_of, is_same_flow}
-use Rattle.sb_laws.specs.Routed.{IsRouted}
-use Rattle.sb_laws.specs.RouterLayouts.{IsBuiltFor}
-use Rattle.sb_laws.specs.RouterSides.{course_words}
+use Rattle.sb_laws.specs.Flows.{Course, flows_over, goes_over, is_among_flows, is_of, is_of_ring, is_same_flow}
+use Rattle.sb_laws.specs.NetworkLayouts.{IsRouted}
+use Rattle.sb_laws.specs.RouterSides.{IsBuiltFor, course_words}
 use Rattle.sb_laws.proofs.CarriedRings.{All-unmap}
 use Rattle.sb_laws.proofs.FlowMembers.{among_all, among_passing, at_flow, not_true, one_flow, same_flow}
 use Rattle.sb_laws.proofs.MessageFlows.{flow_low, flow_words, of_some}

@@ -11,10 +11,8 @@ use Rattle.sb_flow.specs.Ways.{NetWay}
 use Rattle.sb_flow.specs.Rings.{ring_plan, ring_ways, link_ways}
 use Rattle.sb_packet.specs.declared.item.Item.{Item}
 use Rattle.sb_flow.proofs.LinkMarks.{list_any-map}
-use Rattle.sb_laws.specs.Flows.{is_of}
-use Rattle.sb_laws.specs.Courses.{flows_over, is_of_ring}
-use Rattle.sb_laws.specs.NetworkLayouts.{way_flow, request_ring, answer_ring, ring_count, network_requests, network_answers}
-use Rattle.sb_laws.specs.Routed.{IsRouted}
+use Rattle.sb_laws.specs.Flows.{flows_over, is_of, is_of_ring}
+use Rattle.sb_laws.specs.NetworkLayouts.{IsRouted, answer_ring, network_answers, network_requests, request_ring, ring_count, way_flow}
 use Rattle.sb_laws.proofs.CarriedRings.{request_ways, answer_ways, flows_there, flows_back}
 use Rattle.sb_laws.proofs.PlannedWords.{words_in_turn}
 use Rattle.sb_laws.proofs.WaysOfRouted.{ways_of_routed}

@@ -16,12 +16,10 @@ use Rattle.sb_flow.specs.Ways.{NetWay, network_ways}
 use Rattle.sb_flow.specs.Rings.{is_upward, has_link, link_ways, ring_ways, way_accesses, counted_accesses, ring_budget, is_answered, carried_accesses, is_on_way, IsCarried}
 use Rattle.sb_packet.specs.declared.entry.Entry.{Entry}
 use Rattle.sb_flow.proofs.LinkMarks.{list_any-map}
-use Rattle.sb_laws.specs.Flows.{is_of, words_of_flow, asked_words, answered_of, replies_to}
+use Rattle.sb_laws.specs.Flows.{answered_of, asked_words, budget_over, flows_over, goes_over, is_of, replies_to, words_of_flow}
 use Rattle.sb_laws.specs.Moments.{Moment, arrived}
-use Rattle.sb_laws.specs.Courses.{goes_over, flows_over, budget_over}
-use Rattle.sb_laws.specs.NetworkLayouts.{way_flow, request_ring, answer_ring, ring_count, network_requests, network_answers, network_layout}
-use Rattle.sb_laws.specs.NetworkWays.{HasWays}
-use Rattle.sb_laws.specs.Wholes.{IsWholeRun}
+use Rattle.sb_laws.specs.NetworkLayouts.{HasWays, answer_ring, network_answers, network_layout, network_requests, request_ring, ring_count, way_flow}
+use Rattle.sb_laws.specs.Runs.{IsWholeRun}
 use Rattle.sb_laws.proofs.ScriptFacts.{own_script}
 use Rattle.sb_laws.proofs.LinksOfWays.{is_in}
 use Rattle.sb_laws.proofs.NetworkLaidOut.{FlowWay, way_flows, goes_there, goes_back, has_request, has_answer}

@@ -6,19 +6,17 @@ use Rattle.std.proofs.lemmas.List.Elements.{All-nil, All-cons, All-head, All-tai
 use Rattle.std.proofs.lemmas.List.Concat.{flat_map-append}
 use Rattle.sb_packet.specs.Accesses.{Access, accesses_of_item}
 use Rattle.sb_packet.specs.Networks.{Network}
-use Rattle.sb_packet.specs.Soundness.{IsSound}
+use Rattle.sb_packet.specs.Cuts.{IsSound}
 use Rattle.sb_link.specs.RingPlans.{NetFlow}
 use Rattle.sb_link.specs.Traffic.{has_close, item_accesses, item_messages}
 use Rattle.sb_packet.specs.declared.item.Item.{Item}
 use Rattle.sb_packet.specs.declared.item.Item.TheVariants as items
 use Rattle.sb_link.specs.Prefixes.{IsPrefix, IsSubsequence}
 use Rattle.sb_device.proofs.Requests.{messages_joined}
-use Rattle.sb_laws.specs.Flows.{is_of, words_of_flow}
+use Rattle.sb_laws.specs.Flows.{AlongWay, Course, budget_over, came_for_ring, is_of, way_rings, words_of_flow}
 use Rattle.sb_device.specs.Served.{AreSound}
 use Rattle.sb_laws.specs.Moments.{Moment, arrived, ClosesLast}
-use Rattle.sb_laws.specs.Courses.{Course, way_rings, budget_over, came_for_ring, AlongWay}
-use Rattle.sb_laws.specs.Promises.{IsLink, IsPort, ForwardsFlow, IsFlowSource, KeepsPromises, KeepsOrder}
-use Rattle.sb_laws.specs.Arrivals.{BeginsSources, PicksSources, CarriesSources, HasEnded}
+use Rattle.sb_laws.specs.Runs.{BeginsSources, CarriesSources, ForwardsFlow, HasEnded, IsFlowSource, IsLink, IsPort, KeepsOrder, KeepsPromises, PicksSources}
 use Rattle.sb_node.specs.Kept.{begins_further}
 use Rattle.sb_node.proofs.Answering.{prefix_length}
 use Rattle.sb_node.proofs.Subsequences.{subsequence_then}

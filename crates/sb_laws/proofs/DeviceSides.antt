@@ -15,14 +15,12 @@ use Rattle.sb_link.specs.Traffic.{has_close, item_accesses}
 use Rattle.sb_packet.specs.declared.entry.Entry.{Entry}
 use Rattle.sb_port.specs.Ports.{IsFit, PortSide}
 use Rattle.sb_device.proofs.Orders.{words_that_came}
-use Rattle.sb_laws.specs.Flows.{device_answers}
-use Rattle.sb_laws.specs.Courses.{budget_over}
+use Rattle.sb_laws.specs.Flows.{budget_over, device_answers}
 use Rattle.sb_laws.specs.Layouts.{Layout}
 use Rattle.sb_laws.specs.Moments.{Moment, arrived}
-use Rattle.sb_laws.specs.RoundSides.{HasPort, HasRing, ShowsPort, ShowsRing}
+use Rattle.sb_laws.specs.NodeSides.{HasPort, HasRing, ShowsPort, ShowsRing}
 use Rattle.sb_laws.specs.Runs.{IsDevice}
-use Rattle.sb_laws.specs.Stages.{Stages}
-use Rattle.sb_laws.specs.Standstills.{IsIdleReceiver, IsIdleSender, IsReceiverBlocked, RoundEnd}
+use Rattle.sb_laws.specs.Standstills.{IsIdleReceiver, IsIdleSender, IsReceiverBlocked, RoundEnd, Stages}
 use Rattle.sb_laws.proofs.SidePromises.{idle_port}
 
 pub device_promise : (network : Network) (layout : Layout) (journal : List Entry) (m : Moment) (f : NetFlow) (device : DeviceSide) →

@@ -5,13 +5,10 @@ use Rattle.sb_packet.specs.Networks.{Network}
 use Rattle.sb_link.specs.RingPlans.{RingPlan}
 use Rattle.sb_packet.specs.declared.entry.Entry.{Entry}
 use Rattle.sb_device.specs.Sides.{DeviceSide}
-use Rattle.sb_laws.specs.Courses.{budget_over}
-use Rattle.sb_laws.specs.DeviceSides.{IsDeviceAt}
+use Rattle.sb_laws.specs.Flows.{budget_over}
+use Rattle.sb_laws.specs.NodeSides.{HasPort, IsDeviceAt}
 use Rattle.sb_laws.specs.Moments.{Moment}
-use Rattle.sb_laws.specs.NetworkLayouts.{answer_ring, link_into, network_answers, network_flows, network_layout, ring_count}
-use Rattle.sb_laws.specs.NetworkWays.{HasWays}
-use Rattle.sb_laws.specs.RoundSides.{HasPort}
-use Rattle.sb_laws.specs.Routed.{IsRouted}
+use Rattle.sb_laws.specs.NetworkLayouts.{HasWays, IsRouted, answer_ring, link_into, network_answers, network_flows, network_layout, ring_count}
 use Rattle.sb_laws.specs.Runs.{IsDevice}
 use Rattle.sb_laws.proofs.CarriedRings.{answer_budget}
 use Rattle.sb_laws.proofs.DeviceSides.{device_promise}

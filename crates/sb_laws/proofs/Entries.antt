@@ -14,8 +14,7 @@ use Rattle.sb_packet.proofs.Lists.{All-pieces, All-kept}
 use Rattle.sb_packet.proofs.Opcodes.{some_words}
 use Rattle.sb_laws.specs.Layouts.{Layout, IsLayout}
 use Rattle.sb_laws.specs.Moments.{Moment}
-use Rattle.sb_laws.specs.Runs.{IsMomentOf, HasEntries}
-use Rattle.sb_laws.specs.Wholes.{HasAllEnded}
+use Rattle.sb_laws.specs.Runs.{HasAllEnded, HasEntries, IsMomentOf}
 use Rattle.sb_laws.proofs.FlowMembers.{of_host, of_device}
 use Rattle.sb_laws.proofs.Journals.{Origin, origin}
 use Rattle.sb_laws.proofs.WholeRuns.{whole_run_law}

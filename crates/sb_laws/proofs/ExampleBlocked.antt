@@ -5,7 +5,7 @@ use Rattle.std.proofs.lemmas.List.Elements.{All-nil}
 use Rattle.sb_packet.specs.Messages.{message_of}
 use Rattle.sb_link.specs.RingPlans.{RingPlan}
 use Rattle.sb_flow.specs.Rings.{ring_plan}
-use Rattle.sb_packet.specs.Soundness.{IsSound}
+use Rattle.sb_packet.specs.Cuts.{IsSound}
 use Rattle.sb_link.specs.Traffic.{item_accesses}
 use Rattle.sb_packet.specs.declared.item.Item.{Item}
 use Rattle.sb_packet.specs.declared.item.Item.TheVariants as items
@@ -17,7 +17,7 @@ use Rattle.sb_node.specs.Sides.{RingSide, has_ended, has_rest, is_drained, is_fu
 use Rattle.sb_node.specs.Steps.{IsBlockedPort}
 use Rattle.sb_node.proofs.Answering.{one_of}
 use Rattle.sb_host.specs.Steps.{IsIdleHost}
-use Rattle.sb_laws.specs.RoundSides.{ShowsPort, ShowsRing}
+use Rattle.sb_laws.specs.NodeSides.{ShowsPort, ShowsRing}
 use Rattle.sb_laws.specs.Standstills.{IsIdlePort, IsIdleReceiver, IsIdleSender, RoundEnd}
 use Rattle.sb_laws.proofs.DeviceSides.{idle_receiver, idle_sender}
 use Rattle.sb_laws.proofs.HostSides.{idle_host_receives, idle_host_sends}
@@ -26,6 +26,7 @@ use Rattle.sb_laws.proofs.ExampleNetwork.{small, posted, read_back, write, writt
 use Rattle.sb_laws.proofs.ExampleRun.{end_of_small}
 use Rattle.sb_laws.proofs.ExampleStandstill.{small_stages}
 use Rattle.sb_laws.proofs.ExampleNodes.{fresh, ring_in, small_mark}
+use Rattle.sb_laws.proofs.ExampleHost.{host_in}
 use Rattle.sb_laws.proofs.ExamplePorts.{one_packet, small_apart, small_paged}
 
 -- a ring of one place
@@ -145,19 +146,19 @@ owing_ports_are_idle = (
   idle_port blocked_round 3 device_port device_port_is_fit shows_device_port (λ rest. refl),
 )
 
-blocked_host : IsIdleHost host_port (ring_in fresh 1)
+blocked_host : IsIdleHost (host_in fresh [] 0).transactions host_port (ring_in fresh 1)
 blocked_host = record {
   at_rest = record {
     owing_ports_are_full = one_of (λ port. has_rest port ≡ true → is_full port ≡ true) host_port (λ rest. refl);
     open_rings_are_drained = one_of (λ ring. has_ended ring ≡ false → (is_drained ring ≡ true) ⊎ ⊥) (ring_in fresh 1) (λ unended. inl refl);
   };
-  open_host_is_blocked = λ untold. record { owing = refl; full = refl };
+  open_host_is_blocked = λ untold. inl (record { owing = refl; full = refl });
 }
 
 pub idle_hosts_are_idle : IsIdleSender small_stages blocked_round 0 × IsIdleReceiver small_stages blocked_round 1
 idle_hosts_are_idle = (
-  idle_host_sends small_stages blocked_round 0 host_port (ring_in fresh 1) shows_host_port refl host_port_is_fit blocked_host,
-  idle_host_receives small_stages blocked_round 1 host_port (ring_in fresh 1) shows_host_ring refl refl blocked_host,
+  idle_host_sends small_stages blocked_round 0 (host_in fresh [] 0).transactions host_port (ring_in fresh 1) shows_host_port refl refl host_port_is_fit blocked_host,
+  idle_host_receives small_stages blocked_round 1 (host_in fresh [] 0).transactions host_port (ring_in fresh 1) shows_host_ring refl refl blocked_host,
 )
 
 blocked_device : IsIdleAt (λ ring. IsBlockedPort device_port) (device_port ∷ []) (waiting_ring ∷ [])

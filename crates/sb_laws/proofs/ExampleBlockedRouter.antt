@@ -4,7 +4,7 @@ use Rattle.std.specs.Prelude.{◌==◌, All, Option}
 use Rattle.std.proofs.lemmas.List.Elements.{All-nil}
 use Rattle.sb_packet.specs.Messages.{message_of}
 use Rattle.sb_flow.specs.Rings.{ring_plan}
-use Rattle.sb_packet.specs.Soundness.{IsSound}
+use Rattle.sb_packet.specs.Cuts.{IsSound}
 use Rattle.sb_link.specs.Traffic.{IsCarriable, item_accesses}
 use Rattle.sb_packet.specs.declared.item.Item.{Item}
 use Rattle.sb_packet.specs.declared.item.Item.TheVariants as items
@@ -13,15 +13,14 @@ use Rattle.sb_packet.proofs.FineParts.{packet_whole}
 use Rattle.sb_port.specs.Ports.{IsFit, IsSendable, PortSide}
 use Rattle.sb_node.specs.Sides.{has_rest, is_full}
 use Rattle.sb_node.proofs.Answering.{one_of}
-use Rattle.sb_router.specs.Awaiting.{AwaitsFullPort}
+use Rattle.sb_router.specs.Steps.{AwaitsFullPort, IsSilent}
 use Rattle.sb_router.specs.Lanes.{InletState, inlet_at, no_inlet, outlet_at}
-use Rattle.sb_router.specs.RouteOf.{route_of}
+use Rattle.sb_router.specs.Ways.{route_of}
 use Rattle.sb_router.specs.Routers.{ClosesWhenDue, DirectionSide, IsWholeDirection}
-use Rattle.sb_router.specs.Steps.{IsSilent}
 use Rattle.sb_router.specs.Turning.{IsIdleLane, IsSeen}
-use Rattle.sb_router.specs.Whole.{IsLast, IsWholeInlet, IsWholeOutlet}
+use Rattle.sb_router.specs.Forwarding.{IsLast, IsWholeInlet, IsWholeOutlet}
 use Rattle.sb_laws.specs.RouterSides.{ComesInto, IsAtStage, Leaves, ShowsInlet, ShowsLane}
-use Rattle.sb_laws.specs.RoundSides.{ShowsPort}
+use Rattle.sb_laws.specs.NodeSides.{ShowsPort}
 use Rattle.sb_laws.specs.Standstills.{IsIdleReceiver, IsIdleSender, RoundEnd}
 use Rattle.sb_laws.proofs.RouterSides.{idle_receivers, idle_senders}
 use Rattle.sb_laws.proofs.ExampleNetwork.{small, posted, read, write}

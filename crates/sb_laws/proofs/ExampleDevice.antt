@@ -13,7 +13,7 @@ use Rattle.sb_node.proofs.Subsequences.{same_subsequence}
 use Rattle.sb_node.proofs.Answering.{one_of}
 use Rattle.sb_device.specs.Served.{HasServed}
 use Rattle.sb_device.specs.Sides.{DeviceSide}
-use Rattle.sb_laws.specs.DeviceSides.{IsDeviceAt}
+use Rattle.sb_laws.specs.NodeSides.{IsDeviceAt}
 use Rattle.sb_laws.specs.Moments.{Moment, arrived}
 use Rattle.sb_laws.specs.NetworkLayouts.{network_flows, network_layout}
 use Rattle.sb_laws.specs.Runs.{IsDevice}

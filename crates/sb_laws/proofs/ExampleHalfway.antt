@@ -3,20 +3,18 @@ use Rattle.std.proofs.Common.{◌≡◌, lit<, ℕ, zero, suc, true, refl, arith
 use Rattle.std.proofs.lemmas.List.Elements.{All-nil, All-from_recursion}
 use Rattle.sb_packet.specs.Accesses.{Access, access_at}
 use Rattle.sb_packet.specs.Messages.{message_of}
-use Rattle.sb_packet.specs.Soundness.{IsSound}
+use Rattle.sb_packet.specs.Cuts.{IsSound}
 use Rattle.sb_link.specs.Traffic.{item_accesses}
 use Rattle.sb_packet.specs.declared.entry.Entry.{Entry}
 use Rattle.sb_packet.specs.declared.item.Item.{Item}
 use Rattle.sb_packet.specs.declared.item.Item.TheVariants as items
 use Rattle.sb_link.specs.Prefixes.{IsPrefix, IsSubsequence, none, kept, left_out}
 use Rattle.sb_node.proofs.Answering.{one_of}
-use Rattle.sb_laws.specs.Flows.{words_of_flow, asked_words}
+use Rattle.sb_laws.specs.Flows.{AlongWay, CarriesItsFlows, Course, asked_words, is_of_ring, words_of_flow}
 use Rattle.sb_device.specs.Served.{AreSound}
 use Rattle.sb_laws.specs.Moments.{Moment}
-use Rattle.sb_laws.specs.Courses.{Course, CarriesItsFlows, is_of_ring, AlongWay}
-use Rattle.sb_laws.specs.Promises.{ForwardsFlow, KeepsOrder}
-use Rattle.sb_laws.specs.Runs.{IsHost, IsDevice, IsMomentOf}
-use Rattle.sb_laws.specs.Endings.{MissesAnswer}
+use Rattle.sb_laws.specs.Runs.{ForwardsFlow, IsDevice, IsHost, IsMomentOf, KeepsOrder}
+use Rattle.sb_laws.specs.Standstills.{MissesAnswer}
 use Rattle.sb_laws.proofs.ClosedLists.{EndsAtClose, closes_last}
 use Rattle.sb_node.proofs.Subsequences.{same_subsequence}
 use Rattle.sb_laws.proofs.Prefixes.{front_prefix, same_prefix}

@@ -9,8 +9,9 @@ use Rattle.sb_node.specs.Sides.{has_ended, has_rest, is_drained, is_full}
 use Rattle.sb_node.specs.Steps.{IsBlockedPort}
 use Rattle.sb_node.proofs.Answering.{one_of}
 use Rattle.sb_host.specs.Hosts.{IsHostTurn}
+use Rattle.sb_host.specs.Progress.{TransactionsSide}
 use Rattle.sb_host.specs.Steps.{IsIdleHost}
-use Rattle.sb_laws.specs.RoundSides.{ShowsPort, ShowsRing}
+use Rattle.sb_laws.specs.NodeSides.{ShowsPort, ShowsRing}
 use Rattle.sb_laws.specs.Standstills.{IsIdleReceiver, IsIdleSender, RoundEnd}
 use Rattle.sb_laws.proofs.DeviceSides.{idle_receiver, idle_sender}
 use Rattle.sb_laws.proofs.HostSides.{idle_host_receives, idle_host_sends, unmoved_receives, unmoved_sends}
@@ -18,7 +19,7 @@ use Rattle.sb_laws.proofs.ExampleHalfway.{halfway}
 use Rattle.sb_laws.proofs.ExampleStandstill.{small_stages}
 use Rattle.sb_laws.proofs.ExampleNodes.{port_in, ring_in}
 use Rattle.sb_laws.proofs.ExamplePorts.{halfway_is_settled, has_port, has_ring, is_fit}
-use Rattle.sb_laws.proofs.ExampleHost.{halfway_host, halfway_host_is_whole}
+use Rattle.sb_laws.proofs.ExampleHost.{halfway_host, halfway_host_is_whole, host_in}
 
 -- the router holds a packet that came by ring 0, for ring 2
 abbrev half_holds : ℕ → Option ℕ
@@ -50,8 +51,8 @@ device_ring = record { lists = has_ring halfway halfway_is_settled 2; empty = re
 device_port : ShowsPort half_round 3 (port_in halfway 3)
 device_port = record { lists = has_port halfway halfway_is_settled 3; full = refl; owes = refl; merges = refl; told = refl }
 
-idle_host : IsIdleHost (port_in halfway 0) (ring_in halfway 1)
-idle_host = record {
+idle_host : (t : TransactionsSide) → IsIdleHost t (port_in halfway 0) (ring_in halfway 1)
+idle_host t = record {
   at_rest = record {
     owing_ports_are_full = one_of (λ port. has_rest port ≡ true → is_full port ≡ true) (port_in halfway 0) (λ rest. absurd (cc));
     open_rings_are_drained = one_of (λ ring. has_ended ring ≡ false → (is_drained ring ≡ true) ⊎ ⊥) (ring_in halfway 1) (λ unended. inl refl);
@@ -61,8 +62,10 @@ idle_host = record {
 
 pub idle_hosts_are_idle : IsIdleSender small_stages half_round 0 × IsIdleReceiver small_stages half_round 1
 idle_hosts_are_idle = (
-  idle_host_sends small_stages half_round 0 (port_in halfway 0) (ring_in halfway 1) host_port refl (is_fit halfway halfway_is_settled 0 (lit< tt)) idle_host,
-  idle_host_receives small_stages half_round 1 (port_in halfway 0) (ring_in halfway 1) host_ring refl refl idle_host,
+  idle_host_sends small_stages half_round 0 (host_in halfway [] 3).transactions (port_in halfway 0) (ring_in halfway 1) host_port refl refl
+      (is_fit halfway halfway_is_settled 0 (lit< tt)) (idle_host (host_in halfway [] 3).transactions),
+  idle_host_receives small_stages half_round 1 (host_in halfway [] 3).transactions (port_in halfway 0) (ring_in halfway 1) host_ring refl refl
+      (idle_host (host_in halfway [] 3).transactions),
 )
 
 module _ (heap : Global) where
@@ -70,18 +73,18 @@ module _ (heap : Global) where
   idle_turn : IsHostTurn (halfway_host heap) 2 (Idle (Empty 1 0 0)) (halfway_host heap)
   idle_turn = record {
     answered = (refl, refl, refl);
-    idle = λ still. idle_host;
+    idle = λ still. idle_host (halfway_host heap).transactions;
     few = lit≤ tt;
     port_served = record { few = lit≤ tt; served = inr (inl refl) };
     ring_served = inr refl;
-    next_offered = λ free m rest left. absurd (cc);
+    next_offered = inl (λ free m rest left. absurd (cc));
     aimed = λ d inside. absurd (omega arith);
     closes_when_due = λ all. refl;
   }
 
   pub unmoved_hosts_are_idle : IsIdleSender small_stages half_round 0 × IsIdleReceiver small_stages half_round 1
   unmoved_hosts_are_idle = (
-    unmoved_sends small_stages half_round (halfway_host heap) (halfway_host heap) 2 (Idle (Empty 1 0 0)) (halfway_host_is_whole heap) idle_turn (λ e. cc) host_port refl,
+    unmoved_sends small_stages half_round (halfway_host heap) (halfway_host heap) 2 (Idle (Empty 1 0 0)) (halfway_host_is_whole heap) idle_turn (λ e. cc) host_port refl refl,
     unmoved_receives small_stages half_round (halfway_host heap) (halfway_host heap) 2 (Idle (Empty 1 0 0)) (halfway_host_is_whole heap) idle_turn (λ e. cc) host_ring refl refl,
   )
 

@@ -9,12 +9,12 @@ use Rattle.sb_link.specs.Traffic.{IsPlanned, has_close, item_accesses}
 use Rattle.sb_node.proofs.Answering.{one_of}
 use Rattle.sb_host.specs.Asked.{asked_by, asked_packets, line_in}
 use Rattle.sb_host.specs.Hosts.{HostSide, IsWholeHost}
-use Rattle.sb_host.specs.Issuing.{IsMadeFor}
+use Rattle.sb_host.specs.Progress.{IsMadeFor}
 use Rattle.sb_host.specs.Places.{AreIssuable}
 use Rattle.sb_host.specs.Rows.{IsRow, IsTable, answer_width, line_answers}
 use Rattle.sb_host.specs.declared.transaction_plan.TransactionPlan.{TransactionPlan}
 use Rattle.sb_host.specs.declared.answer_row.AnswerRow.{AnswerRow}
-use Rattle.sb_laws.specs.HostSides.{IsHostBuiltFor, IsHostOf}
+use Rattle.sb_laws.specs.NodeSides.{IsHostBuiltFor, IsHostOf}
 use Rattle.sb_laws.specs.Layouts.{ring_home}
 use Rattle.sb_laws.specs.Moments.{Moment}
 use Rattle.sb_laws.specs.NetworkLayouts.{answer_ring, request_ring}
@@ -98,19 +98,19 @@ module _ (heap : Global) where
   pub fresh_host_is_whole : IsWholeHost (fresh_host heap)
   fresh_host_is_whole = record {
     fit = is_fit fresh fresh_is_settled 0 (lit< tt);
-    in_order = record { issuable = issuable; made = made; come = record { within = lit≤ tt; begun = λ some d. absurd (omega arith) }; offered = refl; closes = λ told. absurd (cc); table = fresh_table; ends = refl };
+    in_order = record { issuable = issuable; made = made; come = record { within = lit≤ tt; begun = λ some d. absurd (omega arith) }; offered = refl; closes = λ told. absurd (cc); table = fresh_table; ends = refl; window = λ k i at behind. absurd (omega (arith, behind)) };
   }
 
   pub halfway_host_is_whole : IsWholeHost (halfway_host heap)
   halfway_host_is_whole = record {
     fit = is_fit halfway halfway_is_settled 0 (lit< tt);
-    in_order = record { issuable = issuable; made = made; come = record { within = lit≤ tt; begun = λ some d. absurd (omega arith) }; offered = refl; closes = λ told. refl; table = fresh_table; ends = refl };
+    in_order = record { issuable = issuable; made = made; come = record { within = lit≤ tt; begun = λ some d. absurd (omega arith) }; offered = refl; closes = λ told. refl; table = fresh_table; ends = refl; window = λ k i at behind. absurd (omega (arith, behind)) };
   }
 
   pub end_host_is_whole : IsWholeHost (end_host heap)
   end_host_is_whole = record {
     fit = is_fit the_end end_is_settled 0 (lit< tt);
-    in_order = record { issuable = issuable; made = made; come = record { within = lit≤ tt; begun = λ some d. absurd (omega arith) }; offered = refl; closes = λ told. refl; table = end_table; ends = refl };
+    in_order = record { issuable = issuable; made = made; come = record { within = lit≤ tt; begun = λ some d. absurd (omega arith) }; offered = refl; closes = λ told. refl; table = end_table; ends = refl; window = λ k i at behind. absurd (omega (arith, behind)) };
   }
 
 -- It is the network's, whatever it has done.

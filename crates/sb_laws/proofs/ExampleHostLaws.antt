@@ -3,7 +3,7 @@ use Rattle.std.proofs.Common.{◌≡◌, ◌≤◌, ◌<◌, lit≤, lit<, ℕ, 
 use Rattle.std.specs.Prelude.{◌⊎◌, All, Some}
 use Rattle.sb_link.specs.declared.answers.Turn.TheVariants.{Done}
 use Rattle.sb_packet.specs.Cuts.{transaction_packets}
-use Rattle.sb_packet.specs.Outcomes.{host_outcomes}
+use Rattle.sb_packet.specs.Answers.{host_outcomes}
 use Rattle.sb_flow.specs.Rings.{ring_budget, ring_plan}
 use Rattle.sb_link.specs.Traffic.{IsPlanned, item_accesses}
 use Rattle.sb_packet.specs.declared.transaction.Kind.TheVariants.{Write}
@@ -14,11 +14,12 @@ use Rattle.sb_host.specs.Asked.{asked_accesses, asked_by}
 use Rattle.sb_host.specs.Hosts.{IsHostTurn, IsKeptHost, IsWholeHost}
 use Rattle.sb_host.specs.Outcomes.{outcomes_so_far}
 use Rattle.sb_host.specs.Rows.{IsTable}
+use Rattle.sb_host.specs.Progress.{TransactionsSide}
 use Rattle.sb_host.specs.Steps.{IsIdleHost}
 use Rattle.sb_host.proofs.Offering.{closes_behind_all, offers_in_order}
 use Rattle.sb_host.specs.declared.answer_row.AnswerRow.{AnswerRow}
 use Rattle.sb_laws.specs.Flows.{aimed_script}
-use Rattle.sb_laws.specs.HostSides.{IsHostAt, IsHostBuiltFor, IsHostOf}
+use Rattle.sb_laws.specs.NodeSides.{IsHostAt, IsHostBuiltFor, IsHostOf}
 use Rattle.sb_laws.specs.Moments.{Moment}
 use Rattle.sb_laws.specs.NetworkLayouts.{network_flows, network_layout, request_ring}
 use Rattle.sb_laws.specs.Runs.{IsHost}
@@ -58,8 +59,8 @@ module _ (m : Moment) (settled : IsSettled m) (rows : List AnswerRow) (next : �
   promises_at = all_promises small small_is_routed offers_in_order closes_behind_all m (λ n. host_in m rows next) all_stand
 
 -- In the last round it does nothing: it has told its port to close, and its ring has ended.
-idle : IsIdleHost (port_in the_end 0) (ring_in the_end 1)
-idle = record {
+idle : (t : TransactionsSide) → IsIdleHost t (port_in the_end 0) (ring_in the_end 1)
+idle t = record {
   at_rest = record {
     owing_ports_are_full = one_of (λ port. has_rest port ≡ true → is_full port ≡ true) (port_in the_end 0) (at_rest 0 (lit< tt));
     open_rings_are_drained = one_of (λ ring. has_ended ring ≡ false → (is_drained ring ≡ true) ⊎ ⊥) (ring_in the_end 1) (λ unended. absurd (cc));
@@ -69,8 +70,10 @@ idle = record {
 
 pub idle_hosts_are_idle : IsIdleSender small_stages last_round 0 × IsIdleReceiver small_stages last_round 1
 idle_hosts_are_idle = (
-  idle_host_sends small_stages last_round 0 (port_in the_end 0) (ring_in the_end 1) (shows_port 0 (lit< tt)) refl (is_fit the_end end_is_settled 0 (lit< tt)) idle,
-  idle_host_receives small_stages last_round 1 (port_in the_end 0) (ring_in the_end 1) (shows_ring 1 (lit< tt)) refl refl idle,
+  idle_host_sends small_stages last_round 0 (host_in the_end [] 3).transactions (port_in the_end 0) (ring_in the_end 1) (shows_port 0 (lit< tt)) refl refl
+      (is_fit the_end end_is_settled 0 (lit< tt)) (idle (host_in the_end [] 3).transactions),
+  idle_host_receives small_stages last_round 1 (host_in the_end [] 3).transactions (port_in the_end 0) (ring_in the_end 1) (shows_ring 1 (lit< tt)) refl refl
+      (idle (host_in the_end [] 3).transactions),
 )
 
 module _ (heap : Global) where
@@ -96,18 +99,18 @@ module _ (heap : Global) where
   pub done_turn : IsHostTurn (end_host heap) 4 Done (end_host heap)
   done_turn = record {
     answered = (refl, refl);
-    idle = λ still. idle;
+    idle = λ still. idle (end_host heap).transactions;
     few = lit≤ tt;
     port_served = record { few = lit≤ tt; served = inr (inl refl) };
     ring_served = inr refl;
-    next_offered = λ free m rest left. absurd (cc);
+    next_offered = inl (λ free m rest left. absurd (cc));
     aimed = λ d inside. absurd (omega arith);
     closes_when_due = λ all. refl;
   }
 
   pub unmoved_hosts_are_idle : IsIdleSender small_stages last_round 0 × IsIdleReceiver small_stages last_round 1
   unmoved_hosts_are_idle = (
-    unmoved_sends small_stages last_round (end_host heap) (end_host heap) 4 Done (end_host_is_whole heap) done_turn (λ e. cc) (shows_port 0 (lit< tt)) refl,
+    unmoved_sends small_stages last_round (end_host heap) (end_host heap) 4 Done (end_host_is_whole heap) done_turn (λ e. cc) (shows_port 0 (lit< tt)) refl refl,
     unmoved_receives small_stages last_round (end_host heap) (end_host heap) 4 Done (end_host_is_whole heap) done_turn (λ e. cc) (shows_ring 1 (lit< tt)) refl refl,
   )
 

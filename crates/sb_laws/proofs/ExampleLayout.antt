@@ -6,8 +6,7 @@ use Rattle.sb_packet.specs.Scripts.{IsTransaction}
 use Rattle.sb_link.specs.RingPlans.{NetFlow}
 use Rattle.sb_packet.proofs.FoundAnswers.{eq_below}
 use Rattle.sb_node.proofs.Answering.{one_of}
-use Rattle.sb_laws.specs.Flows.{is_among_flows, asked_words, answered_of}
-use Rattle.sb_laws.specs.Courses.{Course, IsOneWay, goes_over, flows_over}
+use Rattle.sb_laws.specs.Flows.{Course, IsOneWay, answered_of, asked_words, flows_over, goes_over, is_among_flows}
 use Rattle.sb_laws.specs.Layouts.{Layout, HasScripts, IsLayout, ring_home}
 use Rattle.sb_laws.proofs.ExampleNetwork.{cpu, small}
 

@@ -11,7 +11,7 @@ use Rattle.sb_link.specs.Plans.{AreWholePages}
 use Rattle.sb_link.specs.RingPlans.{AddressRange, AreApart, RingPlan, device_ranges, is_allowed}
 use Rattle.sb_link.specs.Prefixes.{IsPrefix}
 use Rattle.sb_flow.specs.Rings.{ring_plan}
-use Rattle.sb_packet.specs.Soundness.{IsSound}
+use Rattle.sb_packet.specs.Cuts.{IsSound}
 use Rattle.sb_link.specs.Traffic.{AreInTurn, IsCarriable, item_accesses, item_messages}
 use Rattle.sb_packet.specs.declared.item.Item.{Item}
 use Rattle.sb_packet.specs.declared.item.Item.TheVariants as items
@@ -21,7 +21,7 @@ use Rattle.sb_port.proofs.Items.{item_accesses-messages}
 use Rattle.sb_node.proofs.Answering.{one_of}
 use Rattle.sb_device.specs.Served.{AreSound}
 use Rattle.sb_laws.specs.Moments.{Moment}
-use Rattle.sb_laws.specs.RoundSides.{HasPort, HasRing}
+use Rattle.sb_laws.specs.NodeSides.{HasPort, HasRing}
 use Rattle.sb_laws.proofs.InTurn.{begins_in_turn, turn_words_are_few}
 use Rattle.sb_laws.proofs.Prefixes.{same_prefix}
 use Rattle.sb_laws.proofs.ExampleNetwork.{small, asking, answering, write, posted, read, written, read_back}

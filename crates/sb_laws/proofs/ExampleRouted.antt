@@ -6,12 +6,9 @@ use Rattle.std.proofs.lemmas.List.Elements.{All-from_recursion}
 use Rattle.sb_packet.specs.Networks.{NetHost, has_address}
 use Rattle.sb_flow.specs.Ways.{aims_at, route_at, router_before, router_after, way_links}
 use Rattle.sb_node.proofs.Answering.{one_of}
-use Rattle.sb_laws.specs.NetworkLayouts.{network_flows, network_requests, network_answers, network_layout}
-use Rattle.sb_laws.specs.NetworkStages.{network_stages}
-use Rattle.sb_laws.specs.NetworkWays.{is_link_to}
-use Rattle.sb_laws.specs.Routed.{IsFirstLink, IsRoute, IsRouted}
-use Rattle.sb_laws.specs.Courses.{way_rings}
-use Rattle.sb_laws.specs.RouterLayouts.{request_ins, request_outs, answer_ins, answer_outs}
+use Rattle.sb_laws.specs.NetworkLayouts.{IsFirstLink, IsRoute, IsRouted, is_link_to, network_answers, network_flows, network_layout, network_requests, network_stages}
+use Rattle.sb_laws.specs.Flows.{way_rings}
+use Rattle.sb_laws.specs.RouterSides.{request_ins, request_outs, answer_ins, answer_outs}
 use Rattle.sb_laws.proofs.ExampleNetwork.{small}
 use Rattle.sb_laws.proofs.ExampleLayout.{the_flow, scripts_of_small}
 

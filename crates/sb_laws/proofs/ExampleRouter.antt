@@ -15,16 +15,14 @@ use Rattle.sb_port.specs.Ports.{offered_words}
 use Rattle.sb_node.specs.Sides.{received_words}
 use Rattle.sb_node.proofs.Subsequences.{same_subsequence}
 use Rattle.sb_node.proofs.Answering.{one_of}
-use Rattle.sb_router.specs.Forwarding.{Forwards, Passes, Words, held_for, part, popped_for}
+use Rattle.sb_router.specs.Forwarding.{Forwards, IsLast, IsWholeInlet, IsWholeOutlet, Passes, Words, held_for, part, popped_for}
 use Rattle.sb_router.specs.Lanes.{InletState, came_at, held_words_at, held_words, offered_at, outlet_at}
-use Rattle.sb_router.specs.RouteOf.{route_of}
+use Rattle.sb_router.specs.Ways.{route_of}
 use Rattle.sb_router.specs.Routers.{DirectionSide, IsWholeDirection}
 use Rattle.sb_router.specs.Steps.{IsSilent}
-use Rattle.sb_router.specs.Whole.{IsLast, IsWholeInlet, IsWholeOutlet}
 use Rattle.sb_laws.specs.Moments.{Moment}
-use Rattle.sb_laws.specs.RouterLayouts.{IsBuiltFor, LeadsByPlans, answer_ins, answer_outs, request_ins, request_outs}
-use Rattle.sb_laws.specs.RouterSides.{HasInlet, HasLane}
-use Rattle.sb_laws.specs.RoundSides.{HasPort}
+use Rattle.sb_laws.specs.RouterSides.{HasInlet, HasLane, IsBuiltFor, LeadsByPlans, answer_ins, answer_outs, request_ins, request_outs}
+use Rattle.sb_laws.specs.NodeSides.{HasPort}
 use Rattle.sb_laws.proofs.ExampleNetwork.{small, posted, write}
 use Rattle.sb_laws.proofs.ExampleRun.{the_end}
 use Rattle.sb_laws.proofs.ExampleHalfway.{halfway}

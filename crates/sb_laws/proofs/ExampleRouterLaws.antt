@@ -7,14 +7,13 @@ use Rattle.sb_packet.proofs.NetworkExample.{wired}
 use Rattle.sb_flow.proofs.AcceptedExample.{wired_is_accepted}
 use Rattle.sb_router.specs.Forwarding.{IsLaid, Passes, Words, held_for, popped_for}
 use Rattle.sb_router.specs.Lanes.{offered_at}
-use Rattle.sb_router.specs.RouteOf.{route_of}
+use Rattle.sb_router.specs.Ways.{route_of}
 use Rattle.sb_router.specs.Routers.{DirectionSide}
 use Rattle.sb_router.proofs.Forwards.{has_forwarded}
 use Rattle.sb_laws.specs.Moments.{Moment}
 use Rattle.sb_laws.specs.NetworkLayouts.{network_answers, network_requests}
-use Rattle.sb_laws.specs.Promises.{ForwardsFlow}
-use Rattle.sb_laws.specs.RouterLayouts.{IsRouterAt, KeepsAlongWays, answer_ins, answer_outs, request_ins, request_outs}
-use Rattle.sb_laws.specs.RouterSides.{IsRouterOf, course_words}
+use Rattle.sb_laws.specs.Runs.{ForwardsFlow}
+use Rattle.sb_laws.specs.RouterSides.{IsRouterAt, IsRouterOf, KeepsAlongWays, answer_ins, answer_outs, course_words, request_ins, request_outs}
 use Rattle.sb_laws.proofs.AcceptedNetworks.{low_ids}
 use Rattle.sb_laws.proofs.NetworkRouters.{answers_laid, answers_router, requests_laid, requests_router}
 use Rattle.sb_laws.proofs.RouterSides.{router_promise}

@@ -8,14 +8,12 @@ use Rattle.sb_flow.specs.Rings.{ring_plan}
 use Rattle.sb_port.specs.Ports.{PortSide}
 use Rattle.sb_node.proofs.Subsequences.{same_subsequence}
 use Rattle.sb_node.proofs.Answering.{one_of}
-use Rattle.sb_router.specs.Forwarding.{Passes, held_for, part, popped_for}
+use Rattle.sb_router.specs.Forwarding.{IsWholeInlet, IsWholeOutlet, Passes, held_for, part, popped_for}
 use Rattle.sb_router.specs.Lanes.{InletState, came_at, held_words_at, inlet_at, offered_at, outlet_at}
-use Rattle.sb_router.specs.RouteOf.{route_of}
+use Rattle.sb_router.specs.Ways.{route_of}
 use Rattle.sb_router.specs.Routers.{DirectionSide, ForwardsAll, IsWholeDirection}
 use Rattle.sb_router.specs.Steps.{IsSilent}
-use Rattle.sb_router.specs.Whole.{IsWholeInlet, IsWholeOutlet}
-use Rattle.sb_laws.specs.RouterEnds.{IsDirectionMet, IsInletMet}
-use Rattle.sb_laws.specs.RouterLayouts.{IsBuiltFor, LeadsByPlans, request_ins, request_outs}
+use Rattle.sb_laws.specs.RouterSides.{IsBuiltFor, IsDirectionMet, IsInletMet, LeadsByPlans, request_ins, request_outs}
 use Rattle.sb_node.specs.Kept.{IsPortMet}
 use Rattle.sb_laws.proofs.NetworkRouters.{requests_laid}
 use Rattle.sb_laws.proofs.RouterEnds.{met_direction, met_whole}

@@ -9,14 +9,12 @@ use Rattle.sb_packet.proofs.FoundAnswers.{eq_below}
 use Rattle.sb_node.specs.Sides.{has_rest, is_full}
 use Rattle.sb_node.proofs.Answering.{one_of}
 use Rattle.sb_router.specs.Lanes.{inlet_at}
-use Rattle.sb_router.specs.RouteOf.{route_of}
+use Rattle.sb_router.specs.Ways.{place_on, route_of}
 use Rattle.sb_router.specs.Routers.{ClosesWhenDue, DirectionSide, IsRouterTurn, IsWholeRouter, RouterSide}
 use Rattle.sb_router.specs.Turning.{IsIdleLane, IsSeen, ServesEach, ServesPorts}
-use Rattle.sb_router.specs.Ways.{place_on}
 use Rattle.sb_laws.specs.NetworkLayouts.{links_into, links_out_of}
-use Rattle.sb_laws.specs.RouterLayouts.{HasTable, LeadsByPlans}
-use Rattle.sb_laws.specs.RouterSides.{ComesInto, IsAtStage, IsIdleAtRings, Leaves, ShowsInlet, ShowsLane}
-use Rattle.sb_laws.specs.RoundSides.{ShowsPort}
+use Rattle.sb_laws.specs.RouterSides.{ComesInto, HasTable, IsAtStage, IsIdleAtRings, LeadsByPlans, Leaves, ShowsInlet, ShowsLane}
+use Rattle.sb_laws.specs.NodeSides.{ShowsPort}
 use Rattle.sb_laws.specs.Standstills.{IsIdleReceiver, IsIdleSender}
 use Rattle.sb_laws.proofs.RouterSides.{idle_receivers, idle_senders, unmoved_answers, unmoved_requests}
 use Rattle.sb_laws.proofs.RouterTables.{answer_tables, request_tables}

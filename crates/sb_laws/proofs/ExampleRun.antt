@@ -2,8 +2,8 @@
 use Rattle.std.proofs.Common.{◌≡◌, ◌≤◌, ◌<◌, lit≤, lit<, ℕ, zero, suc, true, refl, arith, List, [], ◌∷◌}
 use Rattle.std.proofs.lemmas.List.Elements.{All-nil, All-from_recursion}
 use Rattle.sb_packet.specs.Messages.{message_of}
-use Rattle.sb_packet.specs.Soundness.{IsSound}
 use Rattle.sb_packet.specs.Spans.{span_of}
+use Rattle.sb_packet.specs.Cuts.{IsSound}
 use Rattle.sb_packet.specs.Networks.{width_to}
 use Rattle.sb_packet.specs.Journals.{IsLawful}
 use Rattle.sb_link.specs.Traffic.{has_close, item_accesses}
@@ -11,11 +11,8 @@ use Rattle.sb_packet.specs.declared.item.Item.{Item}
 use Rattle.sb_node.proofs.Answering.{one_of}
 use Rattle.sb_device.specs.Served.{AreSound}
 use Rattle.sb_laws.specs.Moments.{Moment}
-use Rattle.sb_laws.specs.Courses.{CarriesItsFlows, is_of_ring, AlongWay}
-use Rattle.sb_laws.specs.Promises.{ForwardsFlow}
-use Rattle.sb_laws.specs.Arrivals.{HasEnded}
-use Rattle.sb_laws.specs.Runs.{IsHost, IsDevice, IsMomentOf, HasEntries}
-use Rattle.sb_laws.specs.Wholes.{HasAllEnded}
+use Rattle.sb_laws.specs.Flows.{CarriesItsFlows, is_of_ring, AlongWay}
+use Rattle.sb_laws.specs.Runs.{ForwardsFlow, HasAllEnded, HasEnded, HasEntries, IsDevice, IsHost, IsMomentOf}
 use Rattle.sb_laws.proofs.Entries.{lawful_journal}
 use Rattle.sb_laws.proofs.ClosedLists.{EndsAtClose, closes_last}
 use Rattle.sb_node.proofs.Subsequences.{same_subsequence}

@@ -3,8 +3,8 @@ use Rattle.std.proofs.Common.{◌≡◌, ◌≤◌, ◌<◌, ℕ, zero, suc, ◌
 use Rattle.sb_flow.specs.Rings.{ring_plan}
 use Rattle.sb_node.specs.Sides.{port_moves, is_full, has_rest}
 use Rattle.sb_laws.specs.Moments.{Moment}
-use Rattle.sb_laws.specs.Promises.{IsLink, IsPort}
-use Rattle.sb_laws.specs.RoundSides.{ShowsPort, ShowsRing}
+use Rattle.sb_laws.specs.Runs.{IsLink, IsPort}
+use Rattle.sb_laws.specs.NodeSides.{ShowsPort, ShowsRing}
 use Rattle.sb_laws.specs.Standstills.{IsIdlePort, IsTrueRing}
 use Rattle.sb_laws.proofs.PortSides.{moves_are_few, received_are_few}
 use Rattle.sb_laws.proofs.SidePromises.{idle_port, link_promise, port_promise, true_ring}

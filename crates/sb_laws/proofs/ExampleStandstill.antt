@@ -6,9 +6,7 @@ use Rattle.sb_link.specs.Traffic.{has_close, item_accesses}
 use Rattle.sb_packet.specs.declared.item.Item.{Item}
 use Rattle.sb_packet.specs.declared.item.Item.TheVariants as items
 use Rattle.sb_node.proofs.Answering.{one_of}
-use Rattle.sb_laws.specs.Stages.{Stages}
-use Rattle.sb_laws.specs.Standstills.{RoundEnd, IsStandstill}
-use Rattle.sb_laws.specs.Endings.{HasLearnt, IsFinished, IsHostWaiting, IsWithin, IsWholeStandstill}
+use Rattle.sb_laws.specs.Standstills.{HasLearnt, IsFinished, IsHostWaiting, IsStandstill, IsWholeStandstill, IsWithin, RoundEnd, Stages}
 use Rattle.sb_laws.proofs.ExampleNetwork.{small, steps, read}
 use Rattle.sb_laws.proofs.ExampleLayout.{the_flow, small_layout}
 use Rattle.sb_laws.proofs.ExampleRun.{all_items, the_end, end_of_small}

@@ -6,12 +6,11 @@ use Rattle.std.proofs.lemmas.Bool.{cases_lt, and_parts}
 use Rattle.std.proofs.lemmas.Bool.Decides.{nat_tests}
 use Rattle.std.proofs.lemmas.List.Elements.{All-nil, All-cons, All-head, All-weaker}
 use Rattle.std.proofs.lemmas.List.Kept.{AllPairs-cons}
-use Rattle.sb_packet.specs.Networks.{NetPlace, NetLink, Network, at_host, at_router, at_device, leads_to}
-use Rattle.sb_packet.specs.Sides.{leaves_from}
+use Rattle.sb_packet.specs.Networks.{NetLink, NetPlace, Network, at_device, at_host, at_router, leads_to, leaves_from}
 use Rattle.sb_flow.specs.Ways.{is_some_number, router_at_end}
 use Rattle.sb_packet.proofs.Lists.{All-left, All-right}
 use Rattle.sb_flow.specs.Ends.{joins, keeps_sides, same_device, same_host, share_an_end, is_fit_link, unfit_behind, unfit_link}
-use Rattle.sb_laws.specs.NetworkWays.{is_link_to}
+use Rattle.sb_laws.specs.NetworkLayouts.{is_link_to}
 use Rattle.sb_laws.proofs.NoFaults.{none_of_any, at_place, AllPairs-at}
 
 pub is_false : (b : Bool) → not b ≡ true → b ≡ false

@@ -11,14 +11,11 @@ use Rattle.sb_packet.specs.Answers.{answer_at_first, access_reply}
 use Rattle.sb_link.specs.RingPlans.{NetFlow}
 use Rattle.sb_packet.specs.declared.entry.Entry.{Entry}
 use Rattle.sb_packet.proofs.Lists.{All-kept}
-use Rattle.sb_laws.specs.Flows.{is_of, words_of_flow, words_of_script, asked_words, given_to, replies_to}
+use Rattle.sb_laws.specs.Flows.{asked_words, flows_over, given_to, goes_over, is_of, replies_to, words_of_flow, words_of_script}
 use Rattle.sb_laws.specs.Moments.{Moment, arrived}
-use Rattle.sb_laws.specs.Courses.{goes_over, flows_over}
-use Rattle.sb_laws.specs.Arrivals.{HasEnded}
+use Rattle.sb_laws.specs.Runs.{AreAnswered, HasEnded, IsMomentOf}
 use Rattle.sb_laws.specs.Layouts.{Layout, IsLayout, ring_home}
-use Rattle.sb_laws.specs.Runs.{IsMomentOf}
 use Rattle.sb_host.specs.Outcomes.{is_answer_to}
-use Rattle.sb_laws.specs.Wholes.{AreAnswered}
 use Rattle.sb_laws.proofs.FlowMembers.{some_flow, at_flow}
 use Rattle.sb_laws.proofs.Ways.{at_last}
 use Rattle.sb_laws.proofs.Courses.{whole_law}

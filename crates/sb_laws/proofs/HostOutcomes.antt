@@ -10,11 +10,10 @@ use Rattle.std.proofs.lemmas.Bool.{and_from}
 use Rattle.sb_word.specs.declared.command.Op.{Op}
 use Rattle.sb_word.specs.declared.command.Op.TheVariants.{ReqRd, ReqWr, ReqWrPosted, ReqAtomic, RespRd, RespWr}
 use Rattle.sb_packet.specs.Accesses.{Access, access_at}
-use Rattle.sb_packet.specs.Answers.{access_reply, answer_at_first, answer_from, transaction_answers, unreached_by}
+use Rattle.sb_packet.specs.Answers.{Outcome, access_reply, answer_at_first, answer_from, host_outcomes, outcome_of, transaction_answers, unreached_by}
 use Rattle.sb_packet.specs.Journals.{device_address, is_at, is_request, journal_accesses}
 use Rattle.sb_packet.specs.Memories.{MemoryState, access_answer, answer_by}
 use Rattle.sb_packet.specs.Networks.{NetHost, Network, device_at, opening_memory}
-use Rattle.sb_packet.specs.Outcomes.{Outcome, host_outcomes, outcome_of}
 use Rattle.sb_link.specs.RingPlans.{NetFlow}
 use Rattle.sb_flow.specs.Rings.{is_answered}
 use Rattle.sb_packet.specs.Scripts.{IsTransaction, request_of, script_accesses, transaction_accesses, transaction_message}
@@ -32,12 +31,10 @@ use Rattle.sb_host.specs.Hosts.{HostSide, IsWholeHost}
 use Rattle.sb_host.specs.Outcomes.{answer_so_far, first_answer, is_answer_to, line_outcome, outcome_so_far, outcomes_so_far}
 use Rattle.sb_node.specs.Sides.{received_words}
 use Rattle.sb_laws.specs.Flows.{asked_words, is_among_flows, is_of}
-use Rattle.sb_laws.specs.HostSides.{IsHostOf}
+use Rattle.sb_laws.specs.NodeSides.{HasRing, IsHostOf}
 use Rattle.sb_laws.specs.Layouts.{IsLayout, Layout, ring_home}
 use Rattle.sb_laws.specs.Moments.{Moment, arrived}
-use Rattle.sb_laws.specs.RoundSides.{HasRing}
-use Rattle.sb_laws.specs.Runs.{IsMomentOf}
-use Rattle.sb_laws.specs.Wholes.{AreAnswered, HasAllEnded}
+use Rattle.sb_laws.specs.Runs.{AreAnswered, HasAllEnded, IsMomentOf}
 use Rattle.sb_laws.proofs.AskedWays.{word_device}
 use Rattle.sb_laws.proofs.FlowMembers.{at_flow}
 use Rattle.sb_laws.proofs.FoundReplies.{own_answers}

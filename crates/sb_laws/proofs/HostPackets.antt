@@ -10,20 +10,19 @@ use Rattle.std.proofs.lemmas.List.Elements.{All-weaker}
 use Rattle.std.proofs.lemmas.List.FromFn.{length-map-range_with_len}
 use Rattle.std.proofs.lemmas.Option.{slice_get-get_or}
 use Rattle.std.proofs.lemmas.Bool.{and_parts}
-use Rattle.sb_packet.specs.Cuts.{cut_parts}
+use Rattle.sb_packet.specs.Cuts.{cut_parts, device_place}
 use Rattle.sb_packet.specs.Journals.{is_request}
 use Rattle.sb_packet.specs.Messages.{Message, message_span}
 use Rattle.sb_packet.specs.Networks.{NetDevice, NetHost, Network, device_at, device_size, has_address}
 use Rattle.sb_link.specs.RingPlans.{AddressRange, device_ranges, goes_through, holds_span}
 use Rattle.sb_flow.specs.Rings.{is_upward, network_ranges, range_of, ring_flows, ring_plan}
 use Rattle.sb_packet.specs.Scripts.{IsTransaction, transaction_message}
-use Rattle.sb_packet.specs.Soundness.{device_place}
 use Rattle.sb_link.specs.Traffic.{IsPlanned}
 use Rattle.sb_packet.specs.declared.transaction.Txn.{Txn}
 use Rattle.sb_packet.proofs.PacketsOfTransactions.{transaction_is_even}
 use Rattle.sb_flow.proofs.AcceptedLinks.{got_below}
 use Rattle.sb_flow.proofs.FlowWords.{request_asks}
-use Rattle.sb_laws.specs.Routed.{IsRouted}
+use Rattle.sb_laws.specs.NetworkLayouts.{IsRouted}
 use Rattle.sb_laws.proofs.HostParts.{IsPart, parts_lie_within}
 use Rattle.sb_laws.proofs.LinksToDevices.{found_place, none_found}
 use Rattle.sb_laws.proofs.NoFaults.{All-at, at_place}

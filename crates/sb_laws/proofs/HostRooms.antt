@@ -17,10 +17,8 @@ use Rattle.sb_flow.specs.Ways.{network_ways}
 use Rattle.sb_packet.proofs.Lists.{All-joined, All-kept, All-made, filter_all, filter_none}
 use Rattle.sb_link.proofs.Truths.{same_number}
 use Rattle.sb_host.specs.Asked.{asked_accesses, asked_by}
-use Rattle.sb_laws.specs.Courses.{flows_over, goes_over}
-use Rattle.sb_laws.specs.Flows.{aimed_script, asked_words, is_among_flows, is_of, is_same_flow, words_of_script, words_of_flow}
-use Rattle.sb_laws.specs.NetworkLayouts.{way_flow, network_flows, network_requests, request_ring}
-use Rattle.sb_laws.specs.Routed.{IsRouted}
+use Rattle.sb_laws.specs.Flows.{aimed_script, asked_words, flows_over, goes_over, is_among_flows, is_of, is_same_flow, words_of_flow, words_of_script}
+use Rattle.sb_laws.specs.NetworkLayouts.{IsRouted, network_flows, network_requests, request_ring, way_flow}
 use Rattle.sb_laws.proofs.CarriedRings.{request_budget}
 use Rattle.sb_laws.proofs.Counts.{flows_cover, is_of_some}
 use Rattle.sb_laws.proofs.FlowMembers.{same_flow}

@@ -1,6 +1,6 @@
 -- Hosts as they stand in a network keep the promises of whole runs.
 use Rattle.std.proofs.Common.{◌≡◌, ◌≢◌, ◌<◌, ℕ, Bool, ◌+◌, ◌%◌, true, false, List, [], ◌∷◌, ◌++◌, length, refl, sym, ap, ◌∙◌, subst, inl, inr}
-use Rattle.std.specs.Prelude.{◌⊎◌, ◌==◌, filter, flat_map, map, All, Contains, Option, Some, None, is_some, get_or, slice_get, if◌then◌else◌}
+use Rattle.std.specs.Prelude.{◌⊎◌, ◌==◌, filter, flat_map, map, All, Contains, Option, Some, None, is_some, get_or, if◌then◌else◌}
 use Rattle.std.specs.List.{enumerate_from, find}
 use Rattle.std.specs.Option.{option_map_or}
 use Rattle.std.proofs.lemmas.List.Elements.{All-head, All-tail, filter-append}
@@ -10,25 +10,25 @@ use Rattle.sb_link.specs.declared.answers.Turn.TheVariants.{Moved}
 use Rattle.sb_packet.specs.Networks.{NetHost, Network, device_at}
 use Rattle.sb_packet.specs.Scripts.{IsTransaction, transaction_accesses, transaction_message, script_accesses}
 use Rattle.sb_link.specs.Traffic.{has_close, item_accesses}
-use Rattle.sb_flow.specs.Ways.{first_link}
 use Rattle.sb_packet.specs.declared.transaction.Txn.{Txn}
 use Rattle.sb_packet.proofs.Lists.{All-made, filter_all, filter_none}
 use Rattle.sb_link.specs.RingPlans.{RingPlan}
 use Rattle.sb_port.specs.Ports.{IsFit, PortSide, offered_words}
-use Rattle.sb_node.specs.Sides.{RingSide, has_ended, has_rest, is_drained, is_full, received_words}
+use Rattle.sb_node.specs.Sides.{RingSide, has_ended, has_rest, is_drained, is_full}
 use Rattle.sb_host.specs.Asked.{accesses_from, asked_accesses, asked_by, line_in, sent_accesses}
-use Rattle.sb_host.specs.Hosts.{HostSide, IsHostTurn, IsKeptHost, IsWholeHost}
+use Rattle.sb_host.specs.Hosts.{HostSide, IsHostTurn, IsKeptHost, IsWholeHost, host_wait}
+use Rattle.sb_host.specs.Progress.{TransactionsSide}
 use Rattle.sb_host.specs.Rows.{IsTable}
 use Rattle.sb_host.specs.Steps.{IsIdleHost}
+use Rattle.sb_host.specs.Windows.{window_cause}
+use Rattle.sb_node.specs.Steps.{IsBlockedPort}
 use Rattle.sb_link.specs.Prefixes.{IsPrefix}
 use Rattle.sb_laws.specs.Flows.{aimed_script}
-use Rattle.sb_laws.specs.HostSides.{IsHostBuiltFor, IsHostOf}
+use Rattle.sb_laws.specs.NodeSides.{HasPort, HasRing, IsHostBuiltFor, IsHostOf, ShowsPort, ShowsRing}
 use Rattle.sb_laws.specs.Layouts.{HasScripts, Layout}
 use Rattle.sb_laws.specs.Moments.{Moment, arrived}
-use Rattle.sb_laws.specs.RoundSides.{HasPort, HasRing, ShowsPort, ShowsRing}
 use Rattle.sb_laws.specs.Runs.{IsHost}
-use Rattle.sb_laws.specs.Stages.{Stages}
-use Rattle.sb_laws.specs.Standstills.{IsReceiverBlocked, IsIdleReceiver, IsIdleSender, RoundEnd}
+use Rattle.sb_laws.specs.Standstills.{IsIdleReceiver, IsIdleSender, IsReceiverBlocked, RoundEnd, Stages}
 use Rattle.sb_laws.proofs.AskedWays.{word_device}
 use Rattle.sb_laws.proofs.ScriptFacts.{found_by_id}
 use Rattle.sb_laws.proofs.SidePromises.{idle_port}
@@ -93,15 +93,20 @@ host_promise offer offer_all network layout m host h scripts pages of whole has 
       closed = λ close_sent. offered ∙ offer_all h whole (ap has_close (sym sent) ∙ close_sent) ∙ script;
     }
 
-pub idle_host_sends : (stages : Stages) (s : RoundEnd) (r : ℕ) (port : PortSide) (ring : RingSide) → ShowsPort s r port → stages.leaves_host r ≡ true → IsFit port.plan port.state → IsIdleHost port ring → IsIdleSender stages s r
-idle_host_sends stages s r port ring shows leaves fit idle = record {
+pub idle_host_sends : (stages : Stages) (s : RoundEnd) (r : ℕ) (t : TransactionsSide) (port : PortSide) (ring : RingSide) → ShowsPort s r port → s.waits r ≡ is_some (window_cause t)
+    → stages.leaves_host r ≡ true → IsFit port.plan port.state → IsIdleHost t port ring → IsIdleSender stages s r
+idle_host_sends stages s r t port ring shows waits leaves fit idle = record {
   port = idle_port s r port fit shows (All-head (λ p. has_rest p ≡ true → is_full p ≡ true) port [] idle.at_rest.owing_ports_are_full);
-  host = λ yes untold. inr (shows.full ∙ (idle.open_host_is_blocked (sym shows.told ∙ untold)).full);
+  host = λ yes untold. by_cause (idle.open_host_is_blocked (sym shows.told ∙ untold));
   node = λ no all. absurd (let never : true ≡ false = sym leaves ∙ no in cc);
 }
+  where
+    by_cause : IsBlockedPort port ⊎ (is_some (window_cause t) ≡ true) → (s.waits r ≡ true) ⊎ (s.full r ≡ true)
+    by_cause (inl blocked) = inr (shows.full ∙ blocked.full)
+    by_cause (inr waiting) = inl (waits ∙ waiting)
 
-pub idle_host_receives : (stages : Stages) (s : RoundEnd) (r : ℕ) (port : PortSide) (ring : RingSide) → ShowsRing s r ring → s.holds r ≡ None → s.at.held r ≡ [] → IsIdleHost port ring → IsIdleReceiver stages s r
-idle_host_receives stages s r port ring got holds none idle = record {
+pub idle_host_receives : (stages : Stages) (s : RoundEnd) (r : ℕ) (t : TransactionsSide) (port : PortSide) (ring : RingSide) → ShowsRing s r ring → s.holds r ≡ None → s.at.held r ≡ [] → IsIdleHost t port ring → IsIdleReceiver stages s r
+idle_host_receives stages s r t port ring got holds none idle = record {
   held = λ p e. absurd (let never : None ≡ Some p = sym holds ∙ e in cc);
   none_held = λ e. none;
   drained = λ unended. by_cause (All-head (λ x. has_ended x ≡ false → (is_drained x ≡ true) ⊎ ⊥) ring [] idle.at_rest.open_rings_are_drained (ap has_close (sym got.lists.received) ∙ unended));
@@ -113,12 +118,13 @@ idle_host_receives stages s r port ring got holds none idle = record {
 
 -- a host that didn't move is idle, at its port and at its ring
 pub unmoved_sends : (stages : Stages) (s : RoundEnd) (before after : HostSide) (round : ℕ) (answer : Turn) → IsWholeHost after → IsHostTurn before round answer after → answer ≢ Moved →
-    ShowsPort s after.requests.plan.ring after.requests → stages.leaves_host after.requests.plan.ring ≡ true → IsIdleSender stages s after.requests.plan.ring
-unmoved_sends stages s before after round answer whole turn still shows leaves = idle_host_sends stages s after.requests.plan.ring after.requests after.answers shows leaves whole.fit (turn.idle still)
+    ShowsPort s after.requests.plan.ring after.requests → s.waits after.requests.plan.ring ≡ is_some (host_wait after) → stages.leaves_host after.requests.plan.ring ≡ true → IsIdleSender stages s after.requests.plan.ring
+unmoved_sends stages s before after round answer whole turn still shows waits leaves =
+    idle_host_sends stages s after.requests.plan.ring after.transactions after.requests after.answers shows waits leaves whole.fit (turn.idle still)
 
 pub unmoved_receives : (stages : Stages) (s : RoundEnd) (before after : HostSide) (round : ℕ) (answer : Turn) → IsWholeHost after → IsHostTurn before round answer after → answer ≢ Moved →
     ShowsRing s after.answers.plan.ring after.answers → s.holds after.answers.plan.ring ≡ None → s.at.held after.answers.plan.ring ≡ [] → IsIdleReceiver stages s after.answers.plan.ring
-unmoved_receives stages s before after round answer whole turn still got holds none = idle_host_receives stages s after.answers.plan.ring after.requests after.answers got holds none (turn.idle still)
+unmoved_receives stages s before after round answer whole turn still got holds none = idle_host_receives stages s after.answers.plan.ring after.transactions after.requests after.answers got holds none (turn.idle still)
 
 -- a whole host that told its port to close has come to the end of its script
 pub told_at_end : (h : HostSide) → IsWholeHost h → h.requests.state.close_requested ≡ true → h.transactions.next ≡ length h.transactions.asked.lines

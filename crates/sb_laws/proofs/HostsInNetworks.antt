@@ -10,12 +10,11 @@ use Rattle.sb_link.specs.RingPlans.{NetFlow}
 use Rattle.sb_flow.specs.Ways.{NetWay, first_link, flow_links, links_from, network_ways, next_link, way_links}
 use Rattle.sb_host.specs.Hosts.{HostSide}
 use Rattle.sb_flow.proofs.AcceptedLinks.{got_below}
-use Rattle.sb_laws.specs.Courses.{last_of}
-use Rattle.sb_laws.specs.HostSides.{IsHostAt, IsHostBuiltFor, IsHostOf}
+use Rattle.sb_laws.specs.Flows.{last_of}
+use Rattle.sb_laws.specs.NodeSides.{IsHostAt, IsHostBuiltFor, IsHostOf}
 use Rattle.sb_laws.specs.Layouts.{ring_home}
 use Rattle.sb_laws.specs.Moments.{Moment}
-use Rattle.sb_laws.specs.NetworkLayouts.{answer_ring, first_ring, way_flow, network_flows, network_layout, request_ring, ring_count}
-use Rattle.sb_laws.specs.Routed.{IsRouted}
+use Rattle.sb_laws.specs.NetworkLayouts.{IsRouted, answer_ring, first_ring, network_flows, network_layout, request_ring, ring_count, way_flow}
 use Rattle.sb_laws.specs.Runs.{IsHost}
 use Rattle.sb_laws.proofs.HostSides.{HostsOffer, HostsOfferAll, host_promise}
 use Rattle.sb_laws.proofs.NoFaults.{AllPairs-at}

@@ -13,13 +13,10 @@ use Rattle.sb_link.specs.RingPlans.{NetFlow}
 use Rattle.sb_packet.specs.declared.entry.Entry.{Entry}
 use Rattle.sb_packet.proofs.Lists.{filter_none, All-kept, AllPairs-kept}
 use Rattle.sb_link.specs.Prefixes.{IsPrefix}
-use Rattle.sb_laws.specs.Flows.{is_of, words_of_flow, is_among_flows, words_of_script, aimed_script, asked_words}
+use Rattle.sb_laws.specs.Flows.{aimed_script, asked_words, flows_over, goes_over, is_among_flows, is_of, is_of_ring, way_rings, words_of_flow, words_of_script}
 use Rattle.sb_laws.specs.Moments.{Moment, arrived}
-use Rattle.sb_laws.specs.Courses.{way_rings, goes_over, flows_over, is_of_ring}
-use Rattle.sb_laws.specs.Promises.{IsFlowSource, KeepsPromises}
+use Rattle.sb_laws.specs.Runs.{IsFlowSource, IsHistorySoFar, IsHost, IsMomentOf, KeepsPromises}
 use Rattle.sb_laws.specs.Layouts.{Layout, IsLayout}
-use Rattle.sb_laws.specs.Runs.{IsHost, IsMomentOf}
-use Rattle.sb_laws.specs.Wholes.{IsHistorySoFar}
 use Rattle.sb_laws.proofs.Prefixes.{same_prefix, IsPrefix-filter, All-prefix, AllPairs-prefix}
 use Rattle.sb_laws.proofs.FlowMembers.{not_true, of_device, some_flow, at_flow, among_all, same_flow, same_flow_from}
 use Rattle.sb_laws.proofs.Budgets.{none_of_others}

@@ -5,12 +5,10 @@ use Rattle.std.proofs.lemmas.List.Elements.{All-weaker}
 use Rattle.sb_packet.specs.Networks.{Network}
 use Rattle.sb_link.specs.Traffic.{has_close}
 use Rattle.sb_packet.specs.declared.entry.Entry.{Entry}
-use Rattle.sb_laws.specs.Courses.{way_rings}
+use Rattle.sb_laws.specs.Flows.{way_rings}
 use Rattle.sb_laws.specs.Layouts.{Layout, IsLayout}
-use Rattle.sb_laws.specs.Wholes.{HasAllEnded, IsWholeRun}
-use Rattle.sb_laws.specs.Stages.{Stages}
-use Rattle.sb_laws.specs.Standstills.{RoundEnd}
-use Rattle.sb_laws.specs.Endings.{IsFinished, IsWholeStandstill}
+use Rattle.sb_laws.specs.Runs.{HasAllEnded, IsWholeRun}
+use Rattle.sb_laws.specs.Standstills.{IsFinished, IsWholeStandstill, RoundEnd, Stages}
 use Rattle.sb_laws.proofs.FlowMembers.{not_true}
 use Rattle.sb_laws.proofs.WholeRuns.{whole_run_law}
 use Rattle.sb_laws.proofs.Stillness.{finished}

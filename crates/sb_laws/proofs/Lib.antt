@@ -73,3 +73,4 @@ pub mod HostsInNetworks
 pub mod HostRooms
 pub mod HostParts
 pub mod HostPackets
+pub mod MissedAnswers

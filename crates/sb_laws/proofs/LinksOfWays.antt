@@ -7,8 +7,8 @@ use Rattle.std.proofs.lemmas.Bool.Decides.{nat_tests}
 use Rattle.std.proofs.lemmas.List.Elements.{All-nil, All-cons, All-head, All-tail}
 use Rattle.sb_packet.specs.Networks.{Network, NetLink, NetPlace, at_host, at_router, at_device, leads_to}
 use Rattle.sb_flow.specs.Ways.{router_at_end, router_before, router_after}
-use Rattle.sb_laws.specs.Courses.{last_of}
-use Rattle.sb_laws.specs.NetworkWays.{is_link_to, IsWayTo}
+use Rattle.sb_laws.specs.Flows.{last_of}
+use Rattle.sb_laws.specs.NetworkLayouts.{is_link_to, IsWayTo}
 use Rattle.sb_laws.proofs.Ways.{at_number}
 
 -- a number is among others

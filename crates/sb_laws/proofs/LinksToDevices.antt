@@ -4,8 +4,7 @@ use Rattle.std.specs.Prelude.{Option, Some, None, slice_get}
 use Rattle.std.specs.List.{position_from}
 use Rattle.std.specs.Option.{option_map_or}
 use Rattle.sb_packet.specs.Networks.{Network, leads_to}
-use Rattle.sb_laws.specs.NetworkLayouts.{link_into}
-use Rattle.sb_laws.specs.NetworkWays.{is_link_to, HasWays}
+use Rattle.sb_laws.specs.NetworkLayouts.{HasWays, is_link_to, link_into}
 
 module _ {A : Type 0} (test : A → Bool) where
   -- a place that passes

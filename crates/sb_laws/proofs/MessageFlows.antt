@@ -8,7 +8,7 @@ use Rattle.std.proofs.lemmas.List.{length-take}
 use Rattle.std.proofs.lemmas.Bool.{and_parts}
 use Rattle.sb_packet.specs.Accesses.{Access, access_at, message_accesses}
 use Rattle.sb_packet.specs.Messages.{Message, message_span}
-use Rattle.sb_packet.specs.Soundness.{device_place}
+use Rattle.sb_packet.specs.Cuts.{device_place}
 use Rattle.sb_packet.specs.Networks.{Network, device_at}
 use Rattle.sb_packet.specs.Journals.{is_request, device_address}
 use Rattle.sb_link.specs.RingPlans.{AddressRange, NetFlow, holds_span, goes_home, goes_through, device_ranges, message_flow}
@@ -18,8 +18,7 @@ use Rattle.sb_packet.proofs.Lists.{All-made}
 use Rattle.sb_packet.proofs.ReplyAddresses.{word_within}
 use Rattle.sb_flow.proofs.LinkMarks.{list_any-map}
 use Rattle.sb_laws.specs.Flows.{is_of, is_among_flows, is_same_flow}
-use Rattle.sb_laws.specs.NetworkLayouts.{way_flow}
-use Rattle.sb_laws.specs.Routed.{IsRouted}
+use Rattle.sb_laws.specs.NetworkLayouts.{IsRouted, way_flow}
 use Rattle.sb_laws.proofs.FlowMembers.{same_flow}
 use Rattle.sb_laws.proofs.LinksToDevices.{found_place}
 use Rattle.sb_laws.proofs.ListPlaces.{or_left, or_right}

@@ -11,10 +11,9 @@ use Rattle.sb_link.specs.RingPlans.{NetFlow}
 use Rattle.sb_flow.specs.Ways.{network_ways, flow_links, is_some_number, router_before, router_after}
 use Rattle.sb_flow.specs.Rings.{is_upward}
 use Rattle.sb_flow.proofs.WayCourses.{some_number-is}
-use Rattle.sb_laws.specs.Courses.{way_rings, goes_over, flows_over, IsOneWay, last_of}
+use Rattle.sb_laws.specs.Flows.{way_rings, goes_over, flows_over, IsOneWay, last_of}
 use Rattle.sb_laws.specs.Layouts.{IsLayout, ring_home}
-use Rattle.sb_laws.specs.NetworkLayouts.{way_flow, network_flows, request_ring, answer_ring, first_ring, links_into, links_out_of, network_requests, network_answers, link_into, network_layout}
-use Rattle.sb_laws.specs.NetworkWays.{IsWayTo, HasWays}
+use Rattle.sb_laws.specs.NetworkLayouts.{HasWays, IsWayTo, answer_ring, first_ring, link_into, links_into, links_out_of, network_answers, network_flows, network_layout, network_requests, request_ring, way_flow}
 use Rattle.sb_laws.proofs.Ways.{at_last}
 use Rattle.sb_laws.proofs.LinksOfWays.{is_in, links_there, last_leads, only_to_device, one_into, one_out_of}
 use Rattle.sb_laws.proofs.LinksToDevices.{link_into_leads}

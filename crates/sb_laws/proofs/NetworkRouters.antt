@@ -10,14 +10,11 @@ use Rattle.sb_flow.specs.Ways.{is_some_number, router_after, router_before}
 use Rattle.sb_flow.proofs.WayCourses.{some_number-is}
 use Rattle.sb_router.specs.Forwarding.{IsLaid}
 use Rattle.sb_port.specs.Ports.{PortSide}
-use Rattle.sb_router.specs.RouteOf.{route_of}
+use Rattle.sb_router.specs.Ways.{route_of}
 use Rattle.sb_router.specs.Routers.{DirectionSide}
-use Rattle.sb_laws.specs.Courses.{Course, budget_over, flows_over, goes_over}
-use Rattle.sb_laws.specs.NetworkLayouts.{answer_ring, links_into, links_out_of, network_answers, network_flows, network_requests, request_ring}
-use Rattle.sb_laws.specs.NetworkWays.{HasWays}
-use Rattle.sb_laws.specs.Routed.{IsRouted}
-use Rattle.sb_laws.specs.RouterLayouts.{IsBuiltFor, answer_ins, answer_outs, request_ins, request_outs}
-use Rattle.sb_laws.specs.RouterSides.{IsRouterOf, course_words}
+use Rattle.sb_laws.specs.Flows.{Course, budget_over, flows_over, goes_over}
+use Rattle.sb_laws.specs.NetworkLayouts.{HasWays, IsRouted, answer_ring, links_into, links_out_of, network_answers, network_flows, network_requests, request_ring}
+use Rattle.sb_laws.specs.RouterSides.{IsBuiltFor, IsRouterOf, answer_ins, answer_outs, course_words, request_ins, request_outs}
 use Rattle.sb_laws.proofs.BuiltRouters.{IsRingOf, built_is_laid}
 use Rattle.sb_laws.proofs.CarriedRings.{All-unmap, answer_budget, answer_ways, flows_back, flows_there, not_up, request_budget, request_ways, up}
 use Rattle.sb_laws.proofs.LinksOfWays.{one_into, one_out_of}

@@ -8,7 +8,7 @@ use Rattle.std.proofs.lemmas.List.Elements.{All-nil, All-cons, All-head, All-tai
 use Rattle.std.proofs.lemmas.List.Kept.{AllPairs-cons}
 use Rattle.std.proofs.lemmas.Bool.{and_parts}
 use Rattle.sb_packet.proofs.Lists.{All-left, All-right}
-use Rattle.sb_flow.specs.Firsts.{first_told, Clash, clash_behind, first_clash}
+use Rattle.sb_flow.specs.Accepted.{first_told, Clash, clash_behind, first_clash}
 use Rattle.sb_flow.proofs.Clashes.{option_or-None, option_map-None}
 
 module _ {A : Type 0} where

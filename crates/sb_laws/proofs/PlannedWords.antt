@@ -12,7 +12,7 @@ use Rattle.std.proofs.lemmas.List.Elements.{All-nil, All-append}
 use Rattle.std.proofs.lemmas.List.FromFn.{get_or-map-range_with_len, length-map-range_with_len}
 use Rattle.sb_packet.specs.Accesses.{access_at, message_accesses, accesses_of_item}
 use Rattle.sb_packet.specs.Messages.{Message, message_of, message_span}
-use Rattle.sb_packet.specs.Soundness.{device_place}
+use Rattle.sb_packet.specs.Cuts.{device_place}
 use Rattle.sb_packet.specs.Networks.{NetDevice, Network, device_at, device_size, has_address}
 use Rattle.sb_packet.specs.Journals.{is_request, device_address}
 use Rattle.sb_link.specs.RingPlans.{AddressRange, NetFlow, RingFlows, holds_span, goes_home, goes_through, is_allowed, device_ranges}
@@ -24,8 +24,7 @@ use Rattle.sb_packet.specs.declared.item.Item.TheVariants as items
 use Rattle.sb_packet.proofs.Lists.{All-made}
 use Rattle.sb_packet.proofs.ReplyAddresses.{word_within}
 use Rattle.sb_laws.specs.Flows.{is_of}
-use Rattle.sb_laws.specs.NetworkLayouts.{way_flow}
-use Rattle.sb_laws.specs.Routed.{IsRouted}
+use Rattle.sb_laws.specs.NetworkLayouts.{IsRouted, way_flow}
 use Rattle.sb_laws.proofs.ListPlaces.{or_left, or_right}
 use Rattle.sb_laws.proofs.LinksToDevices.{Passes, found_place, none_found}
 

@@ -11,7 +11,7 @@ use Rattle.std.proofs.lemmas.List.Kept.{AllPairs-cons}
 use Rattle.sb_packet.specs.Networks.{Network}
 use Rattle.sb_link.specs.RingPlans.{NetFlow}
 use Rattle.sb_flow.specs.Ways.{flow_links}
-use Rattle.sb_laws.specs.Courses.{last_of}
+use Rattle.sb_laws.specs.Flows.{last_of}
 use Rattle.sb_laws.specs.NetworkLayouts.{request_ring, answer_ring, links_back, rings_there, rings_back}
 use Rattle.sb_laws.proofs.FlowMembers.{not_true}
 use Rattle.sb_laws.proofs.LinksOfWays.{is_in}

@@ -7,12 +7,8 @@ use Rattle.sb_packet.specs.Networks.{Network}
 use Rattle.sb_link.specs.RingPlans.{NetFlow}
 use Rattle.sb_flow.specs.Ways.{router_before, router_after}
 use Rattle.sb_flow.specs.Rings.{is_upward}
-use Rattle.sb_laws.specs.Endings.{IsWithin}
-use Rattle.sb_laws.specs.NetworkLayouts.{network_flows, request_ring, answer_ring, ring_count, network_layout}
-use Rattle.sb_laws.specs.NetworkStages.{stage_before, stage_after, last_stage, answer_stage, stage_back_before, stage_back_after, network_stages}
-use Rattle.sb_laws.specs.NetworkWays.{HasWays}
-use Rattle.sb_laws.specs.Routed.{IsRouted}
-use Rattle.sb_laws.specs.Stages.{Rises}
+use Rattle.sb_laws.specs.Standstills.{IsWithin, Rises}
+use Rattle.sb_laws.specs.NetworkLayouts.{HasWays, IsRouted, answer_ring, answer_stage, last_stage, network_flows, network_layout, network_stages, request_ring, ring_count, stage_after, stage_back_after, stage_back_before, stage_before}
 use Rattle.sb_laws.proofs.LinksOfWays.{links_there}
 use Rattle.sb_laws.proofs.RingsOfWays.{All-reverse}
 use Rattle.sb_laws.proofs.NetworkLaidOut.{FlowWay, flow_ways, requests_way, answers_way}

@@ -10,9 +10,7 @@ use Rattle.std.proofs.lemmas.List.Kept.{AllPairs-filter}
 use Rattle.sb_packet.specs.Networks.{NetHost, Network}
 use Rattle.sb_flow.specs.Ways.{NetWay, aims_at, next_link, links_from, way_links, host_ways, network_ways, is_way_of, flow_links, router_before}
 use Rattle.sb_packet.proofs.Lists.{All-joined, AllPairs-head, AllPairs-tail}
-use Rattle.sb_laws.specs.NetworkLayouts.{way_flow}
-use Rattle.sb_laws.specs.NetworkWays.{IsWayTo}
-use Rattle.sb_laws.specs.Routed.{IsFirstLink, IsRouted}
+use Rattle.sb_laws.specs.NetworkLayouts.{IsFirstLink, IsRouted, IsWayTo, way_flow}
 use Rattle.sb_laws.proofs.ListPlaces.{All-enumerated, AllPairs-enumerated, AllPairs-map, AllPairs-joined, range_rises, range_below}
 use Rattle.sb_laws.proofs.WalkedWays.{walked}
 

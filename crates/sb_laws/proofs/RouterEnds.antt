@@ -7,18 +7,17 @@ use Rattle.sb_packet.specs.Accesses.{Access}
 use Rattle.sb_packet.specs.Messages.{message_of}
 use Rattle.sb_link.specs.RingPlans.{NetFlow, RingPlan, goes_through, message_flow}
 use Rattle.sb_link.specs.Prefixes.{IsSubsequence}
-use Rattle.sb_packet.specs.Soundness.{IsSound}
+use Rattle.sb_packet.specs.Cuts.{IsSound}
 use Rattle.sb_link.specs.Traffic.{IsCarriable, IsPlanned, has_close, item_accesses, item_messages}
 use Rattle.sb_packet.specs.declared.item.Item.{Item}
 use Rattle.sb_packet.specs.declared.packet.Packet.{Packet}
 use Rattle.sb_port.specs.Ports.{IsFit, PortState, port_accesses}
-use Rattle.sb_router.specs.Forwarding.{HasSoundInlets, Forwards, IsLaid, Passes, Words, came_for, held_for, part, popped_for}
+use Rattle.sb_router.specs.Forwarding.{Forwards, HasSoundInlets, IsLaid, IsLast, IsWholeInlet, IsWholeLane, IsWholeOutlet, Passes, Words, came_for, held_for, part, popped_for}
 use Rattle.sb_router.specs.Lanes.{InletState, LaneState, Route, came_at, held_words_at, held_words, inlet_at, next_place, no_inlet, no_port, offered_at, outlet_at}
-use Rattle.sb_router.specs.RouteOf.{route_of}
+use Rattle.sb_router.specs.Ways.{route_of}
 use Rattle.sb_router.specs.Routers.{DirectionSide, ForwardsAll, IsWholeDirection}
 use Rattle.sb_router.specs.Steps.{IsSilent}
-use Rattle.sb_router.specs.Whole.{IsLast, IsWholeInlet, IsWholeLane, IsWholeOutlet}
-use Rattle.sb_laws.specs.RouterEnds.{IsDirectionMet}
+use Rattle.sb_laws.specs.RouterSides.{IsDirectionMet}
 
 -- sums over lists that are alike at each place
 sum_by_alike : (f : InletState → ℕ) (xs ys : List InletState) (d : InletState) → length xs ≡ length ys → ((i : ℕ) → i < length xs → f (get_or xs i d) ≡ f (get_or ys i d)) → sum_by f xs ≡ sum_by f ys

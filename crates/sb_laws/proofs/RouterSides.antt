@@ -14,25 +14,21 @@ use Rattle.sb_link.specs.Prefixes.{IsSubsequence}
 use Rattle.sb_link.specs.Traffic.{has_close, item_accesses}
 use Rattle.sb_packet.specs.declared.packet.Packet.{Packet}
 use Rattle.sb_node.specs.Sides.{is_drained, received_words}
-use Rattle.sb_router.specs.Forwarding.{HasForwarded, Passes, popped_for}
+use Rattle.sb_router.specs.Forwarding.{HasForwarded, IsWholeLane, Passes, popped_for}
 use Rattle.sb_router.specs.Forwarding as router
 use Rattle.sb_port.specs.Ports.{PortSide}
 use Rattle.sb_router.specs.Lanes.{InletState, LaneState, Route, came_at, held_words_at, held_words, inlet_at, no_inlet, no_port, next_place, offered_at, outlet_at}
-use Rattle.sb_router.specs.RouteOf.{route_of}
+use Rattle.sb_router.specs.Ways.{route_of}
 use Rattle.sb_router.specs.Routers.{IsRouterTurn, IsWholeRouter, RouterSide}
-use Rattle.sb_router.specs.Steps.{IsSilent}
-use Rattle.sb_router.specs.Awaiting.{AwaitsFullPort}
+use Rattle.sb_router.specs.Steps.{AwaitsFullPort, IsSilent}
 use Rattle.sb_router.specs.Turning.{IsIdleLane}
-use Rattle.sb_router.specs.Whole.{IsWholeLane}
-use Rattle.sb_laws.specs.Courses.{Course, came_for_ring, is_of_ring}
-use Rattle.sb_laws.specs.Flows.{words_of_flow}
+use Rattle.sb_laws.specs.Flows.{Course, came_for_ring, is_of_ring, words_of_flow}
 use Rattle.sb_device.specs.Served.{AreSound}
 use Rattle.sb_laws.specs.Moments.{Moment, arrived}
-use Rattle.sb_laws.specs.Promises.{ForwardsFlow}
+use Rattle.sb_laws.specs.Runs.{ForwardsFlow}
 use Rattle.sb_laws.specs.RouterSides.{ComesInto, HasInlet, HasLane, IsAtStage, IsIdleAtRings, IsRouterOf, Leaves, ShowsInlet, ShowsLane, course_words, ring_ins, ring_next}
-use Rattle.sb_laws.specs.RoundSides.{HasPort, ShowsPort}
-use Rattle.sb_laws.specs.Stages.{Stages}
-use Rattle.sb_laws.specs.Standstills.{IsReceiverBlocked, IsIdleReceiver, IsIdleSender, RoundEnd}
+use Rattle.sb_laws.specs.NodeSides.{HasPort, ShowsPort}
+use Rattle.sb_laws.specs.Standstills.{IsIdleReceiver, IsIdleSender, IsReceiverBlocked, RoundEnd, Stages}
 use Rattle.sb_laws.proofs.SidePromises.{idle_port}
 use Rattle.sb_laws.proofs.Sums.{sum_by_same}
 

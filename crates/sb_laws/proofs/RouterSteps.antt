@@ -14,15 +14,13 @@ use Rattle.sb_flow.proofs.LinkMarks.{list_any-map}
 use Rattle.sb_router.specs.Forwarding.{HasForwarded, Passes, Words}
 use Rattle.sb_port.specs.Ports.{PortSide}
 use Rattle.sb_router.specs.Lanes.{InletState, inlet_at, no_inlet, no_port, outlet_at}
-use Rattle.sb_router.specs.RouteOf.{route_of}
+use Rattle.sb_router.specs.Ways.{route_of}
 use Rattle.sb_router.specs.Routers.{DirectionSide, ForwardsAll}
-use Rattle.sb_laws.specs.Courses.{Course}
-use Rattle.sb_laws.specs.Flows.{is_among_flows, is_same_flow}
+use Rattle.sb_laws.specs.Flows.{Course, is_among_flows, is_same_flow}
 use Rattle.sb_laws.specs.Moments.{Moment}
 use Rattle.sb_laws.specs.NetworkLayouts.{way_flow}
-use Rattle.sb_laws.specs.Promises.{ForwardsFlow}
-use Rattle.sb_laws.specs.RouterLayouts.{IsRouterAt}
-use Rattle.sb_laws.specs.RouterSides.{IsRouterOf}
+use Rattle.sb_laws.specs.Runs.{ForwardsFlow}
+use Rattle.sb_laws.specs.RouterSides.{IsRouterAt, IsRouterOf}
 use Rattle.sb_laws.proofs.FlowMembers.{same_flow_from}
 use Rattle.sb_laws.proofs.LinksOfWays.{in_cases, is_in}
 use Rattle.sb_laws.proofs.ListPlaces.{any_passing}

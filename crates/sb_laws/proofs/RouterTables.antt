@@ -16,14 +16,10 @@ use Rattle.sb_flow.specs.Ways.{NetWay, flow_links, is_some_number, is_way_of, ne
 use Rattle.sb_port.specs.Ports.{PortSide}
 use Rattle.sb_flow.proofs.WayCourses.{some_number-is}
 use Rattle.sb_router.specs.Lanes.{no_port, outlet_at}
-use Rattle.sb_router.specs.RouteOf.{route_of}
+use Rattle.sb_router.specs.Ways.{place_of_link, route_of}
 use Rattle.sb_router.specs.Routers.{DirectionSide}
-use Rattle.sb_router.specs.Ways.{place_of_link}
-use Rattle.sb_laws.specs.NetworkLayouts.{answer_ring, way_flow, links_into, links_out_of, request_ring}
-use Rattle.sb_laws.specs.NetworkWays.{HasWays}
-use Rattle.sb_laws.specs.Routed.{IsRouted}
-use Rattle.sb_laws.specs.RouterLayouts.{HasTable, LeadsByPlans, answer_outs, request_outs}
-use Rattle.sb_laws.specs.RouterSides.{ring_outs}
+use Rattle.sb_laws.specs.NetworkLayouts.{HasWays, IsRouted, answer_ring, links_into, links_out_of, request_ring, way_flow}
+use Rattle.sb_laws.specs.RouterSides.{HasTable, LeadsByPlans, answer_outs, request_outs, ring_outs}
 use Rattle.sb_laws.proofs.CarriedRings.{answer_ways, request_ways}
 use Rattle.sb_laws.proofs.FlowMembers.{same_flow}
 use Rattle.sb_laws.proofs.LinksOfWays.{in_cases, is_in, one_into, one_out_of}

@@ -9,13 +9,11 @@ use Rattle.sb_link.specs.RingPlans.{NetFlow, goes_through}
 use Rattle.sb_flow.specs.Rings.{link_ways, ring_flows}
 use Rattle.sb_flow.specs.Ways.{is_some_number, network_ways, router_after, router_before}
 use Rattle.sb_router.specs.Routers.{DirectionSide}
-use Rattle.sb_laws.specs.Courses.{AlongWay, flows_over, goes_over, last_of}
+use Rattle.sb_laws.specs.Flows.{AlongWay, flows_over, goes_over, last_of}
 use Rattle.sb_laws.specs.Moments.{Moment}
-use Rattle.sb_laws.specs.NetworkLayouts.{answer_ring, way_flow, links_into, links_out_of, network_answers, network_flows, network_requests, request_ring}
-use Rattle.sb_laws.specs.NetworkWays.{HasWays, IsWayTo}
-use Rattle.sb_laws.specs.Promises.{ForwardsFlow}
-use Rattle.sb_laws.specs.Routed.{IsRouted}
-use Rattle.sb_laws.specs.RouterLayouts.{IsRouterAt, KeepsAlongWays, answer_ins, answer_outs, request_ins, request_outs}
+use Rattle.sb_laws.specs.NetworkLayouts.{HasWays, IsRouted, IsWayTo, answer_ring, links_into, links_out_of, network_answers, network_flows, network_requests, request_ring, way_flow}
+use Rattle.sb_laws.specs.Runs.{ForwardsFlow}
+use Rattle.sb_laws.specs.RouterSides.{IsRouterAt, KeepsAlongWays, answer_ins, answer_outs, request_ins, request_outs}
 use Rattle.sb_laws.proofs.CarriedRings.{answer_ways, flows_back, flows_there, request_ways}
 use Rattle.sb_laws.proofs.LinksOfWays.{is_in, links_there}
 use Rattle.sb_laws.proofs.ListPlaces.{or_left, or_right}

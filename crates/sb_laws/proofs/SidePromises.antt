@@ -6,15 +6,15 @@ use Rattle.std.proofs.lemmas.Bool.{or_parts}
 use Rattle.sb_link.specs.Ends.{HaveMet}
 use Rattle.sb_packet.specs.Messages.{Message}
 use Rattle.sb_link.specs.Prefixes.{IsPrefix}
-use Rattle.sb_packet.specs.Soundness.{IsSound}
+use Rattle.sb_packet.specs.Cuts.{IsSound}
 use Rattle.sb_link.specs.Traffic.{has_close, item_accesses, item_messages, AreInTurn}
 use Rattle.sb_packet.specs.declared.item.Item.{Item}
 use Rattle.sb_port.specs.Waiting.{some_owed}
 use Rattle.sb_port.specs.Ports.{IsFit, PortSide, PortState, owes}
 use Rattle.sb_node.specs.Sides.{RingSide, has_rest, is_full}
 use Rattle.sb_laws.specs.Moments.{Moment, ClosesLast}
-use Rattle.sb_laws.specs.Promises.{IsLink, IsPort}
-use Rattle.sb_laws.specs.RoundSides.{HasPort, HasRing, ShowsPort, ShowsRing}
+use Rattle.sb_laws.specs.Runs.{IsLink, IsPort}
+use Rattle.sb_laws.specs.NodeSides.{HasPort, HasRing, ShowsPort, ShowsRing}
 use Rattle.sb_laws.specs.Standstills.{IsIdlePort, IsTrueRing, RoundEnd}
 use Rattle.sb_laws.proofs.InTurn.{turn_closes_last}
 use Rattle.sb_laws.proofs.PortSides.{sent_in_order, all_sent, closed_all_sent}

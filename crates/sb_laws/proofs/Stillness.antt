@@ -3,9 +3,7 @@ use Rattle.std.proofs.Common.{◌≡◌, ◌≤◌, ◌<◌, ℕ, zero, suc, ◌
 use Rattle.std.specs.Prelude.{Option, Some, None}
 use Rattle.std.proofs.lemmas.Bool.{cases_lt}
 use Rattle.sb_link.specs.Traffic.{has_close}
-use Rattle.sb_laws.specs.Stages.{Stages}
-use Rattle.sb_laws.specs.Standstills.{RoundEnd, is_closed, is_ended, IsTrueRing, IsReceiverBlocked, IsStandstill}
-use Rattle.sb_laws.specs.Endings.{IsQuietSender, IsQuietReceiver, IsFinished, IsHostWaiting}
+use Rattle.sb_laws.specs.Standstills.{IsFinished, IsHostWaiting, IsQuietReceiver, IsQuietSender, IsReceiverBlocked, IsStandstill, IsTrueRing, RoundEnd, Stages, is_closed, is_ended}
 use Rattle.sb_laws.proofs.Prefixes.{whole_prefix}
 use Rattle.sb_laws.proofs.FlowMembers.{not_true}
 use Rattle.sb_laws.proofs.Courses.{closed_link}

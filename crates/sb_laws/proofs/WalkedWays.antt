@@ -5,8 +5,7 @@ use Rattle.std.proofs.lemmas.List.Elements.{All-nil, All-cons, All-head, All-tai
 use Rattle.sb_packet.specs.Networks.{Network}
 use Rattle.sb_flow.specs.Ways.{route_at, router_before, router_after, next_link, links_from}
 use Rattle.sb_flow.proofs.Walks.{links_from-None}
-use Rattle.sb_laws.specs.NetworkWays.{IsWayTo}
-use Rattle.sb_laws.specs.Routed.{LeadsOn, IsRoute, IsRouted}
+use Rattle.sb_laws.specs.NetworkLayouts.{IsRoute, IsRouted, IsWayTo, LeadsOn}
 use Rattle.sb_laws.proofs.LinksOfWays.{device_or_router}
 
 module _ (network : Network) (routed : IsRouted network) (d : ℕ) (there : d < length network.devices) where

@@ -5,7 +5,7 @@ use Rattle.std.specs.List.{list_any}
 use Rattle.std.proofs.lemmas.Bool.Decides.{nat_tests}
 use Rattle.std.proofs.lemmas.List.Elements.{All-head, All-tail, All-filter, filter_passes}
 use Rattle.sb_link.specs.RingPlans.{NetFlow}
-use Rattle.sb_laws.specs.Courses.{Course, way_rings, goes_over, flows_over, last_of}
+use Rattle.sb_laws.specs.Flows.{Course, way_rings, goes_over, flows_over, last_of}
 use Rattle.sb_flow.specs.Tables.{way_of}
 
 -- a fact of each of some numbers holds of one that is among them

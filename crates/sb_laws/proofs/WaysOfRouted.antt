@@ -1,7 +1,6 @@
 -- A routed network has ways.
 use Rattle.sb_packet.specs.Networks.{Network}
-use Rattle.sb_laws.specs.NetworkWays.{HasWays}
-use Rattle.sb_laws.specs.Routed.{IsRouted}
+use Rattle.sb_laws.specs.NetworkLayouts.{HasWays, IsRouted}
 use Rattle.sb_laws.proofs.RoutedWays.{found_ways, ways_lead, ways_start, ways_hosts, ways_devices}
 use Rattle.sb_laws.proofs.AskedWays.{all_ways_law}
 

@@ -14,14 +14,10 @@ use Rattle.sb_link.specs.RingPlans.{NetFlow}
 use Rattle.sb_packet.specs.declared.entry.Entry.{Entry}
 use Rattle.sb_packet.proofs.Lists.{filter_all}
 use Rattle.sb_flow.specs.Rings.{is_answered}
-use Rattle.sb_laws.specs.Flows.{is_of, words_of_flow, words_of_script, asked_words, answered_of, device_answers, given_to, replies_to}
+use Rattle.sb_laws.specs.Flows.{AlongWay, answered_of, asked_words, budget_over, device_answers, flows_over, given_to, goes_over, is_of, is_of_ring, replies_to, words_of_flow, words_of_script}
 use Rattle.sb_laws.specs.Moments.{Moment}
-use Rattle.sb_laws.specs.Courses.{flows_over, budget_over, is_of_ring, goes_over, AlongWay}
-use Rattle.sb_laws.specs.Promises.{ForwardsFlow, IsFlowSource, KeepsPromises}
-use Rattle.sb_laws.specs.Arrivals.{HasEnded, CarriesSources}
+use Rattle.sb_laws.specs.Runs.{CarriesSources, ForwardsFlow, HasEnded, IsFlowSource, IsMomentOf, IsWholeRun, KeepsPromises}
 use Rattle.sb_laws.specs.Layouts.{Layout, IsLayout}
-use Rattle.sb_laws.specs.Runs.{IsMomentOf}
-use Rattle.sb_laws.specs.Wholes.{IsWholeRun}
 use Rattle.sb_node.proofs.Answering.{prefix_length}
 use Rattle.sb_laws.proofs.Prefixes.{IsPrefix-filter, same_prefix}
 use Rattle.sb_laws.proofs.Sums.{sum_by_le, sum_by_same}

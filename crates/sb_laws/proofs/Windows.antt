@@ -13,16 +13,12 @@ use Rattle.sb_link.specs.Traffic.{item_accesses}
 use Rattle.sb_packet.specs.declared.entry.Entry.{Entry}
 use Rattle.sb_packet.proofs.Lists.{All-kept}
 use Rattle.sb_flow.specs.Rings.{is_answered}
-use Rattle.sb_laws.specs.Flows.{is_of, words_of_flow, asked_words, given_to}
+use Rattle.sb_laws.specs.Flows.{AlongWay, Course, asked_words, budget_over, came_for_ring, given_to, is_of, way_rings, words_of_flow}
 use Rattle.sb_laws.specs.Moments.{Moment, arrived}
-use Rattle.sb_laws.specs.Courses.{Course, way_rings, budget_over, came_for_ring, AlongWay}
-use Rattle.sb_laws.specs.Promises.{IsLink, IsPort, ForwardsFlow}
+use Rattle.sb_laws.specs.Runs.{ForwardsFlow, IsLink, IsMomentOf, IsPort}
 use Rattle.sb_laws.specs.Layouts.{Layout, IsLayout, ring_home}
-use Rattle.sb_laws.specs.Runs.{IsMomentOf}
 use Rattle.sb_host.specs.Outcomes.{is_answer_to}
-use Rattle.sb_laws.specs.Stages.{Stages}
-use Rattle.sb_laws.specs.Standstills.{RoundEnd, IsStandstill}
-use Rattle.sb_laws.specs.Endings.{IsWithin, MissesAnswer}
+use Rattle.sb_laws.specs.Standstills.{IsStandstill, IsWithin, MissesAnswer, RoundEnd, Stages}
 use Rattle.sb_laws.proofs.FlowMembers.{at_flow}
 use Rattle.sb_laws.proofs.Ways.{at_number, at_last}
 use Rattle.sb_laws.proofs.Courses.{all_sound, room}

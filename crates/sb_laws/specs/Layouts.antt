@@ -3,8 +3,7 @@ use Rattle.std.specs.Prelude.{◌≡◌, ◌≢◌, ◌≤◌, ◌<◌, ℕ, tru
 use Rattle.sb_packet.specs.Networks.{Network}
 use Rattle.sb_packet.specs.Scripts.{IsTransaction}
 use Rattle.sb_link.specs.RingPlans.{NetFlow}
-use Rattle.sb_laws.specs.Flows.{is_among_flows, asked_words, answered_of}
-use Rattle.sb_laws.specs.Courses.{Course, IsOneWay, flows_over, goes_over, last_of}
+use Rattle.sb_laws.specs.Flows.{Course, IsOneWay, answered_of, asked_words, flows_over, goes_over, is_among_flows, last_of}
 use Rattle.sb_host.specs.Places.{asked_of}
 
 -- both directions, and the ring into each device by the device's place

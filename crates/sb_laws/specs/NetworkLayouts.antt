@@ -1,15 +1,15 @@
--- The layout of a network: the rings of each link on the ways of its flows, there and back.
-use Rattle.std.specs.Prelude.{ℕ, ◌+◌, ◌*◌, ◌/◌, ◌&&◌, nat_lt, not, List, [], ◌∷◌, length, map, filter, flat_map, drop, reverse, Option, slice_index_or, if◌then◌else◌}
+-- The layout of a network: the rings of each link on the ways of its flows, there and back; its routes and stages.
+use Rattle.std.specs.Prelude.{ℕ, ◌+◌, ◌*◌, ◌/◌, ◌&&◌, nat_lt, not, List, [], ◌∷◌, length, map, filter, flat_map, drop, reverse, Option, slice_index_or, if◌then◌else◌, ◌≡◌, ◌<◌, Bool, true, false, All, Contains, Some, None, slice_get, ◌≤◌, ◌%◌, ◌⊎◌, ◌-◌}
 use Rattle.std.specs.List.{position_from, range_with_len}
 use Rattle.std.specs.Option.{option_map_or}
-use Rattle.sb_packet.specs.Networks.{Network, leads_to}
+use Rattle.sb_packet.specs.Networks.{NetHost, Network, has_address, leads_to}
 use Rattle.sb_link.specs.RingPlans.{NetFlow}
-use Rattle.sb_flow.specs.Ways.{NetWay, network_ways, flow_links, is_some_number, router_before, router_after}
+use Rattle.sb_flow.specs.Ways.{NetWay, aims_at, first_link, flow_links, is_some_number, network_ways, route_at, router_after, router_before, way_links}
 use Rattle.sb_flow.specs.Rings.{is_upward}
-use Rattle.sb_laws.specs.Flows.{asked_words, answered_of}
-use Rattle.sb_laws.specs.Courses.{Course, last_of}
-use Rattle.sb_laws.specs.Layouts.{Layout}
+use Rattle.sb_laws.specs.Flows.{Course, answered_of, asked_words, is_among_flows, last_of}
+use Rattle.sb_laws.specs.Layouts.{HasScripts, Layout}
 use Rattle.sb_host.specs.Places.{asked_of}
+use Rattle.sb_laws.specs.Standstills.{Stages}
 
 -- the flow of a way
 abbrev pub way_flow : NetWay → NetFlow
@@ -95,4 +95,113 @@ network_layout network = record {
   requests = network_requests network;
   answers = network_answers network;
   into = λ d. last_ring (request_rings network (link_into network d));
+}
+
+-- What holds of the ways of an accepted network.
+
+-- link k leads to device d
+abbrev pub is_link_to : Network → ℕ → ℕ → Bool
+is_link_to network d k = option_map_or (leads_to d) (slice_get network.links k) false
+
+-- Link k leads to a router, which link j leaves, and each link from j on that leads to a router leads to a later one.
+pub record IsStep (network : Network) (k j : ℕ) (rest : List ℕ) : Type 0 where
+  pub router : ℕ
+  pub leads : router_after network k ≡ Some router
+  pub leaves : router_before network j ≡ Some router
+  pub later : All (λ i. (r : ℕ) → router_after network i ≡ Some r → router < r) (j ∷ rest)
+
+-- The links of a way to device d: each leads to a router that the next one leaves, and the last leads to the device.
+abbrev pub IsWayTo : Network → ℕ → List ℕ → Type 0
+IsWayTo network d [] = ⊥
+IsWayTo network d (k ∷ []) = (k < length network.links) × (is_link_to network d k ≡ true)
+IsWayTo network d (k ∷ j ∷ rest) = (k < length network.links) × IsStep network k j rest × IsWayTo network d (j ∷ rest)
+
+-- The ways of a network, and the links to its devices.
+pub record HasWays (network : Network) : Type 0 where
+  pub scripts : HasScripts network
+  -- each way leads from a host to its device, and is that of its flow
+  pub ways : All (λ way. IsWayTo network way.device way.links) (network_ways network)
+  pub starts : All (λ way. router_before network (slice_index_or way.links 0 0) ≡ None) (network_ways network)
+  pub found : All (λ way. flow_links network (way_flow way) ≡ way.links) (network_ways network)
+  pub hosts : All (λ way. Contains network.hosts way.host) (network_ways network)
+  pub devices : All (λ way. way.device < length network.devices) (network_ways network)
+  -- no host asks a device for anything where there is no way
+  pub all_ways : (f : NetFlow) → is_among_flows f (network_flows network) ≡ false → asked_words network f ≡ []
+  -- one link leads to each device
+  pub linked : (d : ℕ) → d < length network.devices → (k : ℕ) × (k < length network.links) × (is_link_to network d k ≡ true)
+  pub one_link : (d j k : ℕ) → is_link_to network d j ≡ true → is_link_to network d k ≡ true → j ≡ k
+
+-- When the routes of a network lead each flow to its device. An accepted network is routed.
+
+-- link k leads to device d, or to a router
+abbrev pub LeadsOn : Network → ℕ → ℕ → Type 0
+LeadsOn network d k = (is_link_to network d k ≡ true) ⊎ ((q : ℕ) × (router_after network k ≡ Some q))
+
+-- Link k is a way on from router r to device d.
+pub record IsRoute (network : Network) (d r k : ℕ) : Type 0 where
+  pub there : k < length network.links
+  pub leaves : router_before network k ≡ Some r
+  pub leads : LeadsOn network d k
+
+-- Link k is that of host h, and leads to a router.
+pub record IsFirstLink (network : Network) (h k : ℕ) : Type 0 where
+  pub there : k < length network.links
+  pub first : first_link network h ≡ Some k
+  pub leaves : router_before network k ≡ None
+  pub router : ℕ
+  pub leads : router_after network k ≡ Some router
+
+-- Links and routes lead on, and no route is missing where a host aims.
+pub record IsRouted (network : Network) : Type 0 where
+  pub scripts : HasScripts network
+  -- at most 32 devices, which begin with a page, and none of which has an address of another
+  pub few : length network.devices ≤ 32
+  pub pages : All (λ d. d.base % 4096 ≡ 0) network.devices
+  pub apart : (address d e : ℕ) → option_map_or (has_address address) (slice_get network.devices d) false ≡ true → option_map_or (has_address address) (slice_get network.devices e) false ≡ true → d ≡ e
+  -- each host has a link to a router, and one link leads to each device
+  pub first : (h : ℕ) → h < length network.hosts → (k : ℕ) × IsFirstLink network h k
+  pub linked : (d : ℕ) → d < length network.devices → (k : ℕ) × (k < length network.links) × (is_link_to network d k ≡ true)
+  pub one_link : (d j k : ℕ) → is_link_to network d j ≡ true → is_link_to network d k ≡ true → j ≡ k
+  -- routers that links name are there, and from router to router a link leads to a later one
+  pub there : (k q : ℕ) → router_after network k ≡ Some q → q < length network.routers
+  pub there_before : (k r : ℕ) → router_before network k ≡ Some r → r < length network.routers
+  pub forward : (k r q : ℕ) → router_before network k ≡ Some r → router_after network k ≡ Some q → r < q
+  -- a route leaves its router and leads on, and each router on a way to a device that a host aims at has one
+  pub routes : (d r k : ℕ) → d < length network.devices → r < length network.routers → route_at network d r ≡ Some k → IsRoute network d r k
+  pub unbroken : (h d : ℕ) (host : NetHost) → slice_get network.hosts h ≡ Some host → d < length network.devices → aims_at network host d ≡ true →
+      All (λ k. (r : ℕ) → router_after network k ≡ Some r → (j : ℕ) × (route_at network d r ≡ Some j)) (way_links network h d)
+
+-- The stages of a network: its routers stand in the order of their places.
+
+-- The stages of link k for requests: hosts are stage 0, router r is stage 1 + r, and the devices are behind all routers.
+abbrev pub stage_before : Network → ℕ → ℕ
+stage_before network k = option_map_or (λ r. 1 + r) (router_before network k) 0
+
+abbrev pub stage_after : Network → ℕ → ℕ
+stage_after network k = option_map_or (λ r. 1 + r) (router_after network k) (1 + length network.routers)
+
+-- Those for answers: behind the devices the last router comes first, and hosts are the last stage.
+abbrev pub last_stage : Network → ℕ
+last_stage network = 2 + 2 * length network.routers
+
+-- the stage of router r for answers
+abbrev pub answer_stage : Network → ℕ → ℕ
+answer_stage network r = 1 + length network.routers + (length network.routers - r)
+
+abbrev pub stage_back_before : Network → ℕ → ℕ
+stage_back_before network k = option_map_or (answer_stage network) (router_after network k) (1 + length network.routers)
+
+abbrev pub stage_back_after : Network → ℕ → ℕ
+stage_back_after network k = option_map_or (answer_stage network) (router_before network k) (last_stage network)
+
+-- The stages of the rings of all links, each of which has both ends in the network.
+abbrev pub network_stages : Network → Stages
+network_stages network = record {
+  rings = ring_count network;
+  last = last_stage network;
+  from = λ ring. if is_upward ring then stage_back_before network (ring / 2) else stage_before network (ring / 2);
+  to = λ ring. if is_upward ring then stage_back_after network (ring / 2) else stage_after network (ring / 2);
+  comes_in = λ ring. false;
+  goes_out = λ ring. false;
+  leaves_host = λ ring. not (is_upward ring) && option_map_or (λ r. false) (router_before network (ring / 2)) true;
 }

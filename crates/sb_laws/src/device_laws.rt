@@ -11,16 +11,13 @@ ghost use Rattle.sb_packet.specs.Networks.{Network, opening_memory};
 ghost use Rattle.sb_link.specs.RingPlans.{NetFlow};
 ghost use Rattle.sb_packet.specs.declared.entry.Entry.{Entry};
 ghost use Rattle.sb_port.specs.Ports.{IsFit, PortSide};
-ghost use Rattle.sb_laws.specs.Courses.{budget_over};
-ghost use Rattle.sb_laws.specs.DeviceSides.{IsDeviceAt};
+ghost use Rattle.sb_laws.specs.Flows.{budget_over};
+ghost use Rattle.sb_laws.specs.NodeSides.{HasPort, HasRing, IsDeviceAt, ShowsPort, ShowsRing};
 ghost use Rattle.sb_laws.specs.Layouts.{Layout};
 ghost use Rattle.sb_laws.specs.Moments.{Moment, arrived};
-ghost use Rattle.sb_laws.specs.NetworkLayouts.{network_flows, network_layout};
-ghost use Rattle.sb_laws.specs.RoundSides.{HasPort, HasRing, ShowsPort, ShowsRing};
-ghost use Rattle.sb_laws.specs.Routed.{IsRouted};
+ghost use Rattle.sb_laws.specs.NetworkLayouts.{IsRouted, network_flows, network_layout};
 ghost use Rattle.sb_laws.specs.Runs.{IsDevice};
-ghost use Rattle.sb_laws.specs.Stages.{Stages};
-ghost use Rattle.sb_laws.specs.Standstills.{IsIdleReceiver, IsIdleSender, RoundEnd};
+ghost use Rattle.sb_laws.specs.Standstills.{IsIdleReceiver, IsIdleSender, RoundEnd, Stages};
 
 /// A device that served what came in keeps a device's promise, where the journal has its entries.
 pub fn devices_keep_their_promise()

@@ -1,17 +1,19 @@
 //! Laws of hosts as they stand in a network: they keep the promises on which whole runs rest.
 
-ghost use Rattle.std.specs.Prelude.{◌≡◌, ◌≢◌, ◌≤◌, ◌<◌, ◌%◌, ℕ, true, false, List, [], length, slice_get, All, Contains, None, Some};
+ghost use Rattle.std.specs.Prelude.{◌≡◌, ◌≢◌, ◌≤◌, ◌<◌, ◌%◌, ℕ, true, false, List, [], length, slice_get, All, Contains, None, Some, is_some};
 ghost use Rattle.sb_host.specs.Asked.{asked_accesses, asked_by};
-ghost use Rattle.sb_host.specs.Hosts.{HostSide, IsHostTurn, IsKeptHost, IsWholeHost};
+ghost use Rattle.sb_host.specs.Hosts.{HostSide, IsHostTurn, IsKeptHost, IsWholeHost, host_wait};
 ghost use Rattle.sb_host.specs.Outcomes.{outcomes_so_far};
+ghost use Rattle.sb_host.specs.Progress.{TransactionsSide};
 ghost use Rattle.sb_host.specs.Rows.{IsTable};
 ghost use Rattle.sb_host.specs.Steps.{IsIdleHost};
+ghost use Rattle.sb_host.specs.Windows.{window_cause};
 ghost use Rattle.sb_link.specs.declared.answers.Turn.{Turn};
 ghost use Rattle.sb_link.specs.declared.answers.Turn.TheVariants.{Moved};
 ghost use Rattle.sb_port.specs.Ports.{IsFit, PortSide};
 ghost use Rattle.sb_node.specs.Sides.{RingSide, received_words};
 ghost use Rattle.sb_packet.specs.Networks.{NetHost, Network, device_at};
-ghost use Rattle.sb_packet.specs.Outcomes.{host_outcomes};
+ghost use Rattle.sb_packet.specs.Answers.{host_outcomes};
 ghost use Rattle.sb_flow.specs.Rings.{is_upward, ring_budget, ring_flows, ring_plan};
 ghost use Rattle.sb_packet.specs.Cuts.{transaction_packets};
 ghost use Rattle.sb_link.specs.RingPlans.{goes_through};
@@ -21,18 +23,14 @@ ghost use Rattle.sb_packet.specs.declared.transaction.Txn.{Txn};
 ghost use Rattle.sb_flow.specs.Ways.{first_link};
 ghost use Rattle.sb_packet.specs.declared.entry.Entry.{Entry};
 ghost use Rattle.sb_laws.specs.Flows.{aimed_script};
-ghost use Rattle.sb_laws.specs.HostSides.{IsHostAt, IsHostBuiltFor, IsHostOf};
+ghost use Rattle.sb_laws.specs.NodeSides.{HasPort, HasRing, IsHostAt, IsHostBuiltFor, IsHostOf, ShowsPort, ShowsRing};
 ghost use Rattle.sb_laws.specs.Layouts.{HasScripts, IsLayout, Layout};
 ghost use Rattle.sb_laws.specs.Moments.{Moment, arrived};
-ghost use Rattle.sb_laws.specs.NetworkLayouts.{network_flows, network_layout, request_ring};
-ghost use Rattle.sb_laws.specs.Routed.{IsRouted};
-ghost use Rattle.sb_laws.specs.RoundSides.{HasPort, HasRing, ShowsPort, ShowsRing};
-ghost use Rattle.sb_laws.specs.Runs.{IsHost, IsMomentOf};
-ghost use Rattle.sb_laws.specs.Stages.{Stages};
-ghost use Rattle.sb_laws.specs.Standstills.{IsIdleReceiver, IsIdleSender, RoundEnd};
-ghost use Rattle.sb_laws.specs.Wholes.{HasAllEnded};
+ghost use Rattle.sb_laws.specs.NetworkLayouts.{IsRouted, network_flows, network_layout, request_ring};
+ghost use Rattle.sb_laws.specs.Runs.{HasAllEnded, IsHost, IsMomentOf};
+ghost use Rattle.sb_laws.specs.Standstills.{IsIdleReceiver, IsIdleSender, MissesAnswer, RoundEnd, Stages};
 
-use sb_host::hosts_offer_their_scripts;
+use sb_host::{hosts_offer_their_scripts, waiting_hosts_miss_answers};
 
 /// What a host asks for are the words of its script that a device has, where devices have whole pages; and a whole host
 /// keeps a host's promise for each of its flows.
@@ -48,21 +46,23 @@ pub fn hosts_keep_their_promise()
     hosts_offer_their_scripts();
 }
 
-/// A host that did nothing in its turn is idle at both its rings. It has told its port to close, or its ring is full.
+/// A host that did nothing in its turn is idle at both its rings. It has told its port to close, or its ring is full, or it
+/// waits for a slot.
 pub fn idle_hosts_are_idle()
-    ensures sender { (stages : Stages) (s : RoundEnd) (r : ℕ) (port : PortSide) (ring : RingSide)
-        → ShowsPort s r port → stages.leaves_host r ≡ true → IsFit port.plan port.state
-        → IsIdleHost port ring → IsIdleSender stages s r }
-    ensures receiver { (stages : Stages) (s : RoundEnd) (r : ℕ) (port : PortSide) (ring : RingSide)
+    ensures sender { (stages : Stages) (s : RoundEnd) (r : ℕ) (t : TransactionsSide) (port : PortSide) (ring : RingSide)
+        → ShowsPort s r port → s.waits r ≡ is_some (window_cause t) → stages.leaves_host r ≡ true → IsFit port.plan port.state
+        → IsIdleHost t port ring → IsIdleSender stages s r }
+    ensures receiver { (stages : Stages) (s : RoundEnd) (r : ℕ) (t : TransactionsSide) (port : PortSide) (ring : RingSide)
         → ShowsRing s r ring → s.holds r ≡ None → s.at.held r ≡ []
-        → IsIdleHost port ring → IsIdleReceiver stages s r }
+        → IsIdleHost t port ring → IsIdleReceiver stages s r }
 {}
 
 /// So is a whole host after a turn in which it didn't move.
 pub fn unmoved_hosts_are_idle()
     ensures sender { (stages : Stages) (s : RoundEnd) (before after : HostSide) (round : ℕ) (answer : Turn)
         → IsWholeHost after → IsHostTurn before round answer after → answer ≢ Moved
-        → ShowsPort s after.requests.plan.ring after.requests → stages.leaves_host after.requests.plan.ring ≡ true
+        → ShowsPort s after.requests.plan.ring after.requests → s.waits after.requests.plan.ring ≡ is_some (host_wait after)
+        → stages.leaves_host after.requests.plan.ring ≡ true
         → IsIdleSender stages s after.requests.plan.ring }
     ensures receiver { (stages : Stages) (s : RoundEnd) (before after : HostSide) (round : ℕ) (answer : Turn)
         → IsWholeHost after → IsHostTurn before round answer after → answer ≢ Moved
@@ -70,6 +70,19 @@ pub fn unmoved_hosts_are_idle()
         → s.holds after.answers.plan.ring ≡ None → s.at.held after.answers.plan.ring ≡ []
         → IsIdleReceiver stages s after.answers.plan.ring }
 {}
+
+/// A host that waits for a slot misses an answer: it has offered a word that is answered, and nothing that looks like the
+/// answer has come.
+pub fn waiting_hosts_miss_answers_of_their_flows()
+    ensures misses { (network : Network) (layout : Layout) (m : Moment) (host : NetHost) (h : HostSide)
+        → IsLayout network layout → All (λ d. d.base % 4096 ≡ 0) network.devices
+        → IsHostOf network layout host h → IsWholeHost h → HasPort m h.requests.plan.ring h.requests
+        → HasRing m h.answers.plan.ring h.answers → is_some (host_wait h) ≡ true
+        → MissesAnswer network layout m h.requests.plan.ring }
+{
+    hosts_offer_their_scripts();
+    waiting_hosts_miss_answers();
+}
 
 /// Where each ring has given its Close, a host that told its port to close knows of each of its transactions what the
 /// journal says: by the words that came to it, each is found by its reply address, its opcode and its size.

@@ -8,18 +8,12 @@ ghost use Rattle.sb_link.specs.RingPlans.{NetFlow, RingPlan};
 ghost use Rattle.sb_link.specs.Traffic.{AreInTurn, item_accesses};
 ghost use Rattle.sb_packet.specs.declared.entry.Entry.{Entry};
 ghost use Rattle.sb_packet.specs.declared.item.Item.{Item};
-ghost use Rattle.sb_laws.specs.Arrivals.{BeginsSources, CarriesSources, HasEnded, PicksSources};
-ghost use Rattle.sb_laws.specs.Courses.{Course};
-ghost use Rattle.sb_laws.specs.Endings.{HasLearnt, IsFinished, IsQuietReceiver, IsQuietSender, IsHostWaiting, IsWholeStandstill};
-ghost use Rattle.sb_laws.specs.Flows.{asked_words, given_to};
+ghost use Rattle.sb_laws.specs.Runs.{AreAnswered, BeginsSources, CarriesSources, HasAllEnded, HasEnded, HasEntries, IsHistorySoFar, IsMomentOf, IsWholeRun, KeepsOrder, KeepsPromises, PicksSources};
+ghost use Rattle.sb_laws.specs.Flows.{Course, asked_words, given_to};
+ghost use Rattle.sb_laws.specs.Standstills.{HasLearnt, IsFinished, IsHostWaiting, IsQuietReceiver, IsQuietSender, IsStandstill, IsWholeStandstill, RoundEnd, Stages};
 ghost use Rattle.sb_laws.specs.Layouts.{IsLayout, Layout};
 ghost use Rattle.sb_laws.specs.Moments.{ClosesLast, Moment};
 ghost use Rattle.sb_laws.specs.Moves.{AreMovingRounds, IsWithinBudget, RingUse, move_bound};
-ghost use Rattle.sb_laws.specs.Promises.{KeepsOrder, KeepsPromises};
-ghost use Rattle.sb_laws.specs.Runs.{HasEntries, IsMomentOf};
-ghost use Rattle.sb_laws.specs.Stages.{Stages};
-ghost use Rattle.sb_laws.specs.Standstills.{IsStandstill, RoundEnd};
-ghost use Rattle.sb_laws.specs.Wholes.{AreAnswered, HasAllEnded, IsHistorySoFar, IsWholeRun};
 
 /// At any moment at which the ends of each ring have met, a first part of each flow's source has come by each ring of
 /// its way, whatever the other flows of the ring do.

@@ -7,16 +7,12 @@ ghost use Rattle.sb_link.specs.Traffic.{AreInTurn, item_accesses};
 ghost use Rattle.sb_packet.specs.declared.entry.Entry.{Entry};
 ghost use Rattle.sb_packet.specs.declared.item.Item.{Item};
 ghost use Rattle.sb_flow.specs.Accepted.{IsAccepted};
-ghost use Rattle.sb_laws.specs.Courses.{budget_over, is_of_ring};
+ghost use Rattle.sb_laws.specs.Flows.{budget_over, is_of_ring};
 ghost use Rattle.sb_laws.specs.Layouts.{IsLayout};
 ghost use Rattle.sb_laws.specs.Moments.{Moment, arrived};
-ghost use Rattle.sb_laws.specs.Endings.{IsWithin};
-ghost use Rattle.sb_laws.specs.NetworkLayouts.{answer_ring, network_answers, network_flows, network_layout, network_requests, request_ring, ring_count};
-ghost use Rattle.sb_laws.specs.NetworkStages.{network_stages};
-ghost use Rattle.sb_laws.specs.NetworkWays.{HasWays};
-ghost use Rattle.sb_laws.specs.Routed.{IsRouted};
-ghost use Rattle.sb_laws.specs.Stages.{Rises};
-ghost use Rattle.sb_laws.specs.Wholes.{IsWholeRun};
+ghost use Rattle.sb_laws.specs.Standstills.{IsWithin, Rises};
+ghost use Rattle.sb_laws.specs.NetworkLayouts.{HasWays, IsRouted, answer_ring, network_answers, network_flows, network_layout, network_requests, network_stages, request_ring, ring_count};
+ghost use Rattle.sb_laws.specs.Runs.{IsWholeRun};
 
 /// The links and routes of an accepted network lead on.
 pub fn accepted_networks_are_routed()

@@ -9,19 +9,15 @@ ghost use Rattle.sb_flow.specs.Rings.{ring_plan};
 ghost use Rattle.sb_flow.specs.Accepted.{IsAccepted};
 ghost use Rattle.sb_router.specs.Forwarding.{HasForwarded, IsLaid, Passes, Words};
 ghost use Rattle.sb_router.specs.Lanes.{inlet_at, outlet_at};
-ghost use Rattle.sb_router.specs.RouteOf.{route_of};
+ghost use Rattle.sb_router.specs.Ways.{route_of};
 ghost use Rattle.sb_router.specs.Routers.{ClosesWhenDue, DirectionSide, ForwardsAll, IsRouterTurn, IsWholeDirection, IsWholeRouter, RouterSide};
 ghost use Rattle.sb_router.specs.Turning.{IsIdleLane};
-ghost use Rattle.sb_laws.specs.Courses.{Course};
+ghost use Rattle.sb_laws.specs.Flows.{Course};
 ghost use Rattle.sb_laws.specs.Moments.{Moment};
-ghost use Rattle.sb_laws.specs.NetworkLayouts.{links_into, links_out_of, network_answers, network_requests};
-ghost use Rattle.sb_laws.specs.Promises.{ForwardsFlow};
-ghost use Rattle.sb_laws.specs.Routed.{IsRouted};
-ghost use Rattle.sb_laws.specs.RouterEnds.{IsDirectionMet};
-ghost use Rattle.sb_laws.specs.RouterLayouts.{HasTable, IsBuiltFor, IsRouterAt, KeepsAlongWays, LeadsByPlans, answer_ins, answer_outs, request_ins, request_outs};
-ghost use Rattle.sb_laws.specs.RouterSides.{HasLane, IsAtStage, IsIdleAtRings, IsRouterOf, ShowsLane, course_words, ring_outs};
-ghost use Rattle.sb_laws.specs.Stages.{Stages};
-ghost use Rattle.sb_laws.specs.Standstills.{IsIdleReceiver, IsIdleSender, RoundEnd};
+ghost use Rattle.sb_laws.specs.NetworkLayouts.{IsRouted, links_into, links_out_of, network_answers, network_requests};
+ghost use Rattle.sb_laws.specs.Runs.{ForwardsFlow};
+ghost use Rattle.sb_laws.specs.RouterSides.{HasLane, HasTable, IsAtStage, IsBuiltFor, IsDirectionMet, IsIdleAtRings, IsRouterAt, IsRouterOf, KeepsAlongWays, LeadsByPlans, ShowsLane, answer_ins, answer_outs, course_words, request_ins, request_outs, ring_outs};
+ghost use Rattle.sb_laws.specs.Standstills.{IsIdleReceiver, IsIdleSender, RoundEnd, Stages};
 
 use sb_router::routers_hand_on;
 

@@ -7,8 +7,8 @@ ghost use Rattle.sb_link.specs.Prefixes.{IsPrefix};
 ghost use Rattle.sb_link.specs.Traffic.{AreInTurn};
 ghost use Rattle.sb_port.specs.Ports.{IsFit, PortSide};
 ghost use Rattle.sb_laws.specs.Moments.{Moment};
-ghost use Rattle.sb_laws.specs.Promises.{IsLink, IsPort};
-ghost use Rattle.sb_laws.specs.RoundSides.{HasPort, HasRing, ShowsPort, ShowsRing};
+ghost use Rattle.sb_laws.specs.Runs.{IsLink, IsPort};
+ghost use Rattle.sb_laws.specs.NodeSides.{HasPort, HasRing, ShowsPort, ShowsRing};
 ghost use Rattle.sb_laws.specs.Standstills.{IsIdlePort, IsTrueRing, RoundEnd};
 
 /// A port that is fit keeps a port's promise, at any moment.

@@ -9,8 +9,7 @@ use Rattle.sb_flow.specs.Rings.{ring_plan}
 use Rattle.sb_port.specs.declared.leg.InLeg.{InLeg}
 use Rattle.sb_port.specs.declared.leg.OutLeg.{OutLeg}
 use Rattle.sb_laws.specs.NetworkLayouts.{answer_ring, request_ring}
-use Rattle.sb_net.specs.Legs.{AreDealt, AreLegsOf, links_at, node_after, node_before, pile_at, place_at_node}
-use Rattle.sb_net.specs.Made.{AreLegsAt, IsInLeg, IsOutLeg}
+use Rattle.sb_net.specs.Legs.{AreDealt, AreLegsAt, AreLegsOf, IsInLeg, IsOutLeg, links_at, node_after, node_before, pile_at, place_at_node}
 use Rattle.sb_net.specs.Standing.{node_count}
 use Rattle.sb_net.proofs.Dealing.{AreEndsNodes, leg_below}
 use Rattle.sb_net.proofs.LinkPlaces.{at_place}

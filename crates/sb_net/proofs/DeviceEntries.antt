@@ -6,18 +6,17 @@ use Rattle.std.specs.Option.{option_map_or}
 use Rattle.std.proofs.lemmas.Bool.Decides.{nat_tests}
 use Rattle.std.proofs.lemmas.List.Elements.{All-cons, All-head, All-nil, All-tail}
 use Rattle.sb_packet.specs.Messages.{message_of}
+use Rattle.sb_packet.specs.Spans.{span_of}
 use Rattle.sb_packet.specs.Networks.{NetLink, Network, leads_to, width_to}
 use Rattle.sb_link.specs.RingPlans.{RingPlan}
 use Rattle.sb_flow.specs.Rings.{ring_link, ring_plan}
-use Rattle.sb_packet.specs.Spans.{span_of}
 use Rattle.sb_link.specs.Traffic.{AreInTurn, IsCarriable}
 use Rattle.sb_packet.specs.declared.entry.Entry.{Entry}
 use Rattle.sb_packet.specs.declared.item.Item.{Item}
 use Rattle.sb_packet.specs.declared.item.Item.TheVariants as items
 use Rattle.sb_packet.specs.declared.packet.Packet.{Packet}
 use Rattle.sb_device.specs.Served.{entry_packets, item_packets}
-use Rattle.sb_laws.specs.NetworkLayouts.{link_into, request_ring}
-use Rattle.sb_laws.specs.NetworkWays.{HasWays}
+use Rattle.sb_laws.specs.NetworkLayouts.{HasWays, link_into, request_ring}
 use Rattle.sb_laws.proofs.LinksToDevices.{link_into_leads, none_found}
 
 -- packets that were received in turn are packets that the ring can carry

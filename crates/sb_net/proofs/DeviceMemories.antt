@@ -13,10 +13,8 @@ use Rattle.sb_packet.specs.Networks.{NetDevice, Network, device_size, opening_me
 use Rattle.sb_link.specs.RingPlans.{AddressRange, device_ranges}
 use Rattle.sb_flow.specs.Rings.{range_of, ring_flows}
 use Rattle.sb_device.specs.Sides.{held_bytes}
-use Rattle.sb_flow.specs.Accepted.{IsAccepted}
-use Rattle.sb_flow.specs.Limits.{is_limited, is_limited_device}
+use Rattle.sb_flow.specs.Accepted.{IsAccepted, is_limited, is_limited_device, is_placed_device}
 use Rattle.sb_flow.specs.NetworkOf.{network_of}
-use Rattle.sb_flow.specs.Ranges.{is_placed_device}
 use Rattle.sb_flow.specs.Rows.{device_of}
 use Rattle.sb_flow.specs.declared.bundle.Bundle.{Bundle}
 use Rattle.sb_flow.specs.declared.device_plan.DevicePlan.{DevicePlan}

@@ -16,9 +16,8 @@ use Rattle.sb_device.specs.Plans.{IsPlannedFor}
 use Rattle.sb_device.specs.Served.{HasServed}
 use Rattle.sb_device.specs.Sides.{DeviceSide}
 use Rattle.sb_flow.specs.Accepted.{IsAccepted}
-use Rattle.sb_laws.specs.Courses.{flows_over}
-use Rattle.sb_laws.specs.NetworkLayouts.{answer_ring, link_into, network_requests, request_ring}
-use Rattle.sb_laws.specs.NetworkWays.{HasWays}
+use Rattle.sb_laws.specs.Flows.{flows_over}
+use Rattle.sb_laws.specs.NetworkLayouts.{HasWays, answer_ring, link_into, network_requests, request_ring}
 use Rattle.sb_laws.proofs.AcceptedNetworks.{accepted_is_routed}
 use Rattle.sb_laws.proofs.CarriedRings.{answer_ways, flows_there, not_up, request_ways, up}
 use Rattle.sb_laws.proofs.FlowMembers.{at_flow}
@@ -26,8 +25,7 @@ use Rattle.sb_laws.proofs.MessageFlows.{flow_through}
 use Rattle.sb_laws.proofs.NetworkLaidOut.{laid_out}
 use Rattle.sb_laws.proofs.WaysOfRouted.{ways_of_routed}
 use Rattle.sb_member.specs.declared.member.Member.TheVariants.{Device}
-use Rattle.sb_net.specs.Legs.{links_in}
-use Rattle.sb_net.specs.Made.{AreLegsAt, IsInLeg, IsMadeAt}
+use Rattle.sb_net.specs.Legs.{AreLegsAt, IsInLeg, IsMadeAt, links_in}
 use Rattle.sb_net.specs.Standing.{IsDeviceBuilt, device_number}
 use Rattle.sb_net.proofs.DeviceMemories.{opening_range}
 use Rattle.sb_net.proofs.HostsMade.{only_thing, some_thing}

@@ -10,16 +10,12 @@ use Rattle.sb_flow.specs.Rings.{IsCarried}
 use Rattle.sb_packet.specs.declared.entry.Entry.{Entry}
 use Rattle.sb_node.specs.Sides.{RingSide, received_words}
 use Rattle.sb_flow.specs.Accepted.{IsAccepted}
-use Rattle.sb_laws.specs.Endings.{IsFinished, IsWholeStandstill}
+use Rattle.sb_laws.specs.Standstills.{IsFinished, IsWholeStandstill}
 use Rattle.sb_laws.specs.Layouts.{IsLayout}
 use Rattle.sb_laws.specs.Moments.{Moment}
-use Rattle.sb_laws.specs.NetworkLayouts.{network_layout}
-use Rattle.sb_laws.specs.NetworkStages.{network_stages}
-use Rattle.sb_laws.specs.NetworkWays.{HasWays}
-use Rattle.sb_laws.specs.Routed.{IsRouted}
-use Rattle.sb_laws.specs.RoundSides.{HasRing}
-use Rattle.sb_laws.specs.Runs.{HasEntries, IsMomentOf}
-use Rattle.sb_laws.specs.Wholes.{HasAllEnded, IsWholeRun}
+use Rattle.sb_laws.specs.NetworkLayouts.{HasWays, IsRouted, network_layout, network_stages}
+use Rattle.sb_laws.specs.NodeSides.{HasRing}
+use Rattle.sb_laws.specs.Runs.{HasAllEnded, HasEntries, IsMomentOf, IsWholeRun}
 use Rattle.sb_laws.proofs.AcceptedNetworks.{accepted_is_routed}
 use Rattle.sb_laws.proofs.CarriedRings as rings
 use Rattle.sb_laws.proofs.Entries.{lawful_journal}

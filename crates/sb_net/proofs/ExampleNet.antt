@@ -15,8 +15,7 @@ use Rattle.sb_router.specs.Lanes.{offered_at}
 use Rattle.sb_router.specs.Routers.{DirectionSide, RouterSide}
 use Rattle.sb_laws.specs.Moments.{Moment}
 use Rattle.sb_laws.specs.NetworkLayouts.{network_answers, network_requests}
-use Rattle.sb_laws.specs.RouterLayouts.{answer_outs, request_outs}
-use Rattle.sb_laws.specs.RouterSides.{course_words}
+use Rattle.sb_laws.specs.RouterSides.{answer_outs, course_words, request_outs}
 use Rattle.sb_laws.proofs.NetworkRouters.{answers_laid, requests_laid}
 use Rattle.sb_laws.proofs.ExampleNetwork.{small, posted, steps}
 use Rattle.sb_laws.proofs.ExampleRouted.{small_is_routed}

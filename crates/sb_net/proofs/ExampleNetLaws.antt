@@ -4,12 +4,10 @@ use Rattle.std.specs.Prelude.{◌++◌, All, IsTrue}
 use Rattle.std.proofs.lemmas.List.Elements.{All-from_recursion}
 use Rattle.sb_packet.specs.Journals.{is_in_round_order}
 use Rattle.sb_packet.specs.declared.entry.Entry.{Entry}
-use Rattle.sb_flow.specs.Limits.{word_count}
-use Rattle.sb_laws.specs.Endings.{IsWholeStandstill}
-use Rattle.sb_laws.specs.NetworkLayouts.{network_layout}
-use Rattle.sb_laws.specs.NetworkStages.{network_stages}
+use Rattle.sb_flow.specs.Accepted.{word_count}
+use Rattle.sb_laws.specs.Standstills.{IsStandstill, IsWholeStandstill}
+use Rattle.sb_laws.specs.NetworkLayouts.{network_layout, network_stages}
 use Rattle.sb_laws.specs.Runs.{HasEntries, IsMomentOf}
-use Rattle.sb_laws.specs.Standstills.{IsStandstill}
 use Rattle.sb_laws.proofs.ExampleNetwork.{small, steps}
 use Rattle.sb_member.specs.Joints.{HaveAllMet}
 use Rattle.sb_net.specs.Over.{IsOver}

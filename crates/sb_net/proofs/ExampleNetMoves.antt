@@ -13,7 +13,7 @@ use Rattle.sb_node.specs.Kept.{kept_port_same}
 use Rattle.sb_node.specs.Sides.{has_rest, is_full}
 use Rattle.sb_host.specs.Hosts.{IsHostTurn, IsKeptHost, IsWholeHost}
 use Rattle.sb_router.specs.Lanes.{inlet_at}
-use Rattle.sb_router.specs.RouteOf.{route_of}
+use Rattle.sb_router.specs.Ways.{route_of}
 use Rattle.sb_router.specs.Routers.{ClosesWhenDue, IsRouterTurn}
 use Rattle.sb_router.specs.Turning.{IsIdleLane, IsSeen, ServesPorts}
 use Rattle.sb_node.proofs.Answering.{one_of}
@@ -32,7 +32,7 @@ use Rattle.sb_member.specs.Joints.{HasRingMet, MeetAlong, joint_at}
 use Rattle.sb_member.specs.Members.{IsKeptMember, IsMemberTurn, IsWholeMember, kept_member_same}
 use Rattle.sb_member.specs.declared.member.Member.{Member}
 use Rattle.sb_member.specs.declared.member.Member.TheVariants.{Host, Router, Device}
-use Rattle.sb_net.specs.NetRounds.{IsNetRound}
+use Rattle.sb_net.specs.Running.{IsNetRound}
 use Rattle.sb_net.specs.Recorded.{IsRecorded, device_entries}
 use Rattle.sb_net.proofs.ExampleNet.{HasFew, IsSmallState, SmallState, small_joints, small_nodes, small_router, words_back, words_there}
 use Rattle.sb_net.proofs.ExampleNetOver.{end_nodes, meet_again, same_joined}
@@ -76,7 +76,7 @@ module _ (heap : Global) where
   late_host_is_whole : IsWholeHost (host_in late (end_rows heap) 3)
   late_host_is_whole = let order = (end_host_is_whole heap).in_order in record {
     fit = is_fit late late_is_settled 0 (lit< tt);
-    in_order = record { issuable = order.issuable; made = order.made; come = order.come; offered = refl; closes = λ told. refl; table = order.table; ends = refl };
+    in_order = record { issuable = order.issuable; made = order.made; come = order.come; offered = refl; closes = λ told. refl; table = order.table; ends = refl; window = order.window };
   }
 
   pub late_is_a_state : IsSmallState late_state
@@ -107,7 +107,7 @@ module _ (heap : Global) where
     few = lit≤ tt;
     port_served = record { few = lit≤ tt; served = inr (inl refl) };
     ring_served = inr refl;
-    next_offered = λ free m rest left. absurd (cc);
+    next_offered = inl (λ free m rest left. absurd (cc));
     aimed = λ d inside. absurd (omega arith);
     closes_when_due = λ all. refl;
   }

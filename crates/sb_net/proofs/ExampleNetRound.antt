@@ -12,7 +12,7 @@ use Rattle.sb_laws.proofs.ExampleHostLaws as hosts
 use Rattle.sb_laws.proofs.ExampleRouterTurns as routers
 use Rattle.sb_member.specs.Members.{IsMemberTurn, kept_member_same, rested_member_same}
 use Rattle.sb_member.specs.declared.member.Member.{Member}
-use Rattle.sb_net.specs.NetRounds.{IsNetRound}
+use Rattle.sb_net.specs.Running.{IsNetRound}
 use Rattle.sb_net.proofs.ExampleNetOver.{end_nodes}
 
 -- the device's turn

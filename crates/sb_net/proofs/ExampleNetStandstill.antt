@@ -6,7 +6,7 @@ use Rattle.std.proofs.lemmas.Bool.Decides.{nat_tests}
 use Rattle.std.proofs.lemmas.List.Elements.{All-from_recursion, All-nil}
 use Rattle.sb_packet.specs.Journals.{journal_accesses}
 use Rattle.sb_flow.specs.Rings.{is_upward}
-use Rattle.sb_packet.specs.Soundness.{IsSound}
+use Rattle.sb_packet.specs.Cuts.{IsSound}
 use Rattle.sb_link.specs.Traffic.{has_close, item_accesses}
 use Rattle.sb_link.specs.Prefixes.{IsPrefix}
 use Rattle.sb_port.specs.Ports.{PortSide, offered_words}
@@ -15,14 +15,11 @@ use Rattle.sb_router.specs.Lanes.{no_port, no_ring}
 use Rattle.sb_node.specs.Sides.{RingSide}
 use Rattle.sb_node.proofs.Subsequences.{same_subsequence}
 use Rattle.sb_node.proofs.Answering.{one_of}
-use Rattle.sb_laws.specs.Courses.{AlongWay, CarriesItsFlows, is_of_ring}
-use Rattle.sb_laws.specs.Endings.{IsWholeStandstill}
+use Rattle.sb_laws.specs.Flows.{AlongWay, CarriesItsFlows, is_of_ring}
+use Rattle.sb_laws.specs.Standstills.{IsIdleReceiver, IsIdleSender, IsTrueRing, IsWholeStandstill, RoundEnd, is_closed}
 use Rattle.sb_laws.specs.Moments.{ClosesLast, Moment, arrived}
-use Rattle.sb_laws.specs.NetworkLayouts.{network_answers, network_layout, network_requests}
-use Rattle.sb_laws.specs.NetworkStages.{network_stages}
-use Rattle.sb_laws.specs.Promises.{ForwardsFlow, IsLink, IsPort}
-use Rattle.sb_laws.specs.Runs.{IsDevice, IsHost, IsMomentOf}
-use Rattle.sb_laws.specs.Standstills.{IsIdleReceiver, IsIdleSender, IsTrueRing, RoundEnd, is_closed}
+use Rattle.sb_laws.specs.NetworkLayouts.{network_answers, network_layout, network_requests, network_stages}
+use Rattle.sb_laws.specs.Runs.{ForwardsFlow, IsDevice, IsHost, IsLink, IsMomentOf, IsPort}
 use Rattle.sb_laws.proofs.ClosedLists.{closes_last}
 use Rattle.sb_laws.proofs.Prefixes.{same_prefix}
 use Rattle.sb_laws.proofs.RisingStages.{stages_rise, ways_within}

@@ -15,8 +15,7 @@ use Rattle.sb_host.specs.Asked.{asked_by}
 use Rattle.sb_host.specs.Hosts.{HostSide, IsWholeHost}
 use Rattle.sb_laws.specs.NetworkLayouts.{answer_ring, request_ring}
 use Rattle.sb_member.specs.declared.member.Member.TheVariants.{Host}
-use Rattle.sb_net.specs.Legs.{links_out}
-use Rattle.sb_net.specs.Made.{AreLegsAt, IsMadeAt, IsOutLeg}
+use Rattle.sb_net.specs.Legs.{AreLegsAt, IsMadeAt, IsOutLeg, links_out}
 use Rattle.sb_net.proofs.NodeLinks.{host_link}
 
 -- the last of some things that have one link

@@ -19,8 +19,7 @@ use Rattle.sb_node.specs.Sides.{RingSide}
 use Rattle.sb_device.specs.Devices.{IsWholeDevice}
 use Rattle.sb_device.specs.Served.{entry_packets, item_packets}
 use Rattle.sb_device.specs.Sides.{DeviceSide}
-use Rattle.sb_flow.specs.Accepted.{IsAccepted}
-use Rattle.sb_flow.specs.Limits.{word_count}
+use Rattle.sb_flow.specs.Accepted.{IsAccepted, word_count}
 use Rattle.sb_laws.specs.NetworkLayouts.{link_into, request_ring}
 use Rattle.sb_laws.proofs.AcceptedNetworks.{accepted_is_routed}
 use Rattle.sb_laws.proofs.InTurn.{turn_words_are_few}

@@ -12,7 +12,7 @@ use Rattle.sb_member.specs.declared.joint.Joint.{Joint}
 use Rattle.sb_member.specs.declared.member.Member.{Member}
 use Rattle.sb_member.proofs.RingsJoined.{joined_on, same_or_not}
 use Rattle.sb_member.proofs.Turned.{EachKept, joined_then}
-use Rattle.sb_net.specs.NetRounds.{IsNetRound}
+use Rattle.sb_net.specs.Running.{IsNetRound}
 use Rattle.sb_net.specs.RingEnds.{AreLinked}
 use Rattle.sb_net.specs.Standing.{IsCovered, IsReceivedBy, IsSentBy, StandsFor, device_number, router_number}
 use Rattle.sb_net.proofs.LaterNodes.{IsLaterNode, device_node_stays, host_node_stays, node_met_port, node_met_ring, node_then, router_node_stays, same_node, turned_node}

@@ -12,17 +12,16 @@ use Rattle.sb_port.specs.Ports.{PortSide}
 use Rattle.sb_node.specs.Kept.{IsPortMet, IsRingMet}
 use Rattle.sb_node.specs.Sides.{RingSide}
 use Rattle.sb_host.specs.Hosts.{HostSide}
-use Rattle.sb_router.specs.Ends.{router_with_port, router_with_ring, with_port, with_ring}
+use Rattle.sb_router.specs.Routers.{DirectionSide, ForwardsAll, IsKeptDirection, IsWholeDirection, RouterSide, router_ports, router_rings, router_with_port, router_with_ring, with_port, with_ring}
 use Rattle.sb_router.specs.Forwarding.{Words}
 use Rattle.sb_router.specs.Lanes.{InletState, inlet_at, no_inlet, no_port, no_ring, outlet_at}
-use Rattle.sb_router.specs.RouteOf.{route_of}
-use Rattle.sb_router.specs.Routers.{DirectionSide, ForwardsAll, IsKeptDirection, IsWholeDirection, RouterSide, router_ports, router_rings}
+use Rattle.sb_router.specs.Ways.{route_of}
 use Rattle.sb_router.proofs.Meetings as meetings
 use Rattle.sb_device.specs.Served.{HasServed}
 use Rattle.sb_device.specs.Sides.{DeviceSide}
 use Rattle.sb_device.proofs.Meetings as devices
-use Rattle.sb_laws.specs.HostSides.{IsHostBuiltFor}
-use Rattle.sb_laws.specs.RouterLayouts.{IsBuiltFor, LeadsByPlans}
+use Rattle.sb_laws.specs.NodeSides.{IsHostBuiltFor}
+use Rattle.sb_laws.specs.RouterSides.{IsBuiltFor, LeadsByPlans}
 use Rattle.sb_member.specs.Ends.{member_with_port, member_with_ring, port_at, ports_of, ring_at, rings_of}
 use Rattle.sb_member.specs.Members.{ByKind, IsKeptMember, IsWholeMember, by_kind_same, by_kind_then}
 use Rattle.sb_member.specs.declared.member.Member.{Member}

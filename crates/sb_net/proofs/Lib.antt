@@ -2,6 +2,7 @@ pub mod StandstillEnds
 pub mod StandingEnds
 pub mod TwoLists
 pub mod StandstillShown
+pub mod StandstillWaits
 pub mod StandstillRings
 pub mod StandstillHosts
 pub mod StandstillDevices

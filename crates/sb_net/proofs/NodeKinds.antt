@@ -5,7 +5,7 @@ use Rattle.sb_host.specs.Hosts.{HostSide}
 use Rattle.sb_router.specs.Lanes.{no_port, no_ring}
 use Rattle.sb_router.specs.Routers.{RouterSide}
 use Rattle.sb_device.specs.Sides.{DeviceSide}
-use Rattle.sb_laws.specs.HostSides.{IsHostBuiltFor}
+use Rattle.sb_laws.specs.NodeSides.{IsHostBuiltFor}
 use Rattle.sb_member.specs.declared.member.Member.{Member}
 use Rattle.sb_member.specs.declared.member.Member.TheVariants.{Host, Router, Device}
 use Rattle.sb_net.specs.Standing.{IsDeviceBuilt, IsDeviceNode, IsHostNode, IsRouterBuilt, IsRouterNode}

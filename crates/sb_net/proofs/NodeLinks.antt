@@ -6,15 +6,12 @@ use Rattle.std.specs.Option.{option_map_or}
 use Rattle.std.proofs.lemmas.Bool.{cases_lt, eq-eqb, eqb-true}
 use Rattle.std.proofs.lemmas.Bool.Decides.{nat_tests}
 use Rattle.std.proofs.lemmas.List.Elements.{filter-append}
-use Rattle.sb_packet.specs.Networks.{NetLink, NetPlace, Network, at_device, at_host, at_router, leads_to}
-use Rattle.sb_packet.specs.Sides.{leaves_from}
+use Rattle.sb_packet.specs.Networks.{NetLink, NetPlace, Network, at_device, at_host, at_router, leads_to, leaves_from}
 use Rattle.sb_flow.specs.Ways.{first_link, is_some_number, router_after, router_at_end, router_before}
-use Rattle.sb_flow.specs.Accepted.{IsAccepted}
+use Rattle.sb_flow.specs.Accepted.{IsAccepted, is_there}
 use Rattle.sb_flow.specs.Ends.{joins, same_device, same_host, share_an_end}
-use Rattle.sb_flow.specs.Names.{is_there}
 use Rattle.sb_flow.proofs.AcceptedLinks.{ends_there, link_joins}
-use Rattle.sb_laws.specs.NetworkLayouts.{link_into, links_into, links_out_of}
-use Rattle.sb_laws.specs.NetworkWays.{is_link_to}
+use Rattle.sb_laws.specs.NetworkLayouts.{is_link_to, link_into, links_into, links_out_of}
 use Rattle.sb_laws.proofs.AcceptedNetworks.{accepted_is_routed}
 use Rattle.sb_laws.proofs.FitLinks.{device_end, fit_links, host_start}
 use Rattle.sb_laws.proofs.LinksToDevices.{found_place, link_into_leads}

@@ -10,8 +10,7 @@ use Rattle.sb_port.specs.declared.leg.InLeg.{InLeg}
 use Rattle.sb_port.specs.declared.leg.OutLeg.{OutLeg}
 use Rattle.sb_member.specs.Joints.{no_node}
 use Rattle.sb_member.specs.declared.member.Member.{Member}
-use Rattle.sb_net.specs.Legs.{pile_at}
-use Rattle.sb_net.specs.Made.{AreMadeAt, IsMadeAt}
+use Rattle.sb_net.specs.Legs.{AreMadeAt, IsMadeAt, pile_at}
 use Rattle.sb_net.proofs.LegsMade.{below_or_last}
 use Rattle.sb_net.proofs.LinkPlaces.{last_of_list}
 

@@ -28,8 +28,7 @@ use Rattle.sb_member.specs.Joints.{HaveAllMet, IsJoined, IsRingPlaced, KnowEachO
 use Rattle.sb_member.specs.Members.{IsWholeMember}
 use Rattle.sb_member.specs.declared.joint.Joint.{Joint}
 use Rattle.sb_member.specs.declared.member.Member.{Member}
-use Rattle.sb_net.specs.Legs.{AreDealt, AreLegsOf, answer_joint, links_at, network_joints, node_after, node_before, pile_at, place_at_node, request_joint, ring_joint}
-use Rattle.sb_net.specs.Made.{AreMadeAt}
+use Rattle.sb_net.specs.Legs.{AreDealt, AreLegsOf, AreMadeAt, answer_joint, links_at, network_joints, node_after, node_before, pile_at, place_at_node, request_joint, ring_joint}
 use Rattle.sb_net.specs.Recorded.{device_entries}
 use Rattle.sb_net.specs.Standing.{IsReceivedBy, IsSentBy, StandsFor, device_number, node_count, router_number}
 use Rattle.sb_net.proofs.DealtLegs.{any_in, any_out, in_at, in_below, out_at, out_below}

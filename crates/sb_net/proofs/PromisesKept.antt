@@ -20,13 +20,10 @@ use Rattle.sb_router.proofs.Forwards.{has_forwarded}
 use Rattle.sb_device.specs.Devices.{IsWholeDevice}
 use Rattle.sb_device.specs.Served.{entry_accesses}
 use Rattle.sb_device.specs.Sides.{DeviceSide}
-use Rattle.sb_laws.specs.DeviceSides.{IsDeviceAt}
-use Rattle.sb_laws.specs.HostSides.{IsHostAt}
+use Rattle.sb_laws.specs.NodeSides.{HasPort, HasRing, IsDeviceAt, IsHostAt}
 use Rattle.sb_laws.specs.Moments.{Moment, arrived}
-use Rattle.sb_laws.specs.NetworkLayouts.{answer_ring, link_into, network_answers, network_layout, network_requests, request_ring}
-use Rattle.sb_laws.specs.Routed.{IsRouted}
-use Rattle.sb_laws.specs.RoundSides.{HasPort, HasRing}
-use Rattle.sb_laws.specs.RouterLayouts.{IsRouterAt, answer_ins, answer_outs, request_ins, request_outs}
+use Rattle.sb_laws.specs.NetworkLayouts.{IsRouted, answer_ring, link_into, network_answers, network_layout, network_requests, request_ring}
+use Rattle.sb_laws.specs.RouterSides.{IsRouterAt, answer_ins, answer_outs, request_ins, request_outs}
 use Rattle.sb_laws.specs.Runs.{HasEntries, IsMomentOf}
 use Rattle.sb_laws.proofs.AcceptedNetworks.{accepted_is_routed, low_ids}
 use Rattle.sb_laws.proofs.DeviceSides.{device_records}

@@ -5,10 +5,9 @@ use Rattle.std.specs.List.{enumerate_from, range_with_len}
 use Rattle.std.proofs.lemmas.List.{ext_get_or, get_or-map, length-map}
 use Rattle.std.proofs.lemmas.List.FromFn.{get_or-map-range_with_len, length-enumerate_from, length-map-range_with_len}
 use Rattle.std.proofs.lemmas.Option.{slice_get-get_or, slice_get_within}
-use Rattle.sb_packet.specs.Answers.{final_memory, transaction_answers}
+use Rattle.sb_packet.specs.Answers.{Outcome, RunResults, final_memory, host_outcomes, outcome_of, run_results, transaction_answers}
 use Rattle.sb_packet.specs.Memories.{MemoryState}
 use Rattle.sb_packet.specs.Networks.{NetDevice, NetHost, Network, device_size, opening_memory}
-use Rattle.sb_packet.specs.Outcomes.{Outcome, RunResults, host_outcomes, outcome_of, run_results}
 use Rattle.sb_packet.specs.declared.entry.Entry.{Entry}
 use Rattle.sb_packet.specs.declared.transaction.Txn.{Txn}
 use Rattle.sb_link.specs.RingPlans.{AddressRange, RingPlan, device_ranges}

@@ -7,18 +7,17 @@ use Rattle.sb_packet.specs.Networks.{Network}
 use Rattle.sb_link.specs.RingPlans.{RingPlan}
 use Rattle.sb_link.specs.Prefixes.{IsPrefix}
 use Rattle.sb_flow.specs.Rings.{ring_plan}
-use Rattle.sb_packet.specs.Soundness.{IsSound}
+use Rattle.sb_packet.specs.Cuts.{IsSound}
 use Rattle.sb_link.specs.Traffic.{AreInTurn, has_close, item_accesses}
 use Rattle.sb_device.specs.Served.{AreSound}
 use Rattle.sb_port.specs.Ports.{IsFit, PortSide, offered_words}
 use Rattle.sb_node.specs.Sides.{RingSide}
 use Rattle.sb_router.specs.Lanes.{no_port, no_ring}
-use Rattle.sb_laws.specs.Courses.{CarriesItsFlows}
+use Rattle.sb_laws.specs.Flows.{CarriesItsFlows}
 use Rattle.sb_laws.specs.Moments.{ClosesLast, Moment}
-use Rattle.sb_laws.specs.NetworkLayouts.{answer_ring, network_answers, network_requests, request_ring, ring_count}
-use Rattle.sb_laws.specs.Promises.{IsLink, IsPort}
-use Rattle.sb_laws.specs.Routed.{IsRouted}
-use Rattle.sb_laws.specs.RoundSides.{HasPort, HasRing}
+use Rattle.sb_laws.specs.NetworkLayouts.{IsRouted, answer_ring, network_answers, network_requests, request_ring, ring_count}
+use Rattle.sb_laws.specs.Runs.{IsLink, IsPort}
+use Rattle.sb_laws.specs.NodeSides.{HasPort, HasRing}
 use Rattle.sb_laws.proofs.CarriedPlans.{planned_answers, planned_requests}
 use Rattle.sb_laws.proofs.InTurn.{begins_in_turn}
 use Rattle.sb_laws.proofs.Prefixes.{same_prefix}

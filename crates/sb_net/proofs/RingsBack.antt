@@ -16,7 +16,7 @@ use Rattle.sb_member.specs.Joints.{joint_at, receiver_of, sender_of}
 use Rattle.sb_member.specs.declared.joint.Joint.{Joint}
 use Rattle.sb_member.specs.declared.member.Member.{Member}
 use Rattle.sb_net.specs.Apart.{end_places, put_by, ring_ahead, ring_behind}
-use Rattle.sb_net.specs.GivenBack.{HasEndsAt}
+use Rattle.sb_net.specs.RingEnds.{HasEndsAt}
 use Rattle.sb_net.specs.Legs.{first_plans}
 use Rattle.sb_net.specs.Standing.{StandsFor}
 use Rattle.sb_net.proofs.PutBy.{put_length}

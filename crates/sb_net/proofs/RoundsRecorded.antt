@@ -18,7 +18,7 @@ use Rattle.sb_member.specs.Members.{IsKeptMember, IsRestedMember}
 use Rattle.sb_member.specs.declared.joint.Joint.{Joint}
 use Rattle.sb_member.specs.declared.member.Member.{Member}
 use Rattle.sb_member.specs.declared.member.Member.TheVariants.{Host, Router, Device}
-use Rattle.sb_net.specs.NetRounds.{IsNetRound}
+use Rattle.sb_net.specs.Running.{IsNetRound}
 use Rattle.sb_net.specs.Recorded.{IsRecorded, device_entries, member_entries, entry_counts, new_entries}
 use Rattle.sb_net.specs.Standing.{IsDeviceNode, StandsFor, device_number}
 use Rattle.sb_net.proofs.Collected.{all_collected, follows_later, is_of_device, none_collected, ordered-append, ordered_collected, own_collected}

@@ -11,9 +11,8 @@ use Rattle.sb_router.specs.Lanes.{InletState, LaneState, held_words, inlet_at, n
 use Rattle.sb_router.specs.Routers.{IsWholeRouter, RouterSide}
 use Rattle.sb_laws.specs.Moments.{Moment}
 use Rattle.sb_laws.specs.NetworkLayouts.{network_answers, network_requests}
-use Rattle.sb_laws.specs.RoundSides.{HasPort, HasRing}
-use Rattle.sb_laws.specs.RouterLayouts.{IsRouterAt, answer_ins, answer_outs, request_ins, request_outs}
-use Rattle.sb_laws.specs.RouterSides.{HasInlet, HasLane}
+use Rattle.sb_laws.specs.NodeSides.{HasPort, HasRing}
+use Rattle.sb_laws.specs.RouterSides.{HasInlet, HasLane, IsRouterAt, answer_ins, answer_outs, request_ins, request_outs}
 use Rattle.sb_member.specs.Ends.{port_at, ports_of, ring_at, rings_of}
 use Rattle.sb_member.specs.Joints.{IsJoined, joint_at, no_node, node_at}
 use Rattle.sb_member.specs.Members.{IsWholeMember}

@@ -15,21 +15,16 @@ use Rattle.sb_port.specs.declared.leg.OutLeg.{OutLeg}
 use Rattle.sb_node.specs.Sides.{ring_side}
 use Rattle.sb_flow.specs.Accepted.{IsAccepted}
 use Rattle.sb_router.specs.Forwarding.{Forwards, Words}
-use Rattle.sb_router.specs.Fresh.{IsFreshPair, fresh_inlet}
-use Rattle.sb_router.specs.Lanes.{InletState}
-use Rattle.sb_router.specs.RouteOf.{route_of}
+use Rattle.sb_router.specs.Lanes.{InletState, IsFreshPair, fresh_inlet}
+use Rattle.sb_router.specs.Ways.{IsTableOf, route_of}
 use Rattle.sb_router.specs.Routers.{IsWholeRouter, RouterSide}
-use Rattle.sb_router.specs.Ways.{IsTableOf}
-use Rattle.sb_laws.specs.NetworkLayouts.{answer_ring, links_into, links_out_of, network_answers, network_requests, request_ring}
-use Rattle.sb_laws.specs.Routed.{IsRouted}
-use Rattle.sb_laws.specs.RouterLayouts.{HasTable, IsBuiltFor, answer_ins, answer_outs, request_ins, request_outs}
-use Rattle.sb_laws.specs.RouterSides.{course_words, ring_ins, ring_outs}
+use Rattle.sb_laws.specs.NetworkLayouts.{IsRouted, answer_ring, links_into, links_out_of, network_answers, network_requests, request_ring}
+use Rattle.sb_laws.specs.RouterSides.{HasTable, IsBuiltFor, answer_ins, answer_outs, course_words, request_ins, request_outs, ring_ins, ring_outs}
 use Rattle.sb_laws.proofs.AcceptedNetworks.{accepted_is_routed, low_ids}
 use Rattle.sb_laws.proofs.NetworkRouters.{answers_laid, requests_laid}
 use Rattle.sb_laws.proofs.RouterTables.{answer_tables, request_tables}
 use Rattle.sb_member.specs.declared.member.Member.TheVariants.{Router}
-use Rattle.sb_net.specs.Legs.{links_in, links_out}
-use Rattle.sb_net.specs.Made.{AreLegsAt, IsInLeg, IsMadeAt, IsOutLeg}
+use Rattle.sb_net.specs.Legs.{AreLegsAt, IsInLeg, IsMadeAt, IsOutLeg, links_in, links_out}
 use Rattle.sb_net.specs.Standing.{IsRouterBuilt, router_number}
 use Rattle.sb_net.proofs.NodeLinks.{router_ins, router_outs}
 

@@ -14,9 +14,8 @@ use Rattle.sb_packet.specs.declared.packet.Packet.{Packet}
 use Rattle.sb_port.specs.Ports.{IsFit}
 use Rattle.sb_node.specs.Sides.{RingSide, port_moves}
 use Rattle.sb_router.specs.Lanes.{InletState, no_ring}
-use Rattle.sb_router.specs.Moves.{free_count, inlet_moves}
-use Rattle.sb_flow.specs.Accepted.{IsAccepted}
-use Rattle.sb_flow.specs.Limits.{is_from_to, is_limited, is_limited_device, is_limited_host, is_limited_link, is_limited_router, page_count}
+use Rattle.sb_router.specs.Rested.{free_count, inlet_moves}
+use Rattle.sb_flow.specs.Accepted.{IsAccepted, is_from_to, is_limited, is_limited_device, is_limited_host, is_limited_link, is_limited_router, page_count}
 use Rattle.sb_laws.specs.Moves.{move_bound}
 use Rattle.sb_laws.specs.NetworkLayouts.{ring_count}
 use Rattle.sb_laws.proofs.InTurn.{begins_in_turn}

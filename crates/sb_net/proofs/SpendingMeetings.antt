@@ -9,10 +9,9 @@ use Rattle.sb_packet.specs.declared.item.Item.{Item}
 use Rattle.sb_port.specs.Ports.{PortSide}
 use Rattle.sb_node.specs.Sides.{RingSide, port_moves}
 use Rattle.sb_node.proofs.Answering.{same_moves}
-use Rattle.sb_router.specs.Ends.{router_ring, router_with_port, router_with_ring, with_port, with_ring}
+use Rattle.sb_router.specs.Routers.{DirectionSide, RouterSide, router_ring, router_with_port, router_with_ring, with_port, with_ring}
 use Rattle.sb_router.specs.Lanes.{InletState, inlet_at, no_inlet, no_port, no_ring}
-use Rattle.sb_router.specs.Moves.{free_count, inlet_moves}
-use Rattle.sb_router.specs.Routers.{DirectionSide, RouterSide}
+use Rattle.sb_router.specs.Rested.{free_count, inlet_moves}
 use Rattle.sb_router.proofs.Places.{same_at_each}
 use Rattle.sb_member.specs.Ends.{member_with_port, member_with_ring, port_at, ports_of, ring_at, rings_of}
 use Rattle.sb_member.specs.Joints.{HasRingMet, IsJoined, IsRingPlaced, MeetAlong, joint_at, no_node, node_at}

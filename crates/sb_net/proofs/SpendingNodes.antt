@@ -5,9 +5,8 @@ use Rattle.std.proofs.lemmas.List.Sums.{sum_by-append}
 use Rattle.sb_link.specs.declared.answers.Turn.TheVariants.{Moved}
 use Rattle.sb_node.specs.Sides.{port_moves}
 use Rattle.sb_node.proofs.Answering.{moves_kept, prefix_length}
-use Rattle.sb_router.specs.Kept.{IsKeptLane}
+use Rattle.sb_router.specs.Rested.{IsKeptLane, inlet_moves}
 use Rattle.sb_router.specs.Lanes.{LaneState, no_inlet, no_port}
-use Rattle.sb_router.specs.Moves.{inlet_moves}
 use Rattle.sb_router.specs.Routers.{RouterSide, router_moves, router_ports}
 use Rattle.sb_member.specs.Ends.{ports_of}
 use Rattle.sb_member.specs.Members.{IsKeptMember, IsMemberTurn}

@@ -9,7 +9,7 @@ use Rattle.sb_drive.specs.Rounds.{HasMoved}
 use Rattle.sb_link.specs.declared.answers.Turn.{Turn}
 use Rattle.sb_node.specs.Sides.{port_moves}
 use Rattle.sb_router.specs.Lanes.{no_port}
-use Rattle.sb_router.specs.Moves.{inlet_moves}
+use Rattle.sb_router.specs.Rested.{inlet_moves}
 use Rattle.sb_packet.specs.Networks.{Network}
 use Rattle.sb_member.specs.Ends.{port_at, ports_of, rings_of, ring_at}
 use Rattle.sb_member.specs.Joints.{joint_at, no_node, node_at, sender_of}
@@ -18,7 +18,7 @@ use Rattle.sb_member.specs.declared.joint.Joint.{Joint}
 use Rattle.sb_member.specs.declared.member.Member.{Member}
 use Rattle.sb_member.specs.declared.member.Member.TheVariants.{Host, Router, Device}
 use Rattle.sb_member.proofs.Turned.{EachKept, each_kept}
-use Rattle.sb_net.specs.NetRounds.{IsNetRound}
+use Rattle.sb_net.specs.Running.{IsNetRound}
 use Rattle.sb_net.specs.Spent.{node_receipts, spent, spent_at}
 use Rattle.sb_net.specs.Standing.{StandsFor}
 use Rattle.sb_net.proofs.GrownSums.{GrewAt, NoLess, one_grew, range_grows, range_grows_more, total, total_grows}

@@ -5,7 +5,7 @@ use Rattle.std.proofs.lemmas.Bool.Decides.{nat_tests}
 use Rattle.std.proofs.lemmas.List.Elements.{All-append, All-get_or}
 use Rattle.sb_port.specs.Ports.{IsFit}
 use Rattle.sb_router.specs.Lanes.{no_port, no_ring}
-use Rattle.sb_router.specs.Whole.{IsWholeOutlet}
+use Rattle.sb_router.specs.Forwarding.{IsWholeOutlet}
 use Rattle.sb_member.specs.Ends.{port_at, ports_of}
 use Rattle.sb_member.specs.Joints.{joint_at, receiver_of, sender_of}
 use Rattle.sb_member.specs.Members.{IsWholeMember}

@@ -9,12 +9,9 @@ use Rattle.sb_node.specs.Steps.{IsBlockedPort}
 use Rattle.sb_device.specs.Devices.{IsWholeDevice}
 use Rattle.sb_device.specs.Sides.{DeviceSide}
 use Rattle.sb_router.specs.Lanes.{no_port, no_ring}
-use Rattle.sb_laws.specs.NetworkLayouts.{link_into}
-use Rattle.sb_laws.specs.NetworkStages.{network_stages}
-use Rattle.sb_laws.specs.Routed.{IsRouted}
-use Rattle.sb_laws.specs.RoundSides.{ShowsPort, ShowsRing}
-use Rattle.sb_laws.specs.Stages.{Stages}
-use Rattle.sb_laws.specs.Standstills.{IsIdleReceiver, IsIdleSender, RoundEnd}
+use Rattle.sb_laws.specs.NetworkLayouts.{IsRouted, link_into, network_stages}
+use Rattle.sb_laws.specs.NodeSides.{ShowsPort, ShowsRing}
+use Rattle.sb_laws.specs.Standstills.{IsIdleReceiver, IsIdleSender, RoundEnd, Stages}
 use Rattle.sb_laws.proofs.DeviceSides.{idle_receiver, idle_sender}
 use Rattle.sb_laws.proofs.LinksToDevices.{IsLinkInto, link_into_leads}
 use Rattle.sb_laws.proofs.WaysOfRouted.{ways_of_routed}

@@ -9,8 +9,7 @@ use Rattle.sb_link.specs.Prefixes.{IsPrefix}
 use Rattle.sb_node.specs.Rested.{IsRestedPort, IsRestedRing, rested_port_same, rested_ring_same}
 use Rattle.sb_node.specs.Sides.{RingSide}
 use Rattle.sb_router.specs.Lanes.{InletState, no_inlet, no_port, no_ring}
-use Rattle.sb_router.specs.RestedRouters.{IsRestedRouter}
-use Rattle.sb_router.specs.Routers.{RouterSide, router_ports, router_rings}
+use Rattle.sb_router.specs.Routers.{IsRestedRouter, RouterSide, router_ports, router_rings}
 use Rattle.sb_member.specs.Ends.{port_at, ring_at}
 use Rattle.sb_member.specs.Joints.{HaveAllMet, IsJoined, joint_at, no_node, node_at, receiver_of, sender_of}
 use Rattle.sb_member.specs.Members.{IsRestedMember}

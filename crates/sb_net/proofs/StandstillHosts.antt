@@ -6,9 +6,8 @@ use Rattle.sb_link.specs.declared.answers.Turn.TheVariants.{Moved}
 use Rattle.sb_packet.specs.Networks.{Network}
 use Rattle.sb_host.specs.Hosts.{HostSide}
 use Rattle.sb_router.specs.Lanes.{no_port, no_ring}
-use Rattle.sb_laws.specs.HostSides.{IsHostBuiltFor}
-use Rattle.sb_laws.specs.NetworkStages.{network_stages}
-use Rattle.sb_laws.specs.Routed.{IsRouted}
+use Rattle.sb_laws.specs.NodeSides.{IsHostBuiltFor}
+use Rattle.sb_laws.specs.NetworkLayouts.{IsRouted, network_stages}
 use Rattle.sb_laws.specs.Standstills.{IsIdleReceiver, IsIdleSender, RoundEnd}
 use Rattle.sb_laws.proofs.HostSides.{unmoved_receives, unmoved_sends}
 use Rattle.sb_member.specs.Members.{IsMemberTurn, IsWholeMember}
@@ -30,7 +29,7 @@ module _ {F T U : Type 0} (network : Network) (routed : IsRouted network) (place
   pub idle_host : (start m : Member F T U) → IsHostNode network place m → IsWholeMember m → IsMemberTurn number start answer m → IsShown e m → IsIdleNode (network_stages network) e m
   idle_host (Host x) (Host h) built whole turn shown = record {
     senders = λ o below. subst (λ n. IsIdleSender (network_stages network) e (slice_index_or (h.requests ∷ []) n no_port).plan.ring) (sym (below_one o below))
-        (unmoved_sends (network_stages network) e x h number answer whole turn still (shown.ports 0 (omega arith)) (host_leaves network routed place here h built));
+        (unmoved_sends (network_stages network) e x h number answer whole turn still (shown.ports 0 (omega arith)) (shown.waits 0 (omega arith)) (host_leaves network routed place here h built));
     receivers = λ i below. subst (λ n. IsIdleReceiver (network_stages network) e (slice_index_or (h.answers ∷ []) n no_ring).plan.ring) (sym (below_one i below))
         (unmoved_receives (network_stages network) e x h number answer whole turn still (shown.rings 0 (omega arith)) (shown.next 0 (omega arith)) (shown.held 0 (omega arith)));
   }

@@ -11,18 +11,13 @@ use Rattle.sb_packet.specs.Networks.{NetLink, Network}
 use Rattle.sb_flow.specs.Rings.{ring_plan}
 use Rattle.sb_flow.specs.Ways.{is_some_number, router_after, router_before}
 use Rattle.sb_port.specs.Ports.{PortSide}
-use Rattle.sb_flow.specs.Accepted.{IsAccepted}
-use Rattle.sb_flow.specs.Limits.{is_limited_link}
+use Rattle.sb_flow.specs.Accepted.{IsAccepted, is_limited_link}
 use Rattle.sb_flow.proofs.RingLinks.{link_limits}
 use Rattle.sb_router.specs.Lanes.{InletState}
 use Rattle.sb_router.specs.Routers.{DirectionSide}
-use Rattle.sb_laws.specs.NetworkLayouts.{answer_ring, links_into, links_out_of, request_ring, ring_count}
-use Rattle.sb_laws.specs.NetworkStages.{answer_stage, last_stage, network_stages, stage_after, stage_back_after, stage_back_before, stage_before}
-use Rattle.sb_laws.specs.NetworkWays.{HasWays, is_link_to}
-use Rattle.sb_laws.specs.Routed.{IsRouted}
-use Rattle.sb_laws.specs.RouterLayouts.{IsBuiltFor, answer_ins, answer_outs, request_ins, request_outs}
-use Rattle.sb_laws.specs.RouterSides.{ComesInto, IsAtStage, Leaves}
-use Rattle.sb_laws.specs.Stages.{Stages}
+use Rattle.sb_laws.specs.NetworkLayouts.{HasWays, IsRouted, answer_ring, answer_stage, is_link_to, last_stage, links_into, links_out_of, network_stages, request_ring, ring_count, stage_after, stage_back_after, stage_back_before, stage_before}
+use Rattle.sb_laws.specs.RouterSides.{ComesInto, IsAtStage, IsBuiltFor, Leaves, answer_ins, answer_outs, request_ins, request_outs}
+use Rattle.sb_laws.specs.Standstills.{Stages}
 use Rattle.sb_laws.proofs.CarriedRings.{All-unmap, not_up, up}
 use Rattle.sb_laws.proofs.LinksOfWays.{device_or_router}
 use Rattle.sb_laws.proofs.NetworkLaidOut.{counted}

@@ -10,14 +10,12 @@ use Rattle.sb_packet.specs.Networks.{Network}
 use Rattle.sb_port.specs.Ports.{PortSide}
 use Rattle.sb_node.specs.Sides.{RingSide}
 use Rattle.sb_router.specs.Lanes.{InletState, LaneState, Route, held_words, inlet_at, no_inlet, no_port, no_ring}
-use Rattle.sb_router.specs.RouteOf.{route_of}
+use Rattle.sb_router.specs.Ways.{route_of}
 use Rattle.sb_router.specs.Routers.{DirectionSide, RouterSide, router_ports, router_rings}
-use Rattle.sb_laws.specs.NetworkStages.{answer_stage, network_stages}
-use Rattle.sb_laws.specs.Routed.{IsRouted}
-use Rattle.sb_laws.specs.RoundSides.{ShowsPort, ShowsRing}
+use Rattle.sb_laws.specs.NetworkLayouts.{IsRouted, answer_stage, network_stages}
+use Rattle.sb_laws.specs.NodeSides.{ShowsPort, ShowsRing}
 use Rattle.sb_laws.specs.RouterSides.{IsIdleAtRings, ShowsInlet, ShowsLane, ring_next}
-use Rattle.sb_laws.specs.Stages.{Stages}
-use Rattle.sb_laws.specs.Standstills.{IsIdleReceiver, IsIdleSender, RoundEnd}
+use Rattle.sb_laws.specs.Standstills.{IsIdleReceiver, IsIdleSender, RoundEnd, Stages}
 use Rattle.sb_laws.proofs.RouterSides.{unmoved_answers, unmoved_requests}
 use Rattle.sb_member.specs.Ends.{ring_at, rings_of}
 use Rattle.sb_member.specs.Members.{IsMemberTurn, IsWholeMember}

@@ -1,16 +1,15 @@
 -- What there is after a round, end by end of each node.
 use Rattle.std.proofs.Common.{◌≡◌, ℕ, ◌<◌, List, [], length, ap, ◌∙◌, subst}
-use Rattle.std.specs.Prelude.{None, is_some, slice_index_or, if◌then◌else◌}
+use Rattle.std.specs.Prelude.{None, false, is_some, slice_index_or, if◌then◌else◌}
 use Rattle.sb_port.specs.Ports.{PortSide, offered_words, owes}
 use Rattle.sb_node.specs.Sides.{RingSide, is_drained, is_full}
-use Rattle.sb_laws.specs.RoundSides.{ShowsPort, ShowsRing}
-use Rattle.sb_laws.specs.Stages.{Stages}
-use Rattle.sb_laws.specs.Standstills.{IsIdleReceiver, IsIdleSender, RoundEnd}
+use Rattle.sb_laws.specs.NodeSides.{ShowsPort, ShowsRing}
+use Rattle.sb_laws.specs.Standstills.{IsIdleReceiver, IsIdleSender, RoundEnd, Stages}
 use Rattle.sb_member.specs.Ends.{port_at, ports_of, ring_at, rings_of}
 use Rattle.sb_member.specs.Joints.{joint_at, node_at, receiver_of, sender_of}
 use Rattle.sb_member.specs.declared.joint.Joint.{Joint}
 use Rattle.sb_member.specs.declared.member.Member.{Member}
-use Rattle.sb_net.specs.RingEnds.{net_round_end, node_holds, node_next}
+use Rattle.sb_net.specs.RingEnds.{net_round_end, node_holds, node_next, node_waits}
 use Rattle.sb_net.specs.Standing.{IsCovered}
 use Rattle.sb_net.proofs.StandingEnds.{is_below, port_stands, ring_stands}
 
@@ -21,6 +20,7 @@ module _ {F T U : Type 0} where
     pub rings : (i : ℕ) → i < length (rings_of m) → ShowsRing e (ring_at m i).plan.ring (ring_at m i)
     pub held : (i : ℕ) → i < length (rings_of m) → e.at.held (ring_at m i).plan.ring ≡ slice_index_or (node_holds m) i []
     pub next : (i : ℕ) → i < length (rings_of m) → e.holds (ring_at m i).plan.ring ≡ slice_index_or (node_next m) i None
+    pub waits : (o : ℕ) → o < length (ports_of m) → e.waits (port_at m o).plan.ring ≡ node_waits m
 
   -- a node is idle at each of its rings
   pub record IsIdleNode (stages : Stages) (e : RoundEnd) (m : Member F T U) : Type 0 where
@@ -68,4 +68,9 @@ module _ {F T U : Type 0} (joints : List Joint) (nodes : List (Member F T U)) wh
         let j = joint_at joints r in
         ap (λ b. if b then slice_index_or (node_next (node_at nodes j.to)) j.into None else None) (is_below r (length joints) at.ring)
         ∙ ap (λ n. slice_index_or (node_next (node_at nodes n)) j.into None) at.to ∙ ap (λ n. slice_index_or (node_next (node_at nodes k)) n None) at.into;
+    waits = λ o place.
+        let at = c.ports k o inside place in
+        let r = (port_at (node_at nodes k) o).plan.ring in
+        ap (λ b. if b then node_waits (node_at nodes (joint_at joints r).from) else false) (is_below r (length joints) at.ring)
+        ∙ ap (λ n. node_waits (node_at nodes n)) at.from;
   }

@@ -1,5 +1,5 @@
 -- A round in which no node moved is a standstill.
-use Rattle.std.proofs.Common.{◌≡◌, ◌≢◌, inl, inr, ℕ, ◌+◌, ◌-◌, ◌<◌, Bool, true, false, List, length, refl, sym, ◌∙◌, subst, arith}
+use Rattle.std.proofs.Common.{◌≡◌, ◌≢◌, inl, inr, ℕ, ◌+◌, ◌-◌, ◌<◌, Bool, true, false, List, length, refl, sym, ap, ◌∙◌, subst, arith}
 use Rattle.std.specs.Prelude.{nat_lt, slice_index_or, if◌then◌else◌}
 use Rattle.std.proofs.lemmas.Bool.{cases_lt}
 use Rattle.std.proofs.lemmas.List.Elements.{All-get_or}
@@ -10,13 +10,9 @@ use Rattle.sb_packet.specs.Networks.{Network}
 use Rattle.sb_link.specs.RingPlans.{RingPlan}
 use Rattle.sb_packet.specs.declared.entry.Entry.{Entry}
 use Rattle.sb_flow.specs.Accepted.{IsAccepted}
-use Rattle.sb_laws.specs.Endings.{IsWholeStandstill}
-use Rattle.sb_laws.specs.NetworkLayouts.{network_layout, ring_count}
-use Rattle.sb_laws.specs.NetworkStages.{network_stages}
-use Rattle.sb_laws.specs.Routed.{IsRouted}
+use Rattle.sb_laws.specs.Standstills.{IsIdleReceiver, IsIdleSender, IsStandstill, IsTrueRing, IsWholeStandstill, MissesAnswer, RoundEnd, Stages}
+use Rattle.sb_laws.specs.NetworkLayouts.{IsRouted, network_layout, network_stages, ring_count}
 use Rattle.sb_laws.specs.Runs.{IsMomentOf}
-use Rattle.sb_laws.specs.Stages.{Stages}
-use Rattle.sb_laws.specs.Standstills.{IsIdleReceiver, IsIdleSender, IsStandstill, IsTrueRing, RoundEnd}
 use Rattle.sb_laws.proofs.AcceptedNetworks.{accepted_is_routed}
 use Rattle.sb_laws.proofs.RisingStages.{stages_rise, ways_within}
 use Rattle.sb_laws.proofs.SidePromises.{true_ring}
@@ -26,23 +22,17 @@ use Rattle.sb_member.specs.Members.{IsMemberTurn, IsRestedMember, IsWholeMember}
 use Rattle.sb_member.specs.declared.joint.Joint.{Joint}
 use Rattle.sb_member.specs.declared.member.Member.{Member}
 use Rattle.sb_member.specs.declared.member.Member.TheVariants.{Host, Router, Device}
-use Rattle.sb_net.specs.NetRounds.{IsNetRound}
+use Rattle.sb_net.specs.Running.{IsNetRound}
 use Rattle.sb_net.specs.RingEnds.{net_moment, net_round_end, node_waits}
 use Rattle.sb_net.specs.Standing.{IsDeviceNode, IsRouterNode, StandsFor, device_number, router_number}
-use Rattle.sb_net.proofs.StandingEnds.{fits}
+use Rattle.sb_net.proofs.StandingEnds.{fits, is_below}
 use Rattle.sb_net.proofs.StandstillDevices.{idle_device}
 use Rattle.sb_net.proofs.StandstillEnds.{met_still}
 use Rattle.sb_net.proofs.StandstillHosts.{idle_host}
 use Rattle.sb_net.proofs.StandstillRings.{has_room}
 use Rattle.sb_net.proofs.StandstillRouters.{idle_router}
 use Rattle.sb_net.proofs.StandstillShown.{IsIdleNode, IsShown, is_shown, shows_receiver, shows_sender}
-
-module _ {F T U : Type 0} where
-  -- no node waits for a slot
-  none_waits : (m : Member F T U) → node_waits m ≡ false
-  none_waits (Host h) = refl
-  none_waits (Router r) = refl
-  none_waits (Device d) = refl
+use Rattle.sb_net.proofs.StandstillWaits.{waiting_node}
 
 module _ {F T U : Type 0} (network : Network) (joints : List Joint) (before after : List (Member F T U)) (round : ℕ) (last : List Turn) (accepted : IsAccepted network)
     (stands : StandsFor network joints after) (met : HaveAllMet joints (length joints) before) (went : IsNetRound round before after last false) where
@@ -130,13 +120,19 @@ module _ {F T U : Type 0} (network : Network) (joints : List Joint) (before afte
         subst (IsIdleReceiver stages e) (stands.joined.received_by r lt) ((idle_node j.to p.to).receivers j.into p.into);
   }
 
-  -- no host waits for a slot, so in a run it is the standstill of a whole network
-  no_wait : (r : ℕ) → e.waits r ≡ false
-  no_wait r = by_test (nat_lt r (length joints))
-    where
-      by_test : (b : Bool) → (if b then node_waits (node_at after (joint_at joints r).from) else false) ≡ false
-      by_test true = none_waits (node_at after (joint_at joints r).from)
-      by_test false = refl
+  -- a node of the network, as it stands after the round
+  node_shown : (k : ℕ) → k < length after → IsShown e (node_at after k)
+  node_shown k inside = is_shown joints after stands.covered k inside
+
+  -- a host waits only while it misses an answer
+  waits_miss : (r : ℕ) → r < ring_count network → e.waits r ≡ true → MissesAnswer network (network_layout network) e.at r
+  waits_miss r below waits =
+      let lt = joint_there r below in
+      let p = stands.joined.placed r lt in
+      let j = joint_at joints r in
+      let here : node_waits (node_at after j.from) ≡ true = sym (ap (λ b. if b then node_waits (node_at after j.from) else false) (is_below r (length joints) lt)) ∙ waits in
+      subst (MissesAnswer network (network_layout network) e.at) (stands.joined.sent_by r lt)
+      (waiting_node network routed e joints after stands j.from p.from (whole_node j.from p.from) (node_shown j.from p.from) here j.out p.out)
 
   pub whole_standstill : (journal : List Entry) → IsMomentOf network (network_layout network) journal (net_moment joints after) → IsWholeStandstill network (network_layout network) journal stages e
   whole_standstill journal moment = record {
@@ -144,5 +140,5 @@ module _ {F T U : Type 0} (network : Network) (joints : List Joint) (before afte
     moment = moment;
     inside = λ r below. (refl, refl);
     within = ways_within network (ways_of_routed network routed);
-    windows = λ r below waits. absurd (let never : true ≡ false = sym waits ∙ no_wait r in cc);
+    windows = waits_miss;
   }

@@ -3,10 +3,9 @@ use Rattle.std.proofs.Common.{◌≡◌, ℕ, ◌+◌, ◌-◌, ◌<◌, ◌≤�
 use Rattle.std.specs.Prelude.{Option, Some, None, flat_map, nat_lt, slice_get, slice_index_or, vec_capacity}
 use Rattle.std.proofs.Math.Nat.{add-sub_of_le}
 use Rattle.std.proofs.lemmas.Option.{slice_get_within}
-use Rattle.sb_packet.specs.Answers.{final_memory}
+use Rattle.sb_packet.specs.Answers.{final_memory, host_outcomes}
 use Rattle.sb_packet.specs.Memories.{MemoryState}
 use Rattle.sb_packet.specs.Networks.{NetHost, Network}
-use Rattle.sb_packet.specs.Outcomes.{host_outcomes}
 use Rattle.sb_packet.specs.declared.entry.Entry.{Entry}
 use Rattle.sb_node.specs.Sides.{received_words}
 use Rattle.sb_host.specs.Hosts.{HostSide, IsWholeHost}

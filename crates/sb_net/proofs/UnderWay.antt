@@ -8,14 +8,12 @@ use Rattle.std.proofs.lemmas.List.FromFn.{get_or-map-range_with_len, length-map-
 use Rattle.sb_packet.specs.Journals.{is_in_round_order, Ledger}
 use Rattle.sb_packet.specs.Networks.{Network}
 use Rattle.sb_packet.specs.declared.entry.Entry.{Entry}
-use Rattle.sb_flow.specs.Accepted.{IsAccepted}
-use Rattle.sb_flow.specs.Limits.{word_count}
+use Rattle.sb_flow.specs.Accepted.{IsAccepted, word_count}
 use Rattle.sb_member.specs.Joints.{HaveAllMet, MeetAlong, node_at}
 use Rattle.sb_member.specs.Members.{IsWholeMember}
 use Rattle.sb_member.specs.declared.joint.Joint.{Joint}
 use Rattle.sb_member.specs.declared.member.Member.{Member}
-use Rattle.sb_net.specs.Collecting.{counts_from, entries_behind, entries_from}
-use Rattle.sb_net.specs.Recorded.{IsRecorded, device_entries, entry_counts, member_entries, new_entries}
+use Rattle.sb_net.specs.Recorded.{IsRecorded, counts_from, device_entries, entries_behind, entries_from, entry_counts, member_entries, new_entries}
 use Rattle.sb_net.specs.RingEnds.{AreLinked}
 use Rattle.sb_net.specs.Running.{HasGone, HasRun, IsReady}
 use Rattle.sb_net.specs.Spent.{network_moves, spent}

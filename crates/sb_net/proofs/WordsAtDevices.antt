@@ -15,11 +15,10 @@ use Rattle.sb_flow.specs.Rings.{counted_accesses, has_link, is_answered, is_upwa
 use Rattle.sb_packet.specs.Scripts.{script_accesses, transaction_accesses, transaction_message}
 use Rattle.sb_flow.specs.Ways.{NetWay, aims_at, host_ways, network_ways, way_links}
 use Rattle.sb_packet.specs.declared.transaction.Txn.{Txn}
-use Rattle.sb_flow.specs.Limits.{word_count}
+use Rattle.sb_flow.specs.Accepted.{word_count}
 use Rattle.sb_flow.proofs.Maps.{sum_by_map}
 use Rattle.sb_flow.proofs.WordBounds.{sum_by-zeros}
-use Rattle.sb_laws.specs.NetworkLayouts.{link_into, request_ring}
-use Rattle.sb_laws.specs.NetworkWays.{HasWays, IsWayTo}
+use Rattle.sb_laws.specs.NetworkLayouts.{HasWays, IsWayTo, link_into, request_ring}
 use Rattle.std.proofs.lemmas.Bool.{and_parts}
 use Rattle.sb_laws.proofs.LinksOfWays.{only_to_device}
 use Rattle.sb_laws.proofs.LinksToDevices.{link_into_leads}

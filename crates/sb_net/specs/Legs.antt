@@ -1,10 +1,8 @@
--- The legs of a network's links before anything goes over them: at which nodes they stand, and at which places there.
-use Rattle.std.specs.Prelude.{◌≡◌, ℕ, ◌+◌, ◌/◌, ◌<◌, ◌==◌, List, [], length, map, filter, slice_get, slice_index_or, if◌then◌else◌}
+-- The legs of a network's links before anything goes over them, and the nodes that are made at them.
+use Rattle.std.specs.Prelude.{◌≡◌, ℕ, ◌+◌, ◌/◌, ◌<◌, ◌==◌, List, [], length, map, filter, slice_get, slice_index_or, if◌then◌else◌, All, ◌++◌}
 use Rattle.std.specs.declared.vec.Vec.{Vec}
 use Rattle.std.specs.List.{range_with_len}
 use Rattle.std.specs.Option.{option_map_or}
-use Rattle.sb_link.specs.declared.ends.RxEnd as rx
-use Rattle.sb_link.specs.declared.ends.TxEnd as tx
 use Rattle.sb_packet.specs.Networks.{NetPlace, Network, at_device, at_host, at_router}
 use Rattle.sb_link.specs.RingPlans.{RingPlan}
 use Rattle.sb_flow.specs.Rings.{is_upward, ring_plan}
@@ -12,7 +10,16 @@ use Rattle.sb_port.specs.declared.leg.InLeg.{InLeg}
 use Rattle.sb_port.specs.declared.leg.OutLeg.{OutLeg}
 use Rattle.sb_laws.specs.NetworkLayouts.{answer_ring, request_ring, ring_count}
 use Rattle.sb_member.specs.declared.joint.Joint.{Joint}
-use Rattle.sb_net.specs.Standing.{device_number, node_count, router_number}
+use Rattle.sb_net.specs.Standing.{IsDeviceNode, IsHostNode, IsRouterNode, device_number, node_count, router_number}
+use Rattle.sb_port.specs.Ports.{fresh_port}
+use Rattle.sb_node.specs.Sides.{ring_side}
+use Rattle.sb_member.specs.Ends.{ports_of, rings_of}
+use Rattle.sb_member.specs.Members.{IsWholeMember}
+use Rattle.sb_member.specs.declared.member.Member.{Member}
+use Rattle.sb_member.specs.Joints.{node_at}
+use Rattle.sb_net.specs.Recorded.{member_entries}
+use Rattle.sb_link.specs.declared.ends.RxEnd as rx
+use Rattle.sb_link.specs.declared.ends.TxEnd as tx
 
 -- the number of the node that is an end of a link
 abbrev pub place_number : Network → NetPlace → ℕ
@@ -103,3 +110,47 @@ module _ {F T U : Type 0} where
     pub legs : (k : ℕ) (a : OutLeg F T U) (b : InLeg F T U) → k < n
         → AreLegsOf tx rx network k (slice_index_or (pile_at outs (node_before network k)) (place_at_node (node_before network) k) a)
         (slice_index_or (pile_at ins (node_after network k)) (place_at_node (node_after network) k) b)
+
+-- A node that was made at its legs.
+
+module _ {F T U : Type 0} where
+  -- a leg's ends are of the two rings of its link, and nothing went over them
+  pub record IsOutLeg (tx : tx.Ghosts T) (rx : rx.Ghosts U) (network : Network) (leg : OutLeg F T U) : Type 0 where
+    pub there : leg.link < length network.links
+    pub asks : tx.planned leg.requests ≡ ring_plan network (request_ring leg.link)
+    pub learns : rx.planned leg.answers ≡ ring_plan network (answer_ring leg.link)
+    pub unasked : tx.sent leg.requests ≡ []
+    pub unlearnt : rx.received leg.answers ≡ []
+
+  pub record IsInLeg (tx : tx.Ghosts T) (rx : rx.Ghosts U) (network : Network) (leg : InLeg F T U) : Type 0 where
+    pub there : leg.link < length network.links
+    pub hears : rx.planned leg.requests ≡ ring_plan network (request_ring leg.link)
+    pub tells : tx.planned leg.answers ≡ ring_plan network (answer_ring leg.link)
+    pub unheard : rx.received leg.requests ≡ []
+    pub untold : tx.sent leg.answers ≡ []
+
+  -- These are all legs of the node with that number, in the order of links.
+  pub record AreLegsAt (tx : tx.Ghosts T) (rx : rx.Ghosts U) (network : Network) (number : ℕ) (outs : List (OutLeg F T U)) (ins : List (InLeg F T U)) : Type 0 where
+    pub outs_here : links_out outs ≡ links_at (node_before network) (length network.links) number
+    pub ins_here : links_in ins ≡ links_at (node_after network) (length network.links) number
+    pub outs_fresh : All (IsOutLeg tx rx network) outs
+    pub ins_fresh : All (IsInLeg tx rx network) ins
+
+  -- a node is what has that number in a network
+  pub record IsNodeOf (network : Network) (number : ℕ) (node : Member F T U) : Type 0 where
+    pub host : number < length network.hosts → IsHostNode network number node
+    pub router : (r : ℕ) → r < length network.routers → number ≡ router_number network r → IsRouterNode network r node
+    pub device : (d : ℕ) → d < length network.devices → number ≡ device_number network d → IsDeviceNode network d node
+
+  -- A node is made at its legs: it is whole, its ends are those of the legs, and it has done nothing.
+  pub record IsMadeAt (tx : tx.Ghosts T) (rx : rx.Ghosts U) (network : Network) (number : ℕ) (outs : List (OutLeg F T U)) (ins : List (InLeg F T U)) (node : Member F T U) : Type 0 where
+    pub whole : IsWholeMember node
+    pub ports : ports_of node ≡ map (λ leg. fresh_port tx leg.requests) outs ++ map (λ leg. fresh_port tx leg.answers) ins
+    pub rings : rings_of node ≡ map (λ leg. ring_side rx leg.requests) ins ++ map (λ leg. ring_side rx leg.answers) outs
+    pub kind : IsNodeOf network number node
+    pub unserved : member_entries node ≡ []
+
+  -- the first nodes are made at their piles of legs
+  pub record AreMadeAt (tx : tx.Ghosts T) (rx : rx.Ghosts U) (network : Network) (n : ℕ) (outs : List (List (OutLeg F T U))) (ins : List (List (InLeg F T U))) (nodes : List (Member F T U)) : Type 0 where
+    pub count : length nodes ≡ n
+    pub each : (m : ℕ) → m < n → IsMadeAt tx rx network m (pile_at outs m) (pile_at ins m) (node_at nodes m)

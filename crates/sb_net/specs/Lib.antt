@@ -1,14 +1,10 @@
 pub mod Standing
-pub mod RingEnds
-pub mod NetRounds
-pub mod Recorded
 pub mod Spent
 pub mod Over
-pub mod Collecting
+pub mod Recorded
 pub mod Running
 pub mod Legs
-pub mod Made
 pub mod Nets
 pub mod Apart
-pub mod GivenBack
+pub mod RingEnds
 pub mod Settled

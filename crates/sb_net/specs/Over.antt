@@ -1,9 +1,8 @@
 -- The end of a run.
 use Rattle.std.specs.Prelude.{◌≡◌, ℕ, ◌<◌, true, List, length, Some, slice_get}
 use Rattle.sb_packet.specs.Journals.{IsLawful}
-use Rattle.sb_packet.specs.Answers.{final_memory}
+use Rattle.sb_packet.specs.Answers.{final_memory, host_outcomes}
 use Rattle.sb_packet.specs.Networks.{NetHost, Network}
-use Rattle.sb_packet.specs.Outcomes.{host_outcomes}
 use Rattle.sb_flow.specs.Rings.{IsCarried}
 use Rattle.sb_packet.specs.declared.entry.Entry.{Entry}
 use Rattle.sb_node.specs.Sides.{is_done, received_words}

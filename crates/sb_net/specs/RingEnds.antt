@@ -1,12 +1,12 @@
--- What stands at the two ends of each ring of a network's nodes, by the ring's number: the moment of a run at which they are, and what there is after a round.
-use Rattle.std.specs.Prelude.{ℕ, ◌<◌, nat_lt, Bool, false, is_some, List, [], ◌∷◌, ◌++◌, length, map, Option, None, slice_index_or, if◌then◌else◌}
+-- What stands at the two ends of each ring of a network's nodes, by the ring's number, and how rings are given back.
+use Rattle.std.specs.Prelude.{ℕ, ◌<◌, nat_lt, Bool, false, is_some, List, [], ◌∷◌, ◌++◌, length, map, Option, None, slice_index_or, if◌then◌else◌, ◌≡◌, Some}
 use Rattle.sb_packet.specs.Accesses.{Access}
 use Rattle.sb_link.specs.Prefixes.{IsPrefix}
 use Rattle.sb_port.specs.Ports.{PortSide, offered_words, owes}
-use Rattle.sb_node.specs.Sides.{RingSide, is_drained, is_full}
+use Rattle.sb_node.specs.Sides.{RingSide, is_drained, is_full, ring_side}
 use Rattle.sb_host.specs.Hosts.{host_wait}
 use Rattle.sb_router.specs.Lanes.{held_words, no_port, no_ring}
-use Rattle.sb_router.specs.RouteOf.{route_of}
+use Rattle.sb_router.specs.Ways.{route_of}
 use Rattle.sb_router.specs.Routers.{DirectionSide}
 use Rattle.sb_laws.specs.Moments.{Moment}
 use Rattle.sb_laws.specs.RouterSides.{ring_next}
@@ -14,7 +14,8 @@ use Rattle.sb_laws.specs.Standstills.{RoundEnd}
 use Rattle.sb_member.specs.Joints.{joint_at, node_at, receiver_of, sender_of}
 use Rattle.sb_member.specs.declared.joint.Joint.{Joint}
 use Rattle.sb_member.specs.declared.member.Member.{Member}
-use Rattle.sb_member.specs.declared.member.Member.TheVariants.{Host, Router, Device}
+use Rattle.sb_member.specs.declared.member.Member.TheVariants.{Device, Host, Router}
+use Rattle.sb_link.specs.declared.ends.RxEnd as rx
 
 -- the words that a direction holds of each ring that comes in, and the ring to which they go next
 abbrev pub direction_holds : DirectionSide → List (List Access)
@@ -80,3 +81,14 @@ module _ {F T U : Type 0} where
     -- What was received by each ring begins what was sent over it.
     abbrev pub AreLinked : Type 0
     AreLinked = (r : ℕ) → r < length joints → IsPrefix (receiver_of nodes (joint_at joints r)).received (sender_of nodes (joint_at joints r)).state.sent
+
+-- Rings that are given back to their fabric.
+
+-- At the number of a ring lie its port and its end.
+pub record HasEndsAt {U : Type 0} (rx : rx.Ghosts U) (r : ℕ) (ports : List (Option PortSide)) (ends : List (Option U)) : Type 0 where
+  pub port : PortSide
+  pub end : U
+  pub port_there : slice_index_or ports r None ≡ Some port
+  pub end_there : slice_index_or ends r None ≡ Some end
+  pub ring : port.plan.ring ≡ r
+  pub marks : port.mark ≡ (ring_side rx end).mark

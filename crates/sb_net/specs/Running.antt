@@ -1,19 +1,27 @@
--- A run of a network's nodes, from its first round to its end.
-use Rattle.std.specs.Prelude.{◌≡◌, ◌≤◌, ◌<◌, ◌+◌, ℕ, Bool, List, [], length, All}
+-- A run of a network's nodes, round by round, from its first round to its end.
+use Rattle.std.specs.Prelude.{ℕ, Bool, List, ◌≡◌, ◌≤◌, ◌<◌, ◌+◌, [], length, All}
+use Rattle.sb_drive.specs.Rounds.{IsRound}
+use Rattle.sb_link.specs.declared.answers.Turn.{Turn}
+use Rattle.sb_member.specs.Members.{IsKeptMember, IsMemberTurn, IsRestedMember}
+use Rattle.sb_member.specs.declared.member.Member.{Member}
 use Rattle.sb_packet.specs.Journals.{Ledger}
 use Rattle.sb_packet.specs.Networks.{Network}
 use Rattle.sb_packet.specs.declared.entry.Entry.{Entry}
-use Rattle.sb_flow.specs.Accepted.{IsAccepted}
-use Rattle.sb_flow.specs.Limits.{word_count}
+use Rattle.sb_flow.specs.Accepted.{IsAccepted, word_count}
 use Rattle.sb_member.specs.Joints.{HaveAllMet}
 use Rattle.sb_member.specs.declared.joint.Joint.{Joint}
-use Rattle.sb_member.specs.declared.member.Member.{Member}
-use Rattle.sb_net.specs.NetRounds.{IsNetRound}
 use Rattle.sb_net.specs.Over.{IsOver}
 use Rattle.sb_net.specs.Recorded.{device_entries, entry_counts}
 use Rattle.sb_net.specs.Spent.{network_moves}
 use Rattle.sb_net.specs.Standing.{StandsFor}
-use Rattle.sb_link.specs.declared.answers.Turn.{Turn}
+
+-- A round of a network's nodes.
+
+module _ {F T U : Type 0} where
+  -- What a round of that number does to the nodes, with their last answers, and whether one of them moved.
+  abbrev pub IsNetRound : ℕ → List (Member F T U) → List (Member F T U) → List Turn → Bool → Type 0
+  IsNetRound number before after last moved =
+      IsRound (λ round x y. IsKeptMember round x y) (λ x y. IsRestedMember x y) (λ x round answer y. IsMemberTurn round x answer y) number before after last moved
 
 module _ {F T U : Type 0} where
   -- Nodes are built for a network: they stand at its rings, whose ends have met, and no device has served anything.

@@ -1,10 +1,9 @@
 -- What remains of a network that was settled, and when it tells what a journal says.
 use Rattle.std.specs.Prelude.{◌≡◌, ℕ, ◌<◌, false, List, [], length, Some, slice_get, slice_index_or}
 use Rattle.sb_packet.specs.Accesses.{Access}
-use Rattle.sb_packet.specs.Answers.{final_memory}
+use Rattle.sb_packet.specs.Answers.{Outcome, final_memory, host_outcomes}
 use Rattle.sb_packet.specs.Memories.{MemoryState}
 use Rattle.sb_packet.specs.Networks.{NetHost, Network}
-use Rattle.sb_packet.specs.Outcomes.{Outcome, host_outcomes}
 use Rattle.sb_packet.specs.declared.entry.Entry.{Entry}
 use Rattle.sb_host.specs.Asked.{asked_by}
 use Rattle.sb_host.specs.Outcomes.{outcomes_so_far}

@@ -4,7 +4,7 @@ use Rattle.std.specs.List.{range_with_len}
 use Rattle.sb_packet.specs.Networks.{Network}
 use Rattle.sb_flow.specs.Rings.{ring_budget}
 use Rattle.sb_node.specs.Sides.{port_moves}
-use Rattle.sb_router.specs.Moves.{inlet_moves}
+use Rattle.sb_router.specs.Rested.{inlet_moves}
 use Rattle.sb_laws.specs.Moves.{move_bound}
 use Rattle.sb_laws.specs.NetworkLayouts.{ring_count}
 use Rattle.sb_member.specs.Joints.{joint_at, node_at}

@@ -5,10 +5,9 @@ use Rattle.sb_flow.specs.Rings.{ring_plan}
 use Rattle.sb_device.specs.Sides.{DeviceSide}
 use Rattle.sb_device.specs.Served.{HasServed}
 use Rattle.sb_router.specs.Routers.{ForwardsAll, RouterSide}
-use Rattle.sb_laws.specs.HostSides.{IsHostBuiltFor}
+use Rattle.sb_laws.specs.NodeSides.{IsHostBuiltFor}
 use Rattle.sb_laws.specs.NetworkLayouts.{answer_ring, link_into, network_answers, network_requests, request_ring, ring_count}
-use Rattle.sb_laws.specs.RouterLayouts.{IsBuiltFor, answer_ins, answer_outs, request_ins, request_outs}
-use Rattle.sb_laws.specs.RouterSides.{course_words}
+use Rattle.sb_laws.specs.RouterSides.{IsBuiltFor, answer_ins, answer_outs, course_words, request_ins, request_outs}
 use Rattle.sb_member.specs.Ends.{port_at, ports_of, ring_at, rings_of}
 use Rattle.sb_member.specs.Joints.{IsJoined, joint_at, node_at, receiver_of, sender_of}
 use Rattle.sb_member.specs.declared.joint.Joint.{Joint}

@@ -3,8 +3,7 @@
 ghost use Rattle.std.specs.Prelude.{◌≡◌, ◌≤◌, ◌<◌, ◌+◌, ◌^◌, ◌++◌, ℕ, length, slice_index_or};
 ghost use Rattle.sb_member.specs.Groups.{IsDealt, dealt_nodes, grouped_nodes, node_total};
 ghost use Rattle.sb_member.specs.Joints.{node_at};
-ghost use Rattle.sb_net.specs.Collecting.{counts_from, entries_from};
-ghost use Rattle.sb_net.specs.Recorded.{member_entries};
+ghost use Rattle.sb_net.specs.Recorded.{counts_from, entries_from, member_entries};
 
 use sb_drive::Group;
 use sb_link::Fabric;

@@ -2,7 +2,7 @@
 
 ghost use Rattle.std.specs.Prelude.{◌≡◌, ◌<◌, ℕ, List, [], false, length, replicate, IfOk};
 ghost use Rattle.sb_packet.specs.Networks.{Network};
-ghost use Rattle.sb_packet.specs.Outcomes.{run_results};
+ghost use Rattle.sb_packet.specs.Answers.{run_results};
 ghost use Rattle.sb_packet.specs.declared.entry.Entry.{Entry};
 ghost use Rattle.sb_flow.specs.Accepted.{IsAccepted};
 ghost use Rattle.sb_flow.specs.NetworkOf.{network_of};

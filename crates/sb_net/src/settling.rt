@@ -1,9 +1,8 @@
 //! A network is taken apart, and its rings are given back.
 
 ghost use Rattle.std.specs.Prelude.{◌≡◌, ◌<◌, ℕ, List, Some, false, flat_map, length, slice_get};
-ghost use Rattle.sb_packet.specs.Answers.{final_memory};
+ghost use Rattle.sb_packet.specs.Answers.{Outcome, final_memory};
 ghost use Rattle.sb_packet.specs.Networks.{NetHost, Network};
-ghost use Rattle.sb_packet.specs.Outcomes.{Outcome};
 ghost use Rattle.sb_packet.specs.declared.entry.Entry.{Entry};
 ghost use Rattle.sb_net.specs.Settled.{TellsRun, memory_at, outcome_at, transactions_at};
 ghost use Rattle.sb_node.specs.Sides.{received_words};
@@ -102,7 +101,7 @@ impl SettledNet {
 impl Results for SettledNet {
     ghost use Rattle.std.specs.Prelude.{◌≡◌, List};
     ghost use Rattle.sb_packet.specs.Networks.{Network};
-    ghost use Rattle.sb_packet.specs.Outcomes.{run_results};
+    ghost use Rattle.sb_packet.specs.Answers.{run_results};
     ghost use Rattle.sb_packet.specs.declared.entry.Entry.{Entry};
     ghost use Rattle.sb_net.specs.Settled.{TellsRun};
 

@@ -60,7 +60,8 @@ pub(crate) fn run_side_by_side<R: Threads + Sync, F: MeetFabric, G: Gate + Sync>
     journal: &mut Journal,
 )
     requires dealt { IsDealt (grouped_nodes groups.old) }
-    requires ready { (network : Network) × IsReady network first collected.old joints.now (dealt_nodes (grouped_nodes groups.old)) journal.old }
+    requires ready { (network : Network) × IsReady network first collected.old joints.now
+        (dealt_nodes (grouped_nodes groups.old)) journal.old }
     ensures run { (network : Network) → IsReady network first collected.old joints.now (dealt_nodes (grouped_nodes groups.old)) journal.old
         → HasRun network journal.new.entries joints.now (dealt_nodes (grouped_nodes groups.new)) }
     ensures count { length groups.new ≡ length groups.old }

@@ -1,15 +1,14 @@
 //! Laws of how much is done at the rings of a network.
 
 ghost use Rattle.std.specs.Prelude.{◌≡◌, ◌≤◌, ◌<◌, ◌-◌, ◌^◌, ℕ, Bool, true, List, length};
-ghost use Rattle.sb_flow.specs.Accepted.{IsAccepted};
-ghost use Rattle.sb_flow.specs.Limits.{word_count};
+ghost use Rattle.sb_flow.specs.Accepted.{IsAccepted, word_count};
 ghost use Rattle.sb_link.specs.declared.answers.Turn.{Turn};
 ghost use Rattle.sb_packet.specs.Networks.{Network};
 ghost use Rattle.sb_packet.specs.declared.entry.Entry.{Entry};
 ghost use Rattle.sb_member.specs.Joints.{MeetAlong};
 ghost use Rattle.sb_member.specs.declared.joint.Joint.{Joint as AnyJoint};
 ghost use Rattle.sb_member.specs.declared.member.Member.{Member as AnyMember};
-ghost use Rattle.sb_net.specs.NetRounds.{IsNetRound};
+ghost use Rattle.sb_net.specs.Running.{IsNetRound};
 ghost use Rattle.sb_net.specs.Recorded.{IsRecorded};
 ghost use Rattle.sb_net.specs.RingEnds.{AreLinked};
 ghost use Rattle.sb_net.specs.Spent.{network_moves, spent};

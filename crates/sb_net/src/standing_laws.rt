@@ -12,7 +12,7 @@ ghost use Rattle.sb_member.specs.Joints.{HaveAllMet, MeetAlong};
 ghost use Rattle.sb_member.specs.Members.{IsWholeMember};
 ghost use Rattle.sb_member.specs.declared.joint.Joint.{Joint as AnyJoint};
 ghost use Rattle.sb_member.specs.declared.member.Member.{Member as AnyMember};
-ghost use Rattle.sb_net.specs.NetRounds.{IsNetRound};
+ghost use Rattle.sb_net.specs.Running.{IsNetRound};
 ghost use Rattle.sb_net.specs.Recorded.{IsRecorded, device_entries, entry_counts, new_entries};
 ghost use Rattle.sb_net.specs.RingEnds.{AreLinked, net_moment};
 ghost use Rattle.sb_net.specs.Standing.{StandsFor};

@@ -5,15 +5,13 @@ ghost use Rattle.sb_flow.specs.Accepted.{IsAccepted};
 ghost use Rattle.sb_link.specs.declared.answers.Turn.{Turn};
 ghost use Rattle.sb_packet.specs.Networks.{Network};
 ghost use Rattle.sb_packet.specs.declared.entry.Entry.{Entry};
-ghost use Rattle.sb_laws.specs.Endings.{IsWholeStandstill};
-ghost use Rattle.sb_laws.specs.NetworkLayouts.{network_layout};
-ghost use Rattle.sb_laws.specs.NetworkStages.{network_stages};
+ghost use Rattle.sb_laws.specs.Standstills.{IsStandstill, IsWholeStandstill};
+ghost use Rattle.sb_laws.specs.NetworkLayouts.{network_layout, network_stages};
 ghost use Rattle.sb_laws.specs.Runs.{IsMomentOf};
-ghost use Rattle.sb_laws.specs.Standstills.{IsStandstill};
 ghost use Rattle.sb_member.specs.Joints.{HaveAllMet};
 ghost use Rattle.sb_member.specs.declared.joint.Joint.{Joint as AnyJoint};
 ghost use Rattle.sb_member.specs.declared.member.Member.{Member as AnyMember};
-ghost use Rattle.sb_net.specs.NetRounds.{IsNetRound};
+ghost use Rattle.sb_net.specs.Running.{IsNetRound};
 ghost use Rattle.sb_net.specs.RingEnds.{AreLinked, net_moment, net_round_end};
 ghost use Rattle.sb_net.specs.Standing.{StandsFor};
 

@@ -3,7 +3,7 @@
 ghost use Rattle.std.specs.Prelude.{◌≡◌, ◌<◌, [], length, IfOk};
 ghost use Rattle.sb_packet.specs.Networks.{opening_memory};
 ghost use Rattle.sb_flow.specs.NetworkOf.{network_of};
-ghost use Rattle.sb_net.specs.Made.{AreLegsAt, IsMadeAt};
+ghost use Rattle.sb_net.specs.Legs.{AreLegsAt, IsMadeAt};
 ghost use Rattle.sb_net.specs.Standing.{device_number};
 
 use sb_device::Device;

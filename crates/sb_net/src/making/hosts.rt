@@ -2,7 +2,7 @@
 
 ghost use Rattle.std.specs.Prelude.{◌<◌, [], length, IfOk};
 ghost use Rattle.sb_flow.specs.NetworkOf.{network_of};
-ghost use Rattle.sb_net.specs.Made.{AreLegsAt, IsMadeAt};
+ghost use Rattle.sb_net.specs.Legs.{AreLegsAt, IsMadeAt};
 
 use sb_flow::Bundle;
 use sb_host::Host;

@@ -3,8 +3,7 @@
 ghost use Rattle.std.specs.Prelude.{◌≡◌, ◌<◌, length, IfOk};
 ghost use Rattle.sb_flow.specs.NetworkOf.{network_of};
 ghost use Rattle.sb_flow.specs.Tables.{paths_of};
-ghost use Rattle.sb_net.specs.Legs.{AreDealt, piles_of};
-ghost use Rattle.sb_net.specs.Made.{AreLegsAt, AreMadeAt, IsMadeAt};
+ghost use Rattle.sb_net.specs.Legs.{AreDealt, AreLegsAt, AreMadeAt, IsMadeAt, piles_of};
 ghost use Rattle.sb_net.specs.Standing.{node_count};
 
 use super::dealing::Dealt;

@@ -3,7 +3,7 @@
 ghost use Rattle.std.specs.Prelude.{◌≡◌, ◌<◌, ℕ, false, None, Some, Contains, length, slice_index_or};
 ghost use Rattle.sb_port.specs.Ports.{PortSide};
 ghost use Rattle.sb_node.specs.Sides.{received_words, ring_side};
-ghost use Rattle.sb_net.specs.GivenBack.{HasEndsAt};
+ghost use Rattle.sb_net.specs.RingEnds.{HasEndsAt};
 
 use sb_link::Fabric;
 use sb_port::OutPort;

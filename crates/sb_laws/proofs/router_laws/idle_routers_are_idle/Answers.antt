@@ -1,5 +1,5 @@
 -- A direction that did nothing is idle at its rings.
-use Rattle.sb_router.specs.RouteOf.{route_of}
+use Rattle.sb_router.specs.Ways.{route_of}
 use Rattle.sb_laws.proofs.RouterSides.{idle_receivers, idle_senders}
 use Rattle.sb_laws.proofs.router_laws.idle_routers_are_idle.Goals as goal
 

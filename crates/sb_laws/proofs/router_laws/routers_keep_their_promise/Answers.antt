@@ -1,5 +1,5 @@
 -- A direction that has handed on what came keeps a router's promise.
-use Rattle.sb_router.specs.RouteOf.{route_of}
+use Rattle.sb_router.specs.Ways.{route_of}
 use Rattle.sb_laws.proofs.RouterSides.{router_promise}
 use Rattle.sb_laws.proofs.router_laws.routers_keep_their_promise.Goals as goal
 

@@ -9,8 +9,7 @@ use Rattle.sb_packet.specs.declared.entry.Entry.{Entry}
 use Rattle.sb_member.specs.Groups.{dealt_nodes, grouped_nodes}
 use Rattle.sb_member.specs.Joints.{node_at}
 use Rattle.sb_member.proofs.RingsJoined.{below_not, same_or_not}
-use Rattle.sb_net.specs.Collecting.{counts_from, entries_behind}
-use Rattle.sb_net.specs.Recorded.{member_entries}
+use Rattle.sb_net.specs.Recorded.{counts_from, entries_behind, member_entries}
 use Rattle.sb_net.proofs.CollectedPlaces.{places_more, places_room}
 use Rattle.sb_net.proofs.collecting.collect.Goals as goal
 

@@ -4,8 +4,7 @@ use Rattle.std.specs.Prelude.{flat_map, slice_index_or}
 use Rattle.std.specs.List.{range_with_len}
 use Rattle.sb_member.specs.Groups.{dealt_nodes, grouped_nodes}
 use Rattle.sb_member.specs.Joints.{node_at}
-use Rattle.sb_net.specs.Collecting.{entries_behind}
-use Rattle.sb_net.specs.Recorded.{member_entries}
+use Rattle.sb_net.specs.Recorded.{entries_behind, member_entries}
 use Rattle.sb_net.proofs.collecting.collect.Given as goal
 
 abbrev pub invariant-loop-device : goal.invariant-loop-device

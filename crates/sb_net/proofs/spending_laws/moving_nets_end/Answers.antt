@@ -1,6 +1,6 @@
 -- Rounds in which a node moves are few.
 use Rattle.std.proofs.Common.{subst}
-use Rattle.sb_net.specs.NetRounds.{IsNetRound}
+use Rattle.sb_net.specs.Running.{IsNetRound}
 use Rattle.sb_net.proofs.SpendingBounds.{moves_are_small, spent_within}
 use Rattle.sb_net.proofs.SpendingMeetings.{meetings_do_nothing}
 use Rattle.sb_net.proofs.SpendingRounds.{round_adds, turned}

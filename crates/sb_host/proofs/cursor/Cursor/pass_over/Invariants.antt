@@ -1,6 +1,6 @@
 -- What was passed over so far is aimed at no device, and no packet went with it.
 use Rattle.std.proofs.Common.{◌≡◌, ◌-◌, length}
-use Rattle.sb_host.specs.Issuing.{HasComeTo, HasPassedOver, packets_left}
+use Rattle.sb_host.specs.Progress.{HasComeTo, HasPassedOver, packets_left}
 use Rattle.sb_host.specs.Places.{asked_of}
 use Rattle.sb_host.proofs.cursor.Cursor.pass_over.Given as goal
 

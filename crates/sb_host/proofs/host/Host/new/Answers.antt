@@ -14,9 +14,8 @@ use Rattle.sb_flow.specs.NetworkOf.{network_of}
 use Rattle.sb_flow.specs.Rows.{host_of}
 use Rattle.sb_flow.proofs.Bundles.{accepted, idle_plan}
 use Rattle.sb_host.specs.Asked.{Asked}
-use Rattle.sb_host.specs.Issuing.{IsMadeFor}
+use Rattle.sb_host.specs.Progress.{IsMadeFor, TransactionsSide}
 use Rattle.sb_host.specs.Places.{AreIssuable, asked_of}
-use Rattle.sb_host.specs.Progress.{TransactionsSide}
 use Rattle.sb_host.proofs.Beginning.{begins_in_order, orders_issuable}
 use Rattle.sb_host.proofs.OwnRings.{own_ring_made}
 use Rattle.sb_host.proofs.host.Host.new.Goals as goal

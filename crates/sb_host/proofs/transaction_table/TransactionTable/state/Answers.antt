@@ -1,6 +1,6 @@
 -- What the row tells is what has become of the transaction.
 use Rattle.std.proofs.Common.{◌∙◌, ap, sym}
-use Rattle.sb_packet.specs.Outcomes.{Outcome}
+use Rattle.sb_packet.specs.Answers.{Outcome}
 use Rattle.sb_host.proofs.NewTable.{outcome_kept}
 use Rattle.sb_host.proofs.transaction_table.TransactionTable.state.Goals as goal
 

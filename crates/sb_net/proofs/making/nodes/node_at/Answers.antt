@@ -3,7 +3,7 @@ use Rattle.std.proofs.Common.{◌≡◌, ◌<◌, ◌-◌, [], length, sym, ◌�
 use Rattle.std.specs.Prelude.{IfOk}
 use Rattle.sb_flow.specs.NetworkOf.{network_of}
 use Rattle.sb_flow.proofs.Bundles.{accepted, few_devices, host_count}
-use Rattle.sb_net.specs.Made.{AreLegsAt, IsMadeAt}
+use Rattle.sb_net.specs.Legs.{AreLegsAt, IsMadeAt}
 use Rattle.sb_net.specs.Standing.{device_number, router_number}
 use Rattle.sb_net.proofs.HostsMade.{no_things}
 use Rattle.sb_net.proofs.NodeLinks.{device_link, host_link}

@@ -3,8 +3,7 @@ use Rattle.std.proofs.Common.{◌≡◌, ◌<◌, ◌+◌, drop, refl, sym, ap, 
 use Rattle.std.proofs.lemmas.List.{length-map}
 use Rattle.sb_flow.specs.NetworkOf.{network_of}
 use Rattle.sb_flow.proofs.Bundles.{accepted}
-use Rattle.sb_net.specs.Legs.{pile_at, piles_of}
-use Rattle.sb_net.specs.Made.{AreLegsAt, AreMadeAt, IsMadeAt}
+use Rattle.sb_net.specs.Legs.{AreLegsAt, AreMadeAt, IsMadeAt, pile_at, piles_of}
 use Rattle.sb_net.specs.Standing.{node_count}
 use Rattle.sb_net.proofs.DealtLegs.{legs_at}
 use Rattle.sb_net.proofs.NodeNumbers.{ends_are_nodes}

@@ -2,8 +2,7 @@
 use Rattle.std.proofs.Common.{◌≡◌, drop}
 use Rattle.std.specs.Vec.Iter.{into_iter_items}
 use Rattle.sb_flow.specs.NetworkOf.{network_of}
-use Rattle.sb_net.specs.Legs.{piles_of}
-use Rattle.sb_net.specs.Made.{AreMadeAt}
+use Rattle.sb_net.specs.Legs.{AreMadeAt, piles_of}
 use Rattle.sb_net.proofs.making.nodes.nodes_at.Given as goal
 
 abbrev pub invariant-loop-number : goal.invariant-loop-number

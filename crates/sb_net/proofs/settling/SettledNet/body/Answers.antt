@@ -1,7 +1,7 @@
 -- The host's transactions tell the bytes of each outcome.
 use Rattle.std.proofs.Common.{◌≡◌, ◌<◌, [], length, sym, ap, ◌∙◌, subst, arith}
 use Rattle.std.specs.Prelude.{slice_index_or}
-use Rattle.sb_packet.specs.Outcomes.{host_outcomes}
+use Rattle.sb_packet.specs.Answers.{host_outcomes}
 use Rattle.sb_member.proofs.RingsMet.{within_list}
 use Rattle.sb_net.specs.Settled.{SettledSide, TellsHost, transactions_at}
 use Rattle.sb_net.proofs.settling.SettledNet.body.Goals as goal

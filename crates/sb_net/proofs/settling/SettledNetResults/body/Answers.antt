@@ -1,6 +1,6 @@
 -- The settled network tells the bytes of a transaction, at each place that its results have.
 use Rattle.std.proofs.Common.{ap, ◌∙◌}
-use Rattle.sb_packet.specs.Outcomes.{Outcome}
+use Rattle.sb_packet.specs.Answers.{Outcome}
 use Rattle.sb_net.proofs.ResultsTold.{outcome_told}
 use Rattle.sb_net.proofs.settling.SettledNetResults.body.Goals as goal
 

@@ -3,9 +3,8 @@ use Rattle.std.proofs.Common.{◌≡◌, ◌<◌, ℕ, List, [], length, ap, sub
 use Rattle.std.specs.Prelude.{map, slice_index_or}
 use Rattle.std.specs.List.{range_with_len}
 use Rattle.std.proofs.lemmas.List.FromFn.{get_or-map-range_with_len, length-map-range_with_len}
-use Rattle.sb_packet.specs.Answers.{final_memory}
+use Rattle.sb_packet.specs.Answers.{RunResults, final_memory, run_results}
 use Rattle.sb_packet.specs.Networks.{Network}
-use Rattle.sb_packet.specs.Outcomes.{RunResults, run_results}
 use Rattle.sb_packet.specs.declared.entry.Entry.{Entry}
 use Rattle.sb_net.proofs.settling.SettledNetResults.image.Goals as goal
 
