@@ -86,6 +86,7 @@ fn begins_where_ends(a: &Packet, b: &Packet) -> bool
 }
 
 // a and then b can be merged
+#[inline(always)]
 fn is_mergeable(width: u8, a: &Packet, b: &Packet) -> bool
     ensures mergeable { result ≡ is_mergeable width (message_of a.now) (message_of b.now) }
 {

@@ -9,7 +9,8 @@ use Rattle.sb_packet.specs.declared.item.Item.TheVariants as items
 use Rattle.sb_port.specs.Ports.{PortSide, IsFit, let_go, offered_words}
 use Rattle.sb_port.proofs.Items.{has_close-close}
 use Rattle.sb_node.specs.Sides.{RingSide}
-use Rattle.sb_node.specs.Kept.{IsKeptPort, IsKeptRing, begins_itself, kept_port_same, kept_ring_same}
+use Rattle.sb_link.specs.Prefixes.{begins_itself}
+use Rattle.sb_node.specs.Kept.{IsKeptPort, IsKeptRing, kept_port_same, kept_ring_same}
 use Rattle.sb_device.specs.Sides.{DeviceSide, held_bytes}
 use Rattle.sb_device.specs.Served.{AreSound, item_packets}
 use Rattle.sb_device.specs.Requests.{ServesNone, ServesRequest, serves, serves_none, no_step, then_step}

@@ -11,13 +11,12 @@ use Rattle.sb_link.specs.RingPlans.{NetFlow}
 use Rattle.sb_link.specs.Traffic.{has_close, item_accesses, item_messages}
 use Rattle.sb_packet.specs.declared.item.Item.{Item}
 use Rattle.sb_packet.specs.declared.item.Item.TheVariants as items
-use Rattle.sb_link.specs.Prefixes.{IsPrefix, IsSubsequence}
+use Rattle.sb_link.specs.Prefixes.{IsPrefix, IsSubsequence, begins_further}
 use Rattle.sb_device.proofs.Requests.{messages_joined}
 use Rattle.sb_laws.specs.Flows.{AlongWay, Course, budget_over, came_for_ring, is_of, way_rings, words_of_flow}
 use Rattle.sb_device.specs.Served.{AreSound}
 use Rattle.sb_laws.specs.Moments.{Moment, arrived, ClosesLast}
 use Rattle.sb_laws.specs.Runs.{BeginsSources, CarriesSources, ForwardsFlow, HasEnded, IsFlowSource, IsLink, IsPort, KeepsOrder, KeepsPromises, PicksSources}
-use Rattle.sb_node.specs.Kept.{begins_further}
 use Rattle.sb_node.proofs.Answering.{prefix_length}
 use Rattle.sb_node.proofs.Subsequences.{subsequence_then}
 use Rattle.sb_laws.proofs.Prefixes.{front_prefix, IsPrefix-filter, All-prefix, length-subsequence, prefix_subsequence}

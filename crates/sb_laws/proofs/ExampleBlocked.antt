@@ -38,6 +38,7 @@ abbrev pub blocked_port : ℕ → Packet → Packet → PortSide
 blocked_port r first second = record {
   plan = narrow r;
   mark = record (small_mark r) { plan = narrow r };
+  published = items.Packet first ∷ [];
   taken = 0;
   state = record { sent = items.Packet first ∷ []; waiting = record { width = 32; owed = message_of second ∷ []; held = None }; close_requested = false; close_sent = false; words_offered = 2 };
 }

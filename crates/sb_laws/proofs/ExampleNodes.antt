@@ -28,6 +28,7 @@ abbrev pub settled_port : ℕ → List Item → ℕ → PortSide
 settled_port r sent taken = record {
   plan = ring_plan small r;
   mark = small_mark r;
+  published = sent;
   taken = taken;
   state = record { sent = sent; waiting = nothing_waits 32; close_requested = has_close sent; close_sent = has_close sent; words_offered = length (item_accesses sent) };
 }

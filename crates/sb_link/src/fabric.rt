@@ -54,6 +54,7 @@ pub trait Fabric: Send {
         ensures tx_plan { Self.Tx.planned tx.new ≡ Self.Tx.planned tx.old }
         ensures rx_plan { Self.Rx.planned rx.new ≡ Self.Rx.planned rx.old }
         ensures sent { Self.Tx.sent tx.new ≡ Self.Tx.sent tx.old }
+        ensures published { Self.Tx.published tx.new ≡ Self.Tx.sent tx.new }
         ensures received { Self.Rx.received rx.new ≡ Self.Rx.received rx.old }
         ensures taken { Self.Tx.taken tx.old ≤ Self.Tx.taken tx.new }
         ensures known { Self.Rx.known rx.old ≤ Self.Rx.known rx.new }
@@ -86,6 +87,7 @@ pub trait MeetFabric: Fabric {
         ensures tx_plan { Self.Tx.planned tx.new ≡ Self.Tx.planned tx.old }
         ensures rx_plan { Self.Rx.planned rx.new ≡ Self.Rx.planned rx.old }
         ensures sent { Self.Tx.sent tx.new ≡ Self.Tx.sent tx.old }
+        ensures published { Self.Tx.published tx.new ≡ Self.Tx.sent tx.new }
         ensures received { Self.Rx.received rx.new ≡ Self.Rx.received rx.old }
         ensures taken { Self.Tx.taken tx.old ≤ Self.Tx.taken tx.new }
         ensures known { Self.Rx.known rx.old ≤ Self.Rx.known rx.new }

@@ -18,6 +18,8 @@ impl<T: TxEnd> TxEnd for PassOnTx<T> {
 
     ghost sent = { λ end. T.sent end.inner };
 
+    ghost published = { λ end. T.published end.inner };
+
     ghost taken = { λ end. T.taken end.inner };
 
     ghost mark = { λ end. T.mark end.inner };
@@ -35,6 +37,8 @@ impl<T: TxEnd> TxEnd for PassOnTx<T> {
     }
 
     ghost in_turn = { λ end. T.in_turn end.inner };
+
+    ghost published_first = { λ end. T.published_first end.inner };
 }
 
 /// A receiving end that passes every call on to another one.

@@ -35,10 +35,14 @@ pub struct SerialTx {
 impl TxEnd for SerialTx {
     ghost use Rattle.std.specs.Prelude.{◌++◌, None};
     ghost use Rattle.sb_link.specs.PlanOf.{plan_of};
+    ghost use Rattle.sb_link.specs.Prefixes.{begins_itself};
 
     ghost planned = { λ end. plan_of end.plan };
 
     ghost sent = { λ end. end.handed ++ end.kept.items };
+
+    // nothing is kept back from the meeting
+    ghost published = { λ end. end.handed ++ end.kept.items };
 
     ghost taken = { λ end. end.taken };
 
@@ -64,4 +68,6 @@ impl TxEnd for SerialTx {
     fn flush(&mut self) {}
 
     ghost in_turn = { λ end. end.in_turn };
+
+    ghost published_first = { λ end. begins_itself (end.handed ++ end.kept.items) };
 }

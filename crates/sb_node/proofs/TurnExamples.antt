@@ -38,6 +38,7 @@ abbrev ready_port : PortSide
 ready_port = record {
   plan = answers_plan;
   mark = mark_of answers_plan;
+  published = [];
   taken = 0;
   state = record { sent = []; waiting = nothing_waits 32; close_requested = false; close_sent = false; words_offered = 0 };
 }

@@ -1,7 +1,7 @@
 -- What stays of a node's ports and rings, whatever turns it takes: nothing is taken back.
 use Rattle.std.specs.Prelude.{◌≡◌, ◌≤◌, true, List, [], ◌++◌}
-use Rattle.std.proofs.Common.{refl, sym, ap, ◌∙◌, append_assoc, append-nil, arith}
-use Rattle.sb_link.specs.Prefixes.{IsPrefix}
+use Rattle.std.proofs.Common.{refl, ◌∙◌, arith}
+use Rattle.sb_link.specs.Prefixes.{IsPrefix, begins_further, begins_itself}
 use Rattle.sb_port.specs.Ports.{PortSide, let_go, offered_words}
 use Rattle.sb_node.specs.Sides.{RingSide}
 
@@ -33,17 +33,6 @@ pub record IsRingMet (before after : RingSide) : Type 0 where
   pub plan : after.plan ≡ before.plan
   pub received : after.received ≡ before.received
   pub learnt : before.known ≤ after.known
-
--- a list begins itself
-pub begins_itself : {A : Type 0} (xs : List A) → IsPrefix xs xs
-begins_itself xs = record { rest = []; joined = append-nil xs }
-
--- what begins a beginning of a list begins the list
-pub begins_further : {A : Type 0} {xs ys zs : List A} → IsPrefix xs ys → IsPrefix ys zs → IsPrefix xs zs
-begins_further {A} {xs} {ys} {zs} p q = record {
-  rest = p.rest ++ q.rest;
-  joined = sym (append_assoc xs p.rest q.rest) ∙ ap (λ list. list ++ q.rest) p.joined ∙ q.joined;
-}
 
 -- nothing happened to a port
 pub kept_port_same : (port : PortSide) → IsKeptPort port port

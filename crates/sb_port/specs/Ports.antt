@@ -29,6 +29,8 @@ pub record PortState : Type 0 where
 pub record PortSide : Type 0 where
   pub plan : RingPlan
   pub mark : Mark
+  -- the items that are published: the other end of the ring can learn of them
+  pub published : List Item
   -- how many items it has learnt to have been taken
   pub taken : ℕ
   -- what was sent, what is to be sent, and whether it was told to close
@@ -39,6 +41,7 @@ abbrev pub fresh_port : {T : Type 0} → tx.Ghosts T → T → PortSide
 fresh_port sending end = record {
   plan = sending.planned end;
   mark = sending.mark end;
+  published = sending.published end;
   taken = sending.taken end;
   state = record { sent = []; waiting = nothing_waits (sending.planned end).width; close_requested = false; close_sent = false; words_offered = 0 };
 }
@@ -48,6 +51,7 @@ abbrev pub with_end : {T : Type 0} → tx.Ghosts T → PortSide → T → PortSi
 with_end sending port end = record {
   plan = sending.planned end;
   mark = sending.mark end;
+  published = sending.published end;
   taken = sending.taken end;
   state = record port.state { sent = sending.sent end };
 }

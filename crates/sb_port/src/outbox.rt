@@ -74,7 +74,11 @@ impl Outbox {
         requires some { self.old.owed ≢ [] }
         ensures advanced { self.new ≡ record self.old { owed = drop 1 self.old.owed } }
     {
-        self.ready = draw(&mut self.cutter, &mut self.merger);
+        self.ready = if self.cutter.empty() {
+            None
+        } else {
+            draw(&mut self.cutter, &mut self.merger)
+        };
     }
 
     /// Takes a packet, where none is owed. An atomic or exclusive packet, which is never cut, has to fit the width.
@@ -100,7 +104,10 @@ impl Outbox {
         ensures released { self.new ≡ released self.old }
         ensures held { IsTrue result ↔ (self.old.held ≢ None) }
     {
+        if !self.merger.held() {
+            return false;
+        }
         self.ready = self.merger.flush();
-        self.ready.is_some()
+        true
     }
 }

@@ -13,6 +13,7 @@ ghost use Rattle.sb_port.specs.Waiting.{offered};
 ghost use Rattle.sb_port.specs.Ports.{IsFit, fresh_port, let_go, offered_words, owes, with_end};
 ghost use Rattle.sb_port.specs.Turns.{TriesClose, TriesFirst, Turned};
 ghost use Rattle.sb_port.specs.contracts.port.OutPort.{the_row};
+ghost use Rattle.sb_port.specs.declared.port_turn.PortTurn.TheVariants.{Moved};
 
 use crate::outbox::Outbox;
 use crate::port_turn::PortTurn;
@@ -44,6 +45,7 @@ impl<T: TxEnd> Model for OutPort<T> {
     ghost view = { λ p. record {
       plan = T.planned p.tx;
       mark = T.mark p.tx;
+      published = T.published p.tx;
       taken = T.taken p.tx;
       state = record {
         sent = T.sent p.tx;
@@ -153,6 +155,7 @@ impl<T: TxEnd> OutPort<T> {
     }
 
     // sends the first packet that is owed, where the ring has room
+    #[inline(always)]
     fn send(&mut self) -> PortTurn
         requires fit { IsFit self.old.plan self.old.state }
         requires some { self.old.state.waiting.owed ≢ [] }
@@ -168,14 +171,12 @@ impl<T: TxEnd> OutPort<T> {
                 self.outbox.advance();
                 PortTurn::Moved
             }
-            Push::Full { sent, taken } => {
-                self.tx.flush();
-                PortTurn::Full { sent, taken }
-            }
+            Push::Full { sent, taken } => PortTurn::Full { sent, taken },
         }
     }
 
     // sends the Close, where the port was told to and the ring has room
+    #[inline(always)]
     fn send_close(&mut self) -> PortTurn
         requires fit { IsFit self.old.plan self.old.state }
         requires none_owed { self.old.state.waiting.owed ≡ [] }
@@ -187,7 +188,6 @@ impl<T: TxEnd> OutPort<T> {
         ensures fit { IsFit self.new.plan self.new.state }
     {
         if !self.close_requested || self.close_sent {
-            self.tx.flush();
             return PortTurn::Clear;
         }
         match self.tx.try_push(&Item::Close) {
@@ -195,14 +195,12 @@ impl<T: TxEnd> OutPort<T> {
                 self.close_sent = true;
                 PortTurn::Moved
             }
-            Push::Full { sent, taken } => {
-                self.tx.flush();
-                PortTurn::Full { sent, taken }
-            }
+            Push::Full { sent, taken } => PortTurn::Full { sent, taken },
         }
     }
 
     // sends at most one item, or lets go what is held
+    #[inline(always)]
     fn step(&mut self, more: bool) -> PortTurn
         requires fit { IsFit self.old.plan self.old.state }
         ensures turned { Turned more self.old self.new result }
@@ -216,7 +214,6 @@ impl<T: TxEnd> OutPort<T> {
             return self.send();
         }
         if more && !self.close_requested {
-            self.tx.flush();
             return PortTurn::Clear;
         }
         if self.outbox.let_go() {
@@ -234,6 +231,7 @@ impl<T: TxEnd> OutPort<T> {
         requires fit { IsFit self.old.plan self.old.state }
         ensures turned { Turned more self.old self.new result }
         ensures words { offered_words self.new ≡ offered_words self.old }
+        ensures published { result ≢ Moved → self.new.published ≡ self.new.state.sent }
         ensures goes_on { IsPrefix (let_go self.old.state) (let_go self.new.state) }
         ensures told { self.new.state.close_requested ≡ self.old.state.close_requested }
         ensures learnt { self.old.taken ≤ self.new.taken }
@@ -241,7 +239,12 @@ impl<T: TxEnd> OutPort<T> {
         ensures mark { self.new.mark ≡ self.old.mark }
         ensures fit { IsFit self.new.plan self.new.state }
     {
-        self.step(more)
+        let answer = self.step(more);
+        match answer {
+            PortTurn::Moved => {}
+            PortTurn::Clear | PortTurn::Full { .. } => self.tx.flush(),
+        }
+        answer
     }
 
     /// Tells the port to send a Close behind all that it owes and holds. It wasn't told before.
@@ -273,6 +276,7 @@ impl<T: TxEnd> OutPort<T> {
     pub fn end(&mut self) -> &mut T
         ensures plan { T.planned result.now ≡ self.old.plan }
         ensures mark { T.mark result.now ≡ self.old.mark }
+        ensures published { T.published result.now ≡ self.old.published }
         ensures taken { T.taken result.now ≡ self.old.taken }
         ensures sent { T.sent result.now ≡ self.old.state.sent }
         ensures* writes_back { sem 𝓛 (Lends (the_row T.row T.TxEnd) T.row self.entry result (λ end. with_end T.TxEnd self.old end)) }
@@ -284,6 +288,7 @@ impl<T: TxEnd> OutPort<T> {
     pub fn into_end(self) -> T
         ensures plan { T.planned result ≡ self.plan }
         ensures mark { T.mark result ≡ self.mark }
+        ensures published { T.published result ≡ self.published }
         ensures taken { T.taken result ≡ self.taken }
         ensures sent { T.sent result ≡ self.state.sent }
     {

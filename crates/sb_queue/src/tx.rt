@@ -34,11 +34,14 @@ impl<R: Wait + Copy> TxEnd for QueueTx<R> {
     ghost use Rattle.std.specs.Prelude.{◌-◌};
     ghost use Rattle.crossbeam_queue.specs.Passes.{view};
     ghost use Rattle.sb_link.specs.PlanOf.{plan_of};
+    ghost use Rattle.sb_link.specs.Prefixes.{begins_itself};
     ghost use Rattle.sb_queue.specs.QueueMarks.{queue_mark};
 
     ghost planned = { λ end. plan_of end.plan };
 
     ghost sent = { λ end. (view end.pass).sent };
+
+    ghost published = { λ end. (view end.pass).sent };
 
     // what fits no more was taken: there is no other place for it
     ghost taken = { λ end. end.sent - end.plan.capacity };
@@ -68,4 +71,6 @@ impl<R: Wait + Copy> TxEnd for QueueTx<R> {
     fn flush(&mut self) {}
 
     ghost in_turn = { λ end. end.in_turn };
+
+    ghost published_first = { λ end. begins_itself (view end.pass).sent };
 }

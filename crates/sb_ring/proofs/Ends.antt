@@ -3,6 +3,7 @@ use Rattle.std.proofs.Common.{◌≡◌, ℕ, ◌+◌, List, [], ◌∷◌, ◌+
 use Rattle.std.proofs.lemmas.List.{append-nil}
 use Rattle.std.specs.Prelude.{Option, Some}
 use Rattle.atomic_table.specs.Table.{Me}
+use Rattle.sb_link.specs.Prefixes.{IsPrefix}
 use Rattle.sb_link.specs.Traffic.{MayFollow}
 use Rattle.sb_packet.specs.declared.item.Item.{Item}
 use Rattle.sb_link.specs.PlanOf.{plan_of}
@@ -23,6 +24,14 @@ sent_more me after item more = ap (λ (z : RingMe). sent_of z.0) more ∙ sym (a
 -- and published it
 pub sent_same : (me after : RingMe) → after ≡ (with_published me.0, me.1) → sent_of after.0 ≡ sent_of me.0
 sent_same me after published = ap (λ (z : RingMe). sent_of z.0) published ∙ append-nil (sent_of me.0)
+
+-- where nothing stands ahead, all that was sent is published
+pub all_published : (me : RingMe) → me.0.ahead ≡ [] → me.0.items ≡ sent_of me.0
+all_published me none = sym (ap (λ (ahead : List Item). me.0.items ++ ahead) none ∙ append-nil me.0.items)
+
+-- and what was published before begins it
+pub published_more : (me after : RingMe) → after.0.ahead ≡ [] → sent_of after.0 ≡ sent_of me.0 → IsPrefix me.0.items after.0.items
+published_more me after none same = record { rest = me.0.ahead; joined = sym (all_published after none ∙ same) }
 
 -- a consumer loaded a slot, and received its item
 pub seat_after : (me loaded after : RingMe) (slot : List ℕ) (item : Item) → loaded ≡ (with_part me.0 slot, me.1) → after ≡ (with_item loaded.0 item, loaded.1) → after ≡ (with_item me.0 item, me.1)

@@ -1,6 +1,6 @@
 //! How the ends of a ring meet.
 
-ghost use Rattle.std.specs.Prelude.{◌≡◌, ◌≤◌};
+ghost use Rattle.std.specs.Prelude.{◌≡◌, ◌≤◌, []};
 ghost use Rattle.sb_link.specs.Ends.{HaveMet};
 ghost use Rattle.sb_ring.specs.Rule.{sent_of};
 
@@ -19,6 +19,7 @@ pub(crate) fn meet_ends(tx: &mut RingTx, rx: &mut RingRx)
     ensures tx_table { tx.new.seat.table_id ≡ tx.old.seat.table_id }
     ensures rx_table { rx.new.seat.table_id ≡ rx.old.seat.table_id }
     ensures sent { sent_of tx.new.seat.me.0 ≡ sent_of tx.old.seat.me.0 }
+    ensures published { tx.new.seat.me.0.ahead ≡ [] }
     ensures received { rx.new.seat.me.0.items ≡ rx.old.seat.me.0.items }
     ensures taken { tx.old.seat.me.0.learnt ≤ tx.new.seat.me.0.learnt }
     ensures known { rx.old.seat.me.0.learnt ≤ rx.new.seat.me.0.learnt }

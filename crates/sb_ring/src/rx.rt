@@ -97,6 +97,7 @@ impl RxEnd for RingRx {
         &self.plan
     }
 
+    #[inline(always)]
     fn try_pop(&mut self) -> Pop {
         if !self.has_item() {
             return Pop::Empty {

@@ -2,6 +2,7 @@
 
 ghost use Rattle.std.specs.Prelude.{◌≡◌, ◌+◌, ◌*◌, ◌<◌, ◌≤◌, true, false, [], ◌∷◌, ◌++◌, length, Some};
 ghost use Rattle.std.specs.Arc.{arc_value};
+ghost use Rattle.sb_link.specs.Prefixes.{IsPrefix};
 ghost use Rattle.sb_link.specs.Traffic.{AreInTurn, MayFollow};
 ghost use Rattle.sb_link.specs.Ends.{Pushed};
 ghost use Rattle.sb_packet.specs.declared.item.Item.{Item};
@@ -69,6 +70,7 @@ impl RingTx {
         ensures loaded { result ≡ false → self.new.seat.me.0.loads ≡ self.old.seat.me.0.loads + 1 }
         ensures learnt { self.old.seat.me.0.learnt ≤ self.new.seat.me.0.learnt }
         ensures sent { sent_of self.new.seat.me.0 ≡ sent_of self.old.seat.me.0 }
+        ensures published { self.new.seat.me.0.items ≡ self.old.seat.me.0.items }
         ensures plan { self.new.plan ≡ self.old.plan }
         ensures table { self.new.seat.table_id ≡ self.old.seat.table_id }
     {
@@ -104,6 +106,7 @@ impl RingTx {
     fn refuse(&mut self) -> Push
         requires full { length (sent_of self.old.seat.me.0) ≡ self.old.seat.me.0.learnt + self.old.plan.capacity }
         ensures published { self.new.seat.me.0.ahead ≡ [] }
+        ensures sent { sent_of self.new.seat.me.0 ≡ sent_of self.old.seat.me.0 }
         ensures full { (item : Item)
             → Pushed self.old.plan.capacity (sent_of self.old.seat.me.0) item (sent_of self.new.seat.me.0) self.new.seat.me.0.learnt result }
         ensures learnt { self.new.seat.me.0.learnt ≡ self.old.seat.me.0.learnt }
@@ -122,6 +125,7 @@ impl RingTx {
         requires room { length (sent_of self.old.seat.me.0) < self.old.seat.me.0.learnt + self.old.plan.capacity }
         requires lawful { MayFollow (plan_of self.old.plan) (sent_of self.old.seat.me.0) item.now }
         ensures sent { sent_of self.new.seat.me.0 ≡ sent_of self.old.seat.me.0 ++ item.now ∷ [] }
+        ensures published { IsPrefix self.old.seat.me.0.items self.new.seat.me.0.items }
         ensures closed { item.now ≡ Close → self.new.seat.me.0.ahead ≡ [] }
         ensures learnt { self.new.seat.me.0.learnt ≡ self.old.seat.me.0.learnt }
         ensures plan { self.new.plan ≡ self.old.plan }
@@ -144,6 +148,7 @@ impl RingTx {
 }
 
 impl TxEnd for RingTx {
+    ghost use Rattle.std.proofs.Common.{refl};
     ghost use Rattle.sb_link.specs.PlanOf.{plan_of};
     ghost use Rattle.sb_ring.specs.Rule.{sent_of};
     ghost use Rattle.sb_ring.specs.RingMarks.{ring_mark};
@@ -151,6 +156,8 @@ impl TxEnd for RingTx {
     ghost planned = { λ end. plan_of end.plan };
 
     ghost sent = { λ end. sent_of end.seat.me.0 };
+
+    ghost published = { λ end. end.seat.me.0.items };
 
     ghost taken = { λ end. end.seat.me.0.learnt };
 
@@ -160,6 +167,7 @@ impl TxEnd for RingTx {
         &self.plan
     }
 
+    #[inline(always)]
     fn try_push(&mut self, item: &Item) -> Push {
         if !self.has_room() {
             return self.refuse();
@@ -173,4 +181,6 @@ impl TxEnd for RingTx {
     }
 
     ghost in_turn = { λ end. end.in_turn };
+
+    ghost published_first = { λ end. record { rest = end.seat.me.0.ahead; joined = refl } };
 }

@@ -2,7 +2,8 @@
 use Rattle.std.proofs.Common.{ℕ, ◌<◌, ◌≤◌, true, length, set, get_or, refl, sym, subst, arith}
 use Rattle.std.proofs.lemmas.List.{length-set}
 use Rattle.sb_port.specs.Ports.{PortSide}
-use Rattle.sb_node.specs.Kept.{IsKeptPort, begins_itself, kept_ring_same, kept_port_same}
+use Rattle.sb_link.specs.Prefixes.{begins_itself}
+use Rattle.sb_node.specs.Kept.{IsKeptPort, kept_ring_same, kept_port_same}
 use Rattle.sb_router.specs.Lanes.{InletState, LaneState, Route, inlet_at, no_inlet, no_port, outlet_at}
 use Rattle.sb_router.specs.Steps.{Step, Steps, receives, looks, drops, offers, turns, tells, none, further, emptied}
 use Rattle.sb_router.specs.Rested.{IsKeptInlet, IsKeptLane, free_count, kept_inlet_same, kept_lane_same, kept_lane_then}

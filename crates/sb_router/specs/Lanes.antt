@@ -34,6 +34,7 @@ abbrev pub no_port : PortSide
 no_port = record {
   plan = no_plan;
   mark = record { plan = no_plan; table = None; handed = []; told = 0 };
+  published = [];
   taken = 0;
   state = record { sent = []; waiting = nothing_waits 0; close_requested = false; close_sent = false; words_offered = 0 };
 }

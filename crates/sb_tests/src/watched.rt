@@ -84,6 +84,8 @@ impl<'a, T: TxEnd> TxEnd for WatchedTx<'a, T> {
 
     ghost sent = { λ end. T.sent end.inner };
 
+    ghost published = { λ end. T.published end.inner };
+
     ghost taken = { λ end. T.taken end.inner };
 
     ghost mark = { λ end. T.mark end.inner };
@@ -107,6 +109,8 @@ impl<'a, T: TxEnd> TxEnd for WatchedTx<'a, T> {
     }
 
     ghost in_turn = { λ end. T.in_turn end.inner };
+
+    ghost published_first = { λ end. T.published_first end.inner };
 }
 
 /// A receiving end of such a ring.

@@ -1,6 +1,7 @@
 -- The rule allows the push, and the end keeps what it says of itself.
 use Rattle.std.proofs.Common.{◌≡◌, List, [], ◌∷◌, ◌++◌, arith, ap, sym, subst}
 use Rattle.crossbeam_queue.specs.Passes.{view}
+use Rattle.sb_link.specs.Prefixes.{IsPrefix, begins_itself}
 use Rattle.sb_link.specs.Traffic.{AreInTurn}
 use Rattle.sb_packet.specs.declared.item.Item.{Item}
 use Rattle.sb_link.specs.PlanOf.{plan_of}
@@ -20,3 +21,9 @@ invariant_of-self-clause-in_turn g c = let self = c.args.self.now in let log = v
 
 pub invariant_of-self-clause-few : goal.invariant_of-self-clause-few
 invariant_of-self-clause-few g c = let self = c.args.self.now in omega (arith, self.counted, few_before (plan_of self.plan) (view self.pass).sent c.args.item.now c.requires.lawful)
+
+-- a queue that was full has what it had
+pub returns-in-Err-clause-published : goal.returns-in-Err-clause-published
+returns-in-Err-clause-published g c = let log = view c.args.self.now.pass in
+    let same : (view c.push_as.new.pass).sent ≡ log.sent = ap (λ (v : Log). v.sent) c.in-Err.ensures.rule.1 in
+    subst (λ (sent : List Item). IsPrefix log.sent sent) (sym same) (begins_itself log.sent)

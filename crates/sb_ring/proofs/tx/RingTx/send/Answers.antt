@@ -1,5 +1,6 @@
 -- An item that was sent keeps what the end says of itself, whether it was published or not.
-use Rattle.std.proofs.Common.{◌≡◌, List, arith, length, ap, sym, subst, ◌∙◌}
+use Rattle.std.proofs.Common.{◌≡◌, List, [], ◌∷◌, ◌++◌, arith, length, ap, sym, subst, ◌∙◌}
+use Rattle.sb_link.specs.Prefixes.{IsPrefix, begins_itself}
 use Rattle.sb_link.specs.Traffic.{AreInTurn, MayFollow}
 use Rattle.sb_packet.specs.declared.item.Item.{Item}
 use Rattle.sb_link.specs.PlanOf.{plan_of}
@@ -62,3 +63,15 @@ invariant_of-self-2 c = let self = c.args.self.now in let me = self.seat.me in l
       batch = omega arith;
       batch_fits = omega (arith, self.batch_fits);
     }
+
+-- nothing more is published
+pub returns-then-not-is_due-clause-published : goal.returns-then-not-is_due-clause-published
+returns-then-not-is_due-clause-published c = let me = c.args.self.now.seat.me in
+    subst (λ (items : List Item). IsPrefix me.0.items items) (sym (ap (λ (m : RingMe). m.0.items) c.store_item.ensures.sent)) (begins_itself me.0.items)
+
+-- what stood ahead is published, and the item behind it
+pub returns-clause-published : goal.returns-clause-published
+returns-clause-published c = let me = c.args.self.now.seat.me in let item = c.args.item.now in
+    let e : c.store_tail.new.seat.me ≡ (with_published (with_ahead me.0 item), me.1) =
+    c.store_tail.ensures.published ∙ ap (λ (m : RingMe). (with_published m.0, m.1)) c.store_item.ensures.sent in
+    record { rest = me.0.ahead ++ item ∷ []; joined = sym (ap (λ (m : RingMe). m.0.items) e) }
