@@ -66,6 +66,7 @@ impl Findings {
     }
 
     /// What the turn answers: that the node moved, or else that it is done, or else the first cause.
+    #[inline(always)]
     pub fn turn(&self, done: bool) -> Turn
         requires cause { self.now.moved ≡ false → done ≡ false
             → first_cause (self.now.full ∷ self.now.waits ∷ self.now.empty ∷ []) ≢ None }

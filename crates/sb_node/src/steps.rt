@@ -14,6 +14,7 @@ use sb_port::{OutPort, PortTurn};
 
 /// Turns a port, and notes what it found. `more` says that the node popped or offered something in this turn, so that
 /// more may come. Takes no memory.
+#[inline(always)]
 pub fn turn_port<T: TxEnd>(port: &mut OutPort<T>, more: bool, found: &mut Findings)
     requires fit { IsFit port.old.plan port.old.state }
     ensures turned { IsPortTurned more port.old port.new found.old found.new }
@@ -33,6 +34,7 @@ pub fn turn_port<T: TxEnd>(port: &mut OutPort<T>, more: bool, found: &mut Findin
 }
 
 /// Pops the next item of a ring, and notes what it found. Takes no memory.
+#[inline(always)]
 pub fn pop_ring<U: RxEnd>(ring: &mut U, found: &mut Findings) -> Option<Item>
     ensures popped { IsRingPopped (ring_side U.RxEnd ring.old) (ring_side U.RxEnd ring.new) result found.old found.new }
     ensures served { IsRingServed (ring_side U.RxEnd ring.old) (ring_side U.RxEnd ring.new) }
@@ -53,6 +55,7 @@ pub fn pop_ring<U: RxEnd>(ring: &mut U, found: &mut Findings) -> Option<Item>
 }
 
 /// Offers a packet to a port that is ready, where it passes, and drops it elsewhere. Takes no memory.
+#[inline(always)]
 #[tactic(auto, using(crate::proofs::Offered::rest_offered))]
 pub fn hand_on<T: TxEnd>(port: &mut OutPort<T>, packet: &Packet)
     requires fit { IsFit port.old.plan port.old.state }

@@ -54,6 +54,7 @@ impl<U: RxEnd> Inlet<U> {
     }
 
     /// Pops the ring once, where nothing of it is held and it didn't give its Close, and notes what it found.
+    #[inline(always)]
     pub(crate) fn pop(&mut self, found: &mut Findings)
         requires whole { IsWholeInlet self.old }
         ensures popped { FindsBesides (IsPopped self.old self.new) found.old found.new }

@@ -14,6 +14,7 @@ use sb_packet::Packet;
 use sb_port::OutPort;
 
 /// Turns a port once, and notes what it found. `more` says that more may come.
+#[inline(always)]
 pub fn turn_outlet<T: TxEnd>(port: &mut OutPort<T>, more: bool, found: &mut Findings)
     requires whole { IsWholeOutlet port.old }
     ensures turned { FindsBesides (IsOutletTurned more port.old port.new) found.old found.new }
@@ -34,6 +35,7 @@ pub fn close_outlet<T: TxEnd>(port: &mut OutPort<T>)
 }
 
 /// Offers a packet to a port where it passes, and drops it elsewhere.
+#[inline(always)]
 pub fn hand_to<T: TxEnd>(port: &mut OutPort<T>, packet: &Packet)
     requires whole { IsWholeOutlet port.old }
     requires ready { owes port.old.state ≡ false }
