@@ -34,6 +34,9 @@ impl<T: TxEnd, U: RxEnd> RouterCore<T, U> {
     {
         let requests = self.requests.turn();
         let answers = self.answers.turn();
+        if requests.moved || answers.moved {
+            return Turn::Moved;
+        }
         let found = both(&requests, &answers);
         let done = self.requests.is_done() & self.answers.is_done();
         found.turn(done)
