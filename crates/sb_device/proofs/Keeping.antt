@@ -15,7 +15,7 @@ use Rattle.sb_device.specs.Sides.{DeviceSide, held_bytes}
 use Rattle.sb_device.specs.Served.{AreSound, item_packets}
 use Rattle.sb_device.specs.Requests.{ServesNone, ServesRequest, serves, serves_none, no_step, then_step}
 use Rattle.sb_device.specs.Plans.{IsDeviceInOrder}
-use Rattle.sb_device.specs.Devices.{IsKeptDevice, IsWholeDevice}
+use Rattle.sb_device.specs.Devices.{IsKeptDevice, IsWholeDevice, kept_device_then}
 use Rattle.sb_device.proofs.Requests.{front_sound}
 use Rattle.sb_device.proofs.Orders.{close_packets, close_words, in_order_rest, served_none, served_request}
 
@@ -68,7 +68,7 @@ kept_by_empty round x ring same kept = kept_by_none round x (record x { requests
     kept (kept_port_same x.answers) (λ sound. subst AreSound same sound)
 
 -- the port took its turn
-pub kept_by_port : (round : ℕ) (x : DeviceSide) (port : PortSide) → offered_words port ≡ offered_words x.answers → IsKeptPort x.answers port → IsKeptDevice round x (record x { answers = port })
+kept_by_port : (round : ℕ) (x : DeviceSide) (port : PortSide) → offered_words port ≡ offered_words x.answers → IsKeptPort x.answers port → IsKeptDevice round x (record x { answers = port })
 kept_by_port round x port words kept = kept_by_none round x (record x { answers = port })
     (record { came = refl; entered = refl; memory = refl; offered = words; number = refl; plan = kept.plan })
     (kept_ring_same x.requests) kept (λ sound. sound)
@@ -79,6 +79,11 @@ whole_by_port x port whole plan told fit = record {
   fit = fit;
   in_order = in_order_rest x (record x { answers = port }) whole.in_order refl refl refl refl plan refl refl refl (told ∙ whole.in_order.closes);
 }
+
+-- a step was taken, and then the port took its turn
+pub kept_then_port : (round : ℕ) (x y : DeviceSide) (port : PortSide) → IsKeptDevice round x y → offered_words port ≡ offered_words y.answers → IsKeptPort y.answers port
+    → IsKeptDevice round x (record y { answers = port })
+kept_then_port round x y port before words kept = kept_device_then round x y (record y { answers = port }) before (kept_by_port round y port words kept)
 
 -- a Close came in, and the port was told to close
 module _ (x : DeviceSide) (ring : RingSide) (port : PortSide) (came : ring.received ≡ x.requests.received ++ items.Close ∷ [])

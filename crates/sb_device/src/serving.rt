@@ -107,5 +107,8 @@ pub(crate) fn turn_ends<T: TxEnd, U: RxEnd>(
     let mut found = Findings::new();
     let popped = serve_ring(state, requests, answers, round, &mut found);
     turn_port(answers, popped, &mut found);
+    if found.moved {
+        return Turn::Moved;
+    }
     found.turn(answers.closed())
 }
