@@ -5,9 +5,9 @@ use Rattle.sb_packet.specs.Accesses.{Access, message_accesses}
 use Rattle.sb_packet.specs.Messages.{Message}
 use Rattle.sb_link.specs.RingPlans.{RingPlan}
 use Rattle.sb_link.specs.Prefixes.{IsPrefix}
-use Rattle.sb_port.specs.Ports.{PortSide, offered_words, owes}
+use Rattle.sb_port.specs.Ports.{IsFit, PortSide, offered_words, owes}
 use Rattle.sb_node.specs.Sides.{RingSide}
-use Rattle.sb_host.specs.Hosts.{IsHostInOrder}
+use Rattle.sb_host.specs.Hosts.{IsHostInOrder, IsWholeHost}
 use Rattle.sb_host.specs.Progress.{HasComeTo, HasOffered, IsMadeFor, TransactionsSide, left_of}
 use Rattle.sb_host.specs.Steps.{IsNextOffered}
 use Rattle.sb_host.specs.Windows.{IsHeldBack, begun_count, begun_slots, window_cause, window_wait}
@@ -92,7 +92,7 @@ module _ (t t_then : TransactionsSide) (port port_then : PortSide) (ring : RingS
   })
 
 -- a turn of its port changes nothing of that
-pub turned_in_order : (t : TransactionsSide) (port port_then : PortSide) (ring : RingSide) → port_then.plan ≡ port.plan → offered_words port_then ≡ offered_words port
+turned_in_order : (t : TransactionsSide) (port port_then : PortSide) (ring : RingSide) → port_then.plan ≡ port.plan → offered_words port_then ≡ offered_words port
     → port_then.state.close_requested ≡ port.state.close_requested → IsHostInOrder t port ring → IsHostInOrder t port_then ring
 turned_in_order t port port_then ring plan words told o = record {
   issuable = o.issuable;
@@ -104,3 +104,9 @@ turned_in_order t port port_then ring plan words told o = record {
   ends = o.ends;
   window = o.window;
 }
+
+-- nor whether the host is whole
+pub turned_whole : (t : TransactionsSide) (port port_then : PortSide) (ring : RingSide) → port_then.plan ≡ port.plan → offered_words port_then ≡ offered_words port
+    → port_then.state.close_requested ≡ port.state.close_requested → IsFit port_then.plan port_then.state → IsHostInOrder t port ring
+    → IsWholeHost (record { transactions = t; requests = port_then; answers = ring })
+turned_whole t port port_then ring plan words told fit o = record { fit = fit; in_order = turned_in_order t port port_then ring plan words told o }

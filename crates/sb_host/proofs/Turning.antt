@@ -1,24 +1,28 @@
 -- What a turn answers, by what the ring and the port did in it.
-use Rattle.std.proofs.Common.{◌≡◌, ◌≢◌, ◌⊎◌, inl, inr, ⊎_elim, ℕ, ◌+◌, Bool, true, false, true≢false, List, [], ◌∷◌, length, refl, sym, ap, ◌∙◌, subst, arith}
+use Rattle.std.proofs.Common.{◌≡◌, ◌≢◌, ◌⊎◌, inl, inr, ⊎_elim, ℕ, ◌+◌, ◌≤◌, Bool, true, false, true≢false, List, [], ◌∷◌, ◌++◌, length, refl, sym, ap, ◌∙◌, subst, arith}
 use Rattle.std.specs.Prelude.{◌&&◌, Option, Some, None, is_some, if◌then◌else◌}
 use Rattle.sb_link.specs.declared.answers.Turn.{Turn}
 use Rattle.sb_link.specs.declared.answers.Turn.TheVariants.{Moved, Idle, Done}
 use Rattle.sb_link.specs.declared.answers.Cause.{Cause}
 use Rattle.sb_link.specs.declared.answers.Cause.TheVariants as causes
+use Rattle.sb_packet.specs.Accesses.{message_accesses}
 use Rattle.sb_packet.specs.declared.item.Item.{Item}
+use Rattle.sb_link.specs.Prefixes.{IsPrefix}
 use Rattle.sb_port.specs.Waiting.{some_owed}
-use Rattle.sb_port.specs.Ports.{PortSide, PortState, owes}
+use Rattle.sb_port.specs.Ports.{PortSide, PortState, offered_words, owes}
 use Rattle.sb_node.specs.Sides.{RingSide, has_rest, is_full, is_drained, has_ended, is_done, port_moves, node_moves}
-use Rattle.sb_node.specs.Kept.{IsKeptPort}
+use Rattle.sb_node.specs.Kept.{IsKeptPort, IsKeptRing, kept_port_then}
 use Rattle.sb_node.specs.Rested.{IsRestedPort}
 use Rattle.sb_node.specs.Turns.{IsAnswered, first_cause, empty_cause, idle_causes}
 use Rattle.sb_node.specs.Found.{or_else, IsTurnOf}
-use Rattle.sb_node.specs.Steps.{HasFewMore, IsPortTurned, HasPortMoved, IsPortFull, IsPortClear, IsRingEmpty, IsRingServed}
+use Rattle.sb_node.specs.Steps.{HasFewMore, IsPortTurned, HasPortMoved, IsPortFull, IsPortClear, IsPortServed, IsRingEmpty, IsRingServed}
 use Rattle.sb_node.specs.declared.findings.Findings.{Findings}
 use Rattle.sb_node.proofs.Answering.{HasGone, HasStood, answered_by, moves_kept, untold, moves_of_two, no_findings, one_of, same_moves}
-use Rattle.sb_host.specs.Progress.{TransactionsSide}
-use Rattle.sb_host.specs.Steps.{HasOfferedNone, HasOfferedOne, IsIdleHost, IsIssued, IsReceiveStep, IsWaitFound}
-use Rattle.sb_host.specs.Windows.{window_cause}
+use Rattle.sb_node.proofs.Serving.{served_since}
+use Rattle.sb_host.specs.Hosts.{HostSide, IsHostTurn, IsKeptHost}
+use Rattle.sb_host.specs.Progress.{IsNextAimed, TransactionsSide, left_of}
+use Rattle.sb_host.specs.Steps.{HasOfferedNone, HasOfferedOne, IsIdleHost, IsIssued, IsNextOffered, IsReceiveStep, IsWaitFound}
+use Rattle.sb_host.specs.Windows.{IsHeldBack, window_cause}
 
 -- a host is done where its port sent its Close, and its ring gave one
 pub done_by_both : (port : PortSide) (ring : RingSide) → is_done (port ∷ []) (ring ∷ []) ≡ (port.state.close_sent && has_ended ring)
@@ -223,23 +227,68 @@ module _ (t_then : TransactionsSide) (ring ring_then : RingSide) (port middle po
       (subst (λ (b : Bool). IsPortTurned b middle port_then found_2 found_then) unmoved turned)
 
   -- no more items were popped than a turn takes
-  pub few_popped : (popped : Bool) (found : Findings) → IsReceiveStep ring ring_then no_findings found popped → HasFewMore ring ring_then
+  few_popped : (popped : Bool) (found : Findings) → IsReceiveStep ring ring_then no_findings found popped → HasFewMore ring ring_then
   few_popped true found received = let one = received.one in omega (arith, one)
   few_popped false found received = let same = ap (λ (list : List Item). length list) received.same in omega (arith, same)
 
   -- the ring was served
-  pub ring_served : (popped : Bool) (found : Findings) → IsReceiveStep ring ring_then no_findings found popped → IsRingServed ring ring_then
+  ring_served : (popped : Bool) (found : Findings) → IsReceiveStep ring ring_then no_findings found popped → IsRingServed ring ring_then
   ring_served true found received = inl received.one
   ring_served false found received = inr received.drained
 
-  -- the turn, as it is answered
-  pub ends_turned : (popped offered : Bool) (found_1 found_2 found_then : Findings) (answer : Turn) → IsReceiveStep ring ring_then no_findings found_1 popped → IsIssued t_then port middle found_1 found_2 offered
+  -- the answer
+  ends_turned : (popped offered : Bool) (found_1 found_2 found_then : Findings) (answer : Turn) → IsReceiveStep ring ring_then no_findings found_1 popped → IsIssued t_then port middle found_1 found_2 offered
       → IsPortTurned found_2.moved middle port_then found_2 found_then → IsKeptPort port middle → IsKeptPort middle port_then
       → IsTurnOf found_then (port_then.state.close_sent && has_ended ring_then) answer
       → IsAnswered before after done_then causes_then answer × (answer ≢ Moved → AtRest)
   ends_turned popped offered found_1 found_2 found_then answer received issued turned kept kept_then told =
       answered_by found_then before after done_then causes_then AtRest answer (came_of popped offered found_1 found_2 found_then received issued turned kept kept_then)
       (subst (λ d. IsTurnOf found_then d answer) (sym (done_by_both port_then ring_then)) told)
+
+  -- The host before the turn had the transactions t, and what came made them t_now.
+  module _ (t t_now : TransactionsSide) where
+    abbrev pub host : HostSide
+    host = record { transactions = t; requests = port; answers = ring }
+
+    abbrev pub host_then : HostSide
+    host_then = record { transactions = t_then; requests = port_then; answers = ring_then }
+
+    -- what was next is offered still once the port took its turn
+    next_offered : left_of t_now ≡ left_of t → offered_words port_then ≡ offered_words middle
+        → IsNextOffered t_now port middle ⊎ IsHeldBack t_now t_then → IsNextOffered t port port_then ⊎ IsHeldBack t t_then
+    next_offered left words (inl offered) =
+        inl (λ ready m rest here. subst (λ words. IsPrefix (offered_words port ++ message_accesses m) words) (sym words) (offered ready m rest (left ∙ here)))
+    next_offered left words (inr held) = inr (record { left = held.left ∙ left; waits = held.waits })
+
+    -- what the turn keeps
+    pub host_kept : (round : ℕ) → t_now ≡ record t { rows = t_now.rows; ended = t_now.ended } → t_then ≡ record t_now { next = t_then.next; part = t_then.part } → t_now.next ≤ t_then.next
+        → IsKeptPort port middle → IsKeptPort middle port_then → IsKeptRing ring ring_then → IsKeptHost round host host_then
+    host_kept round came went onward kept kept_then kept_ring = record {
+      asked = ap (λ (t : TransactionsSide). t.asked) went ∙ ap (λ (t : TransactionsSide). t.asked) came;
+      onward = let same = ap (λ (t : TransactionsSide). t.next) came in omega (arith, same, onward);
+      requests = kept_port_then kept kept_then;
+      answers = kept_ring;
+    }
+
+    -- the turn, as it is answered
+    pub host_turned : (round : ℕ) (popped offered : Bool) (found_1 found_2 found_then : Findings) (answer : Turn) → IsReceiveStep ring ring_then no_findings found_1 popped → IsIssued t_then port middle found_1 found_2 offered
+        → IsPortTurned found_2.moved middle port_then found_2 found_then → IsKeptPort port middle → IsKeptPort middle port_then
+        → IsTurnOf found_then (port_then.state.close_sent && has_ended ring_then) answer
+        → middle.state.sent ≡ port.state.sent → IsPortServed middle port_then
+        → left_of t_now ≡ left_of t → offered_words port_then ≡ offered_words middle → IsNextOffered t_now port middle ⊎ IsHeldBack t_now t_then
+        → IsNextAimed t_then → (t_then.next ≡ length t_then.asked.lines → middle.state.close_requested ≡ true) → port_then.state.close_requested ≡ middle.state.close_requested
+        → IsHostTurn host round answer host_then
+    host_turned round popped offered found_1 found_2 found_then answer received issued turned kept kept_then told sent served left words next aimed due requested =
+        let said = ends_turned popped offered found_1 found_2 found_then answer received issued turned kept kept_then told in record {
+          answered = said.0;
+          idle = said.1;
+          few = few_popped popped found_1 received;
+          port_served = served_since port middle port_then sent served;
+          ring_served = ring_served popped found_1 received;
+          next_offered = next_offered left words next;
+          aimed = aimed;
+          closes_when_due = λ all. requested ∙ due all;
+        }
 
 -- a turn that didn't move found no move
 pub found_unmoved : (found : Findings) (done : Bool) (answer : Turn) → IsTurnOf found done answer → answer ≢ Moved → found.moved ≡ false

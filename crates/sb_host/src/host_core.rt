@@ -42,6 +42,9 @@ impl<T: TxEnd, U: RxEnd> HostCore<T, U> {
         let _offered = issue_next(&mut self.transactions, &mut self.requests, &mut found);
         let more = found.moved;
         turn_port(&mut self.requests, more, &mut found);
+        if found.moved {
+            return Turn::Moved;
+        }
         found.turn(self.is_done())
     }
 }
