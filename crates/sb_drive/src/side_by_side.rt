@@ -13,9 +13,9 @@ use std::thread::Threads;
 /// A long round: turns each group on a thread of its own, where so many can be started, and says whether a node of them
 /// moved. Of one group alone no thread is started. Takes no memory but the threads' stacks.
 ///
-/// A group enters the gate, with its place, and then sweeps: each of its nodes takes one turn, in order. It makes one
-/// sweep at least, and leaves the round when all its nodes answered Done in one sweep, when `patience` sweeps in a row
-/// moved nothing, or when it made `sweeps` of them. So a round may be any number of turns for each node, and they have
+/// A group enters the gate, with its place, and then sweeps: each of its nodes, in order, takes up to eight turns in a
+/// row, until it doesn't move. It makes one sweep at least, and leaves the round when all its nodes answered Done in one
+/// sweep, when `patience` sweeps in a row moved nothing, or when it made `sweeps` of them. So a round may be any number of turns for each node, and they have
 /// the round's number. A group that moves nothing for long yields the processor between its sweeps.
 pub fn round<R: Threads + Sync, N: Node + Send, G: Gate + Sync>(
     rt: &R,

@@ -98,25 +98,27 @@ impl<'a> Gate for Counted<'a> {
     }
 }
 
-/// One group leaves a round after so many sweeps.
+/// One group leaves a round after so many sweeps, in each of which a node takes up to eight turns in a row.
 #[test]
 fn sweeps_of_a_round(rt: HostRuntime) -> Result<(), Fail> {
-    for (moves, then, sweeps, patience, want, answer) in [
-        // All are done in the first sweep, or in the third.
-        (0, Turn::Done, 10, 5, 1, false),
-        (2, Turn::Done, 10, 5, 3, true),
-        // Five sweeps in a row move nothing, from the first one on or from the third.
-        (0, IDLE, 10, 5, 5, false),
-        (2, IDLE, 10, 5, 7, true),
-        (2, IDLE, 10, 1, 3, true),
-        (1, IDLE, 1_000, 300, 301, true),
+    for (moves, then, sweeps, patience, want, turns, answer) in [
+        // All are done in the first sweep, at once or in the third turn of one, or in the third sweep.
+        (0, Turn::Done, 10, 5, 1, 1, false),
+        (2, Turn::Done, 10, 5, 1, 3, true),
+        (20, Turn::Done, 10, 5, 3, 21, true),
+        // Five sweeps in a row move nothing, from the first one on or from the second.
+        (0, IDLE, 10, 5, 5, 5, false),
+        (2, IDLE, 10, 5, 6, 8, true),
+        (2, IDLE, 10, 1, 2, 4, true),
+        (1, IDLE, 1_000, 300, 301, 302, true),
         // No more sweeps may be made.
-        (0, IDLE, 3, 5, 3, false),
-        (20, Turn::Done, 10, 5, 10, true),
-        (2, IDLE, 1, 1, 1, true),
+        (0, IDLE, 3, 5, 3, 3, false),
+        (100, Turn::Done, 10, 5, 10, 80, true),
+        (7, IDLE, 1, 1, 1, 8, true),
+        (8, IDLE, 1, 1, 1, 8, true),
         // One sweep is made in any case.
-        (0, IDLE, 0, 5, 1, false),
-        (0, IDLE, 10, 0, 1, false),
+        (0, IDLE, 0, 5, 1, 1, false),
+        (0, IDLE, 10, 0, 1, 1, false),
     ] {
         let entered = [AtomicU32::new(0)];
         let mut groups = [two_movers(rt.alloc(), &entered[0], moves, then)?];
@@ -127,7 +129,7 @@ fn sweeps_of_a_round(rt: HostRuntime) -> Result<(), Fail> {
             answer,
             "{moves} moves, {sweeps} sweeps, patience {patience}"
         );
-        for node in &groups[0].nodes {
+        for (node, want) in groups[0].nodes.iter().zip([want, turns]) {
             assert_eq!(rt;
                 node.turns,
                 want,
@@ -137,7 +139,7 @@ fn sweeps_of_a_round(rt: HostRuntime) -> Result<(), Fail> {
         }
         assert_eq!(rt;
             groups[0].last.as_slice(),
-            [Turn::Done, if want > moves { then } else { Turn::Moved }].as_slice()
+            [Turn::Done, if turns > moves { then } else { Turn::Moved }].as_slice()
         );
     }
     Ok(())
@@ -148,7 +150,7 @@ fn sweeps_of_a_round(rt: HostRuntime) -> Result<(), Fail> {
 fn entries(rt: HostRuntime) -> Result<(), Fail> {
     let entered = [AtomicU32::new(0), AtomicU32::new(0), AtomicU32::new(0)];
     let mut groups = [
-        two_movers(rt.alloc(), &entered[0], 7, IDLE)?,
+        two_movers(rt.alloc(), &entered[0], 35, IDLE)?,
         two_movers(rt.alloc(), &entered[1], 0, IDLE)?,
         two_movers(rt.alloc(), &entered[2], 3, Turn::Done)?,
     ];

@@ -1,7 +1,7 @@
-//! Sweeps: each node of a group takes one turn, in order, and again.
+//! Sweeps: each node of a group takes some turns in a row, in order, and again.
 
 ghost use Rattle.std.specs.Prelude.{All};
-ghost use Rattle.sb_drive.specs.Rounds.{IsRound, IsSweep};
+ghost use Rattle.sb_drive.specs.Rounds.{IsRound, IsRow};
 
 use crate::group::Group;
 use crate::node::Node;
@@ -12,21 +12,50 @@ use std::thread;
 // may need it
 const SWEEPS_BEFORE_YIELDS: u32 = 2;
 
-/// Turns each node once, in order, and says whether one of them moved. Their answers stand in `last` then.
+// so many turns a node takes in a row while it moves: most of a turn's cost is to look at each of its rings, and a node
+// that moved often finds the next item there
+const TURNS_IN_A_ROW: u32 = 8;
+
+// what a node's turns in a row came to
+#[derive(Clone, Copy)]
+struct Row {
+    // a turn moved
+    moved: bool,
+    // the answer of the last one
+    last: Turn,
+}
+
+// turns a node until it doesn't move, or has taken so many turns in a row
+fn turn_in_a_row<N: Node>(node: &mut N, number: u32) -> Row
+    requires whole { N.whole node.old }
+    ensures whole { N.whole node.new }
+    ensures row { IsRow N.reaches N.rests N.turns number node.old result.last node.new result.moved }
+{
+    let mut last = node.turn(number);
+    let moved = matches!(last, Turn::Moved);
+    for _ in 1..TURNS_IN_A_ROW {
+        if !matches!(last, Turn::Moved) {
+            break;
+        }
+        last = node.turn(number);
+    }
+    Row { moved, last }
+}
+
+/// Turns each node some times in a row, in order, and says whether one of them moved. Their last answers stand in `last`
+/// then.
 pub(crate) fn sweep<N: Node>(group: &mut Group<N>, number: u32) -> bool
     requires whole { All N.whole group.old.nodes.items }
     ensures whole { All N.whole group.new.nodes.items }
-    ensures swept { IsSweep N.reaches N.rests N.turns number group.old.nodes.items group.new.nodes.items group.new.last.items result }
+    ensures round { IsRound N.reaches N.rests N.turns number group.old.nodes.items group.new.nodes.items group.new.last.items result }
 {
     let mut moved = false;
     let nodes = &mut group.nodes;
     let last = &mut group.last;
     for place in 0..nodes.len() {
-        let answer = nodes[place].turn(number);
-        if let Turn::Moved = answer {
-            moved = true;
-        }
-        last[place] = answer;
+        let row = turn_in_a_row(&mut nodes[place], number);
+        moved |= row.moved;
+        last[place] = row.last;
     }
     moved
 }
