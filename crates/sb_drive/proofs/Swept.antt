@@ -1,12 +1,12 @@
 -- Nodes that each take their turns in a row, from the first place on, make a round.
-use Rattle.std.proofs.Common.{◌≡◌, ◌≢◌, ⊎_elim, ℕ, ◌+◌, ◌<◌, ◌≤◌, List, length, get_or, set, Bool, true, false, true≢false, sym, refl, ap, ◌∙◌, subst, All, arith}
+use Rattle.std.proofs.Common.{◌≡◌, ◌≢◌, ⊎_elim, ℕ, ◌+◌, ◌<◌, ◌≤◌, List, length, get_or, set, Bool, true, false, sym, ◌∙◌, subst, All, arith}
 use Rattle.std.specs.Prelude.{◌||◌}
 use Rattle.std.proofs.lemmas.List.{get_or-set_other, get_or-set_same, length-set, get_or_default}
 use Rattle.std.proofs.lemmas.List.Elements.{All-set}
 use Rattle.std.proofs.lemmas.Bool.{cases_lt, or_parts, or_cases}
 use Rattle.sb_link.specs.declared.answers.Turn.{Turn}
 use Rattle.sb_link.specs.declared.answers.Turn.TheVariants.{Moved, Done}
-use Rattle.sb_drive.specs.Rounds.{HasMoved, IsRound, IsRow}
+use Rattle.sb_drive.specs.Rounds.{HasMoved, HasTurnedInARow, IsRound}
 
 module _ {N : Type 0} (whole : N → Type 0) (reaches : ℕ → N → N → Type 0) (rests : N → N → Type 0) (turns : N → ℕ → Turn → N → Type 0) (n : ℕ) where
   -- the nodes at the first k places have taken their turns: xs were the nodes, and now they are ys, with the last answers ms
@@ -14,25 +14,14 @@ module _ {N : Type 0} (whole : N → Type 0) (reaches : ℕ → N → N → Type
     pub same : length ys ≡ length xs
     pub placed : length ms ≡ length xs
     pub still : (j : ℕ) (d : N) → k ≤ j → get_or ys j d ≡ get_or xs j d
-    pub rows : (j : ℕ) (d : N) → j < k → (b : Bool) × (moved ≡ false → b ≡ false) × IsRow reaches rests turns n (get_or xs j d) (get_or ms j Done) (get_or ys j d) b
+    pub rows : (j : ℕ) (d : N) → j < k → (b : Bool) × (moved ≡ false → b ≡ false) × HasTurnedInARow reaches rests turns n (get_or xs j d) (get_or ms j Done) (get_or ys j d) b
     pub none : moved ≡ false → (j : ℕ) → j < k → get_or ms j Done ≢ Moved
     pub intact : All whole ys
     pub some : moved ≡ true → (j : ℕ) × (j < k) × ((d : N) → HasMoved reaches turns n (get_or xs j d) (get_or ys j d))
 
-  pub none_swept : (xs : List N) (ls : List Turn) → length ls ≡ length xs → All whole xs → HasSwept 0 xs xs ls false
-  none_swept xs ls placed w = record {
-    same = refl;
-    placed = placed;
-    still = λ j d _. refl;
-    rows = λ j d lt. absurd (omega arith);
-    none = λ _ j lt. absurd (omega arith);
-    intact = w;
-    some = λ e. absurd (true≢false (sym e));
-  }
-
   -- the node at the next place took its turns, from x to y
   pub one_swept : (k : ℕ) (xs ys : List N) (ms : List Turn) (moved : Bool) (x y : N) (t : Turn) (b : Bool)
-      → HasSwept k xs ys ms moved → k < length xs → x ≡ get_or ys k x → whole y → IsRow reaches rests turns n x t y b
+      → HasSwept k xs ys ms moved → k < length xs → x ≡ get_or ys k x → whole y → HasTurnedInARow reaches rests turns n x t y b
       → HasSwept (k + 1) xs (set ys k y) (set ms k t) (moved || b)
   one_swept k xs ys ms moved x y t b r lt is w row =
       let ly : k < length ys = let s = r.same in omega arith in
@@ -49,15 +38,15 @@ module _ {N : Type 0} (whole : N → Type 0) (reaches : ℕ → N → N → Type
             (λ (below : j < k). let g = r.rows j d below in (
               g.0,
               (λ e. g.1 (or_parts moved b e).0),
-              subst (λ z. IsRow reaches rests turns n (get_or xs j d) (get_or (set ms k t) j Done) z g.0) (node_before j d below)
-                  (subst (λ z. IsRow reaches rests turns n (get_or xs j d) z (get_or ys j d) g.0) (heard_before j below) g.2),
+              subst (λ z. HasTurnedInARow reaches rests turns n (get_or xs j d) (get_or (set ms k t) j Done) z g.0) (node_before j d below)
+                  (subst (λ z. HasTurnedInARow reaches rests turns n (get_or xs j d) z (get_or ys j d) g.0) (heard_before j below) g.2),
             ))
             (λ (from : k ≤ j). let e : k ≡ j = omega arith in (
               b,
               (λ e. (or_parts moved b e).1),
-              subst (λ j. IsRow reaches rests turns n (get_or xs j d) (get_or (set ms k t) j Done) (get_or (set ys k y) j d) b) e
-                  (subst (λ z. IsRow reaches rests turns n z (get_or (set ms k t) k Done) (get_or (set ys k y) k d) b) (was d)
-                  (subst (λ z. IsRow reaches rests turns n x z (get_or (set ys k y) k d) b) heard (subst (λ z. IsRow reaches rests turns n x t z b) (node d) row))),
+              subst (λ j. HasTurnedInARow reaches rests turns n (get_or xs j d) (get_or (set ms k t) j Done) (get_or (set ys k y) j d) b) e
+                  (subst (λ z. HasTurnedInARow reaches rests turns n z (get_or (set ms k t) k Done) (get_or (set ys k y) k d) b) (was d)
+                  (subst (λ z. HasTurnedInARow reaches rests turns n x z (get_or (set ys k y) k d) b) heard (subst (λ z. HasTurnedInARow reaches rests turns n x t z b) (node d) row))),
             ))
             (cases_lt j k);
         none = λ e j l. let o = or_parts moved b e in ⊎_elim

@@ -1,7 +1,7 @@
 //! Sweeps: each node of a group takes some turns in a row, in order, and again.
 
 ghost use Rattle.std.specs.Prelude.{All};
-ghost use Rattle.sb_drive.specs.Rounds.{IsRound, IsRow};
+ghost use Rattle.sb_drive.specs.Rounds.{HasTurnedInARow, IsRound};
 
 use crate::group::Group;
 use crate::node::Node;
@@ -18,7 +18,7 @@ const TURNS_IN_A_ROW: u32 = 8;
 
 // what a node's turns in a row came to
 #[derive(Clone, Copy)]
-struct Row {
+struct TurnsInARow {
     // a turn moved
     moved: bool,
     // the answer of the last one
@@ -26,10 +26,10 @@ struct Row {
 }
 
 // turns a node until it doesn't move, or has taken so many turns in a row
-fn turn_in_a_row<N: Node>(node: &mut N, number: u32) -> Row
+fn turn_in_a_row<N: Node>(node: &mut N, number: u32) -> TurnsInARow
     requires whole { N.whole node.old }
     ensures whole { N.whole node.new }
-    ensures row { IsRow N.reaches N.rests N.turns number node.old result.last node.new result.moved }
+    ensures row { HasTurnedInARow N.reaches N.rests N.turns number node.old result.last node.new result.moved }
 {
     let mut last = node.turn(number);
     let moved = matches!(last, Turn::Moved);
@@ -39,7 +39,7 @@ fn turn_in_a_row<N: Node>(node: &mut N, number: u32) -> Row
         }
         last = node.turn(number);
     }
-    Row { moved, last }
+    TurnsInARow { moved, last }
 }
 
 /// Turns each node some times in a row, in order, and says whether one of them moved. Their last answers stand in `last`
