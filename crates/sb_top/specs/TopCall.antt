@@ -18,7 +18,7 @@ use Rattle.sb_top.specs.BundleRuns.{Effects, IsUntouched, RanNetwork}
 use Rattle.sb_top.specs.Inputs.{HasRead, reads_input}
 use Rattle.sb_top.specs.Judgements.{ApprovedReport, HasReport, RefusedReport, RejectedReport}
 use Rattle.sb_top.specs.Refusals.{RefusedBundle, RefusedScript}
-use Rattle.sb_top.specs.Solo.{solo_network, IsSoloJournal}
+use Rattle.sb_solo.specs.Solo.{solo_network, IsSoloJournal}
 
 -- A script was run: the input spells it; the journal is one legal history of it, packet by packet; and the text is that journal's report.
 pub record RanScript (input : List ℕ) (journal : List Entry) (text : List ℕ) : Type 0 where

@@ -9,17 +9,16 @@ ghost use Rattle.sb_flow.specs.NetworkOf.{network_of};
 ghost use Rattle.sb_text.specs.Reports.{run_report};
 ghost use Rattle.sb_text.specs.Told.{FitsNetwork};
 ghost use Rattle.sb_top.specs.Refusals.{RefusedScript};
-ghost use Rattle.sb_top.specs.Solo.{IsSoloJournal, solo_network};
-ghost use Rattle.sb_top.specs.SoloRuns.{TellsAlone};
+ghost use Rattle.sb_solo.specs.Solo.{IsSoloJournal, solo_network};
+ghost use Rattle.sb_solo.specs.SoloRuns.{TellsAlone};
 ghost use Rattle.sb_top.specs.TopCall.{RanScript, Wrote, WrotePart};
 
 use crate::refusal::refuse_script;
-use crate::solo::{ScriptRun, run_script};
-use crate::solo_bundle::solo_bundle;
 use crate::status::{DONE, OUT_OF_MEMORY, REFUSED, WRITE_FAILED, status_of};
 use sb_flow::Bundle;
 use sb_io::Sink;
 use sb_packet::{Journal, Script};
+use sb_solo::{ScriptRun, run_script, solo_bundle};
 use sb_text::{ScriptFault, print, read_script};
 use std::alloc::{AllocError, Global};
 

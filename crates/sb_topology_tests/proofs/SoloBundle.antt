@@ -4,7 +4,7 @@ use Rattle.std.specs.Str.{is_utf8, chars}
 use Rattle.std.specs.Fmt.{digits}
 use Rattle.hex.proofs.OnLiterals.{hex_on_literals}
 use Rattle.serde_json.proofs.OnLiterals.{serde_json_on_literals}
-use Rattle.sb_top.specs.Solo.{solo_network}
+use Rattle.sb_solo.specs.Solo.{solo_network}
 use Rattle.sb_packet.specs.declared.transaction.Kind.TheVariants.{Read, Write}
 use Rattle.sb_packet.specs.declared.transaction.Txn.{Txn}
 use Rattle.sb_fields.specs.Fields.{an_object, bytes_in, numeral_in, object_with, only_fields, optional, required}

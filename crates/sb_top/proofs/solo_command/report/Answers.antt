@@ -5,7 +5,7 @@ use Rattle.sb_io.specs.Written.{Gains, GainsPart}
 use Rattle.sb_packet.specs.Answers.{run_results}
 use Rattle.sb_text.specs.Reports.{report_text}
 use Rattle.sb_text.specs.Told.{FitsNetwork}
-use Rattle.sb_top.specs.Solo.{solo_network}
+use Rattle.sb_solo.specs.Solo.{solo_network}
 use Rattle.sb_top.proofs.StatusLemmas.{was_done, was_failed}
 use Rattle.sb_top.proofs.solo_command.report.Goals as goal
 

@@ -5,10 +5,10 @@ use Rattle.sb_packet.specs.Networks.{Network}
 use Rattle.sb_packet.specs.Answers.{Outcome, RunResults}
 use Rattle.sb_packet.specs.declared.transaction.Txn.{Txn}
 use Rattle.sb_flow.specs.declared.host_plan.HostPlan.{HostPlan}
-use Rattle.sb_top.specs.Solo.{IsSoloJournal}
-use Rattle.sb_top.specs.SoloRuns.{solo_memory_from, solo_opening, solo_outcomes_from}
-use Rattle.sb_top.proofs.SoloReports.{first_script, solo_fits}
-use Rattle.sb_top.proofs.SoloResults.{solo_results_are}
+use Rattle.sb_solo.specs.Solo.{IsSoloJournal}
+use Rattle.sb_solo.specs.SoloRuns.{solo_memory_from, solo_opening, solo_outcomes_from}
+use Rattle.sb_solo.proofs.SoloReports.{first_script, solo_fits}
+use Rattle.sb_solo.proofs.SoloResults.{solo_results_are}
 use Rattle.sb_top.proofs.solo_command.run.Goals as goal
 
 pub returns-clause-tells : goal.returns-clause-tells

@@ -1,6 +1,6 @@
 -- The text that is written, whole or in part, is the report of the script's own journal, and that journal is lawful.
 use Rattle.std.proofs.Common.{inl, inr, refl}
-use Rattle.sb_top.proofs.SoloLawful.{solo_lawful}
+use Rattle.sb_solo.proofs.SoloLawful.{solo_lawful}
 use Rattle.sb_top.proofs.solo_command.solo.Goals as goal
 
 pub returns-in-Ok-clause-done : goal.returns-in-Ok-clause-done

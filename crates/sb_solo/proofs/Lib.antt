@@ -1,0 +1,10 @@
+pub mod SoloWords
+pub mod SoloLawful
+pub mod SoloResults
+pub mod SoloCounts
+pub mod SoloReports
+pub mod SoloExamples
+pub mod IssueLemmas
+pub mod RowLemmas
+pub mod StepLemmas
+pub mod UnreachedLemmas

@@ -1,0 +1,4 @@
+pub mod Solo
+pub mod SoloRuns
+pub mod Rows
+pub mod Steps

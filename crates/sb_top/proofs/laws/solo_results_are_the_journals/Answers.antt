@@ -1,6 +1,0 @@
--- The results of a run over a solo journal are those of its script.
-use Rattle.sb_top.proofs.SoloResults.{solo_results_are}
-use Rattle.sb_top.proofs.laws.solo_results_are_the_journals.Goals as goal
-
-pub returns : goal.returns
-returns c = record { results = λ script journal all is. solo_results_are script journal all is }
