@@ -18,6 +18,8 @@ TIME = "/usr/bin/time"
 DONE, REFUSED, WRITE_FAILED, REJECTED = 0, 3, 5, 8
 NUMBER = "7"
 MIB = 1 << 20
+# a profile leaves out what has a smaller share
+LEAST = 0.005
 
 
 def stop(text):
@@ -87,6 +89,19 @@ def print_row(*cells):
 def print_head(*cells):
     print_row(*cells)
     print("|---" * len(cells) + "|")
+
+
+def print_profile(command, source, folder):
+    """How the instructions of a command are shared among the functions that the program still names."""
+    kept = folder / "callgrind.out"
+    total = instructions(command, source, kept=kept)
+    told = subprocess.run(["callgrind_annotate", "--threshold=100", "--auto=no", kept], check=True, stdout=subprocess.PIPE, text=True).stdout
+    print(f"{total:,} instructions\n")
+    print_head("Function", "Instructions", "Share")
+    for count, function in re.findall(r"^ *([\d,]+) \( *[\d.]+%\)  [^:\n]*:(.*?)(?: \[.*\])?$", told, re.M):
+        share = int(count.replace(",", "")) / total
+        if share >= LEAST:
+            print_row(f"`{function}`", count, f"{share:.1%}")
 
 
 def met(fine):
