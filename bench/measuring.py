@@ -55,9 +55,9 @@ def instructions(command, source, status=DONE, output="/dev/null", kept="/dev/nu
     return int(re.search(r"Collected : (\d+)", said)[1])
 
 
-def resident(command, source):
+def resident(command, source, status=DONE):
     """The most bytes that were resident. (GNU time starts the program from a small process; a child of Python would count Python's own.)"""
-    return int(ended([TIME, "-f", "%M", *command], source).split()[-1]) * 1024
+    return int(ended([TIME, "--quiet", "-f", "%M", *command], source, status).split()[-1]) * 1024
 
 
 def times(command, source, runs):

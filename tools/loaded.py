@@ -4,7 +4,7 @@ standard input, and prints the fault, or every field of the network: no command 
 
     tools/loaded.py FILE
 
-puts the program there, for tools/compare_bundles and bench/measure_loader, which else make it themselves. It takes some minutes."""
+puts the program there, for tools/compare_bundles, which else makes it itself. It takes some minutes."""
 import pathlib
 import re
 import shutil
