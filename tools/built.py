@@ -33,3 +33,18 @@ def copy_of_the_crates(folder):
     files = subprocess.run(["git", "-C", ROOT, "ls-files", "-z"], check=True, stdout=subprocess.PIPE).stdout
     packed = subprocess.run(["tar", "-C", ROOT, "--null", "-T", "-", "-cf", "-"], input=files, check=True, stdout=subprocess.PIPE).stdout
     subprocess.run(["tar", "-C", folder, "-xf", "-"], input=packed, check=True)
+
+
+def proved(folder, name, text, uses, words=()):
+    """Has rt prove and build a program of its own over the crates, in a copy of these in a folder, and gives its path."""
+    copy_of_the_crates(folder)
+    crate = folder / "crates" / name
+    (crate / "src").mkdir(parents=True)
+    (crate / "src/main.rt").write_text(text)
+    with open(folder / "crates.txt", "a") as crates:
+        crates.write(f"{name}: {uses}\n")
+    # rt run also runs it, on no input
+    ran = subprocess.run(["rt", "run", "--", *words], cwd=crate, stdin=subprocess.DEVNULL, stdout=subprocess.PIPE, stderr=subprocess.STDOUT)
+    if ran.returncode:
+        sys.exit(f"{pathlib.Path(sys.argv[0]).name}: {name} was not built: {ran.stdout[-3000:].decode(errors='replace')}")
+    return crate / "out" / name

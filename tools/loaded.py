@@ -1,11 +1,10 @@
 #!/usr/bin/env python3
-"""The loader as a program: as no command of `sb` reads bundles yet, a program of its own is made in a copy of the crates. It
-loads each bundle of its standard input, and prints the fault, or every field of the network.
+"""The loader as a program of its own, which rt proves and builds in a copy of the crates, as it does `sb`. It loads each bundle of its
+standard input, and prints the fault, or every field of the network: no command of `sb` does just that.
 
     tools/loaded.py FILE
 
-proves and builds the program, which takes some minutes, and puts it there, for tools/compare_bundles and bench/measure_loader,
-which else make it themselves."""
+puts the program there, for tools/compare_bundles, which else makes it itself. It takes some minutes."""
 import pathlib
 import re
 import shutil
@@ -16,7 +15,7 @@ import tempfile
 sys.dont_write_bytecode = True
 import built
 
-NAME = "bundle_lines"
+NAME, USES = "bundle_lines", "sb_topology sb_flow sb_packet sb_text serde_json"
 ATOMICS = "add and or xor max min maxu minu swap".split()
 VERBS = {"Read": "rd", "Write": "wr", "Posted": "wp"}
 SOURCE = r'''//! Loads each bundle of standard input, and prints its fault or every field of its network. Before each bundle, and before
@@ -242,27 +241,9 @@ fn main(rt: HostRuntime) -> io::Result<()> {
 '''
 
 
-def folder_of(copy):
-    return copy / "crates" / NAME
-
-
-def make(copy):
-    """Puts the crates and the program into a folder."""
-    built.copy_of_the_crates(copy)
-    source = folder_of(copy) / "src"
-    source.mkdir(parents=True)
-    (source / "main.rt").write_text(SOURCE)
-    with open(copy / "crates.txt", "a") as crates:
-        crates.write(f"{NAME}: sb_topology sb_flow sb_packet sb_text serde_json\n")
-
-
-def proved(copy):
-    """Proves and builds the program, and gives its path."""
-    make(copy)
-    ran = subprocess.run(["rt", "run"], cwd=folder_of(copy), input=b"", stdout=subprocess.PIPE, stderr=subprocess.STDOUT)
-    if ran.returncode:
-        sys.exit(f"the program was not built: {ran.stdout[-3000:].decode(errors='replace')}")
-    return folder_of(copy) / "out" / NAME
+def proved(folder):
+    """Proves and builds the program in a folder, and gives its path."""
+    return built.proved(folder, NAME, SOURCE, USES)
 
 
 def framed(bundles):
@@ -287,9 +268,9 @@ def verb(found):
     return f"t {ATOMICS[int(atomic)] if atomic.isdigit() else atomic.lower()}".encode()
 
 
-def answers(command, folder, bundles):
-    """What a command in a folder that runs the program answers to each bundle."""
-    ran = subprocess.run(command, cwd=folder, input=framed(bundles), stdout=subprocess.PIPE, stderr=subprocess.PIPE)
+def answers(program, bundles):
+    """What the program answers to each bundle."""
+    ran = subprocess.run([program], input=framed(bundles), stdout=subprocess.PIPE, stderr=subprocess.PIPE)
     if ran.returncode:
         sys.exit(f"the program ended with status {ran.returncode}: {ran.stderr[-3000:].decode(errors='replace')}")
     return texts(ran.stdout)
