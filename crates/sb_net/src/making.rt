@@ -45,6 +45,7 @@ pub(crate) fn parts_of<F: Fabric>(
     requires made { F.made fabric.old ≡ [] }
     ensures made { IfOk result (λ parts. F.made fabric.new ≡ first_plans (network_of bundle.now) (ring_count (network_of bundle.now))) }
     ensures unsettled { IfOk result (λ parts. (ring : ℕ) → ring < ring_count (network_of bundle.now) → F.settled fabric.new ring ≡ false) }
+    ensures carried { (ring : ℕ) → F.carried fabric.new ring ≡ F.carried fabric.old ring }
     ensures joints { IfOk result (λ parts. parts.joints.items ≡ network_joints (network_of bundle.now)) }
     ensures stands { IfOk result (λ parts. StandsFor (network_of bundle.now) parts.joints.items parts.nodes.items) }
     ensures met { IfOk result (λ parts. HaveAllMet parts.joints.items (length parts.joints.items) parts.nodes.items) }

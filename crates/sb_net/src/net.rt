@@ -88,6 +88,7 @@ pub fn build<F: Fabric>(
     ensures groups { IfOk result (λ net. length net.groups ≡ workers) }
     ensures made { IfOk result (λ net. F.made fabric.new ≡ first_plans (network_of bundle.now) (ring_count (network_of bundle.now))) }
     ensures unsettled { IfOk result (λ net. (ring : ℕ) → ring < ring_count (network_of bundle.now) → F.settled fabric.new ring ≡ false) }
+    ensures carried { (ring : ℕ) → F.carried fabric.new ring ≡ F.carried fabric.old ring }
 {
     let hosts = bundle.hosts.len();
     let first_device = hosts + bundle.routers.len();

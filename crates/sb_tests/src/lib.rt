@@ -20,6 +20,8 @@ mod nets;
 #[cfg(test)]
 mod network;
 #[cfg(test)]
+mod reads;
+#[cfg(test)]
 mod refusals;
 #[cfg(test)]
 mod rendezvous;

@@ -1,6 +1,6 @@
 //! The commands that run a bundle: `replay` on one thread, and `run` on several.
 
-ghost use Rattle.std.specs.Prelude.{◌≡◌, ◌≢◌, ◌≤◌, ◌^◌, ◌⊎◌, [], None, length};
+ghost use Rattle.std.specs.Prelude.{◌≡◌, ◌≢◌, ◌≤◌, ◌^◌, ◌⊎◌, ℕ, [], None, length};
 ghost use Rattle.sb_io.specs.Counts.{FaultsIncreased};
 ghost use Rattle.sb_io.specs.Written.{Gains, GainsPart};
 ghost use Rattle.sb_fields.specs.declared.fault.LoadFault.TheVariants as faults;
@@ -48,6 +48,7 @@ fn report<R: Threads + Sync, K: Sink, F: MeetFabric, G: Gate + Sync>(
         GainsPart (K.held sink.old) (K.held sink.new) (run_report (network_of bundle.now) journal.new.entries history None) }
     ensures silent { result ≡ OUT_OF_MEMORY → K.held sink.new ≡ K.held sink.old }
     ensures no_run { result ≡ OUT_OF_MEMORY → journal.new.entries ≡ [] }
+    ensures not_begun { result ≡ OUT_OF_MEMORY → (ring : ℕ) → F.carried fabric.new ring ≡ F.carried fabric.old ring }
     ensures cause { result ≡ WRITE_FAILED → FaultsIncreased (K.faults sink.old) (K.faults sink.new) }
     ensures clean { result ≢ WRITE_FAILED → K.faults sink.new ≡ K.faults sink.old }
     ensures others { (result ≡ DONE) ⊎ (result ≡ WRITE_FAILED) ⊎ (result ≡ OUT_OF_MEMORY) }
@@ -101,6 +102,7 @@ pub fn run_input<R: Threads + Sync, K: Sink, F: MeetFabric, G: Gate + Sync>(
         (K.held sink.old) (K.held sink.new) }
     ensures silent { result ≡ OUT_OF_MEMORY → K.held sink.new ≡ K.held sink.old }
     ensures no_run { result ≡ OUT_OF_MEMORY → journal.new.entries ≡ [] }
+    ensures not_begun { result ≡ OUT_OF_MEMORY → (ring : ℕ) → F.carried fabric.new ring ≡ F.carried fabric.old ring }
     ensures cause { result ≡ WRITE_FAILED → FaultsIncreased (K.faults sink.old) (K.faults sink.new) }
     ensures clean { result ≢ WRITE_FAILED → K.faults sink.new ≡ K.faults sink.old }
     ensures others { (result ≡ DONE) ⊎ (result ≡ REFUSED) ⊎ (result ≡ WRITE_FAILED) ⊎ (result ≡ OUT_OF_MEMORY) }

@@ -39,7 +39,7 @@ fn run_net<R: Threads + Sync, F: MeetFabric, G: Gate + Sync>(
 ///
 /// # Errors
 ///
-/// `AllocError` where there isn't enough memory; then the journal has no entry.
+/// `AllocError` where there isn't enough memory; then the journal has no entry, and no ring was given back to the fabric.
 pub fn run_bundle<R: Threads + Sync, F: MeetFabric, G: Gate + Sync>(
     rt: &R,
     alloc: Global,
@@ -54,6 +54,7 @@ pub fn run_bundle<R: Threads + Sync, F: MeetFabric, G: Gate + Sync>(
     requires unused { F.made fabric.old ≡ [] }
     ensures run { IfOk result (HasRunAs (network_of bundle.now) (effects_in F.Fabric fabric.new journal.new.entries)) }
     ensures no_run { OnErr result (journal.new.entries ≡ []) }
+    ensures not_begun { OnErr result ((ring : ℕ) → F.carried fabric.new ring ≡ F.carried fabric.old ring) }
 {
     let mut net = build(alloc, bundle, schedule.groups(), fabric)?;
     journal.reserve(bundle_words(bundle))?;

@@ -1,11 +1,12 @@
 //! The top call of `sb`.
 
-ghost use Rattle.std.specs.Prelude.{◌≡◌, ◌≢◌, ◌≤◌, ◌⊎◌, ◌^◌, [], List, ℕ, None, Some, length, map, string_bytes};
+ghost use Rattle.std.specs.Prelude.{◌≡◌, ◌≢◌, ◌≤◌, ◌⊎◌, ◌^◌, [], List, ℕ, None, Some, length, map, string_bytes, true};
 ghost use Rattle.sb_io.specs.Counts.{FaultsIncreased};
 ghost use Rattle.sb_words.specs.Commands.{IsCommandInRange, command_in};
 ghost use Rattle.sb_words.specs.declared.command.Command.{Command as AnyCommand};
 ghost use Rattle.sb_words.specs.declared.command.Command.TheVariants as commands;
 ghost use Rattle.sb_top.specs.BundleRuns.{IsUntouched, effects_in};
+ghost use Rattle.sb_top.specs.Inputs.{reads_input};
 ghost use Rattle.sb_top.specs.TopCall.{IsAnyText, IsFaultless, IsRefusal, IsRejection, IsRun, IsTooLong, IsUsage, Ran, Refused, Rejected, Wrote, WrotePart};
 
 use crate::bundle_command::run_input;
@@ -53,6 +54,7 @@ fn perform<R: Threads + Sync, K: Sink, F: MeetFabric, G: Gate + Sync>(
         (K.held sink.old) (K.held sink.new) }
     ensures silent { result ≡ OUT_OF_MEMORY → K.held sink.new ≡ K.held sink.old }
     ensures no_run { result ≡ OUT_OF_MEMORY → journal.new.entries ≡ [] }
+    ensures not_begun { result ≡ OUT_OF_MEMORY → (ring : ℕ) → F.carried fabric.new ring ≡ F.carried fabric.old ring }
     ensures cause { result ≡ WRITE_FAILED → FaultsIncreased (K.faults sink.old) (K.faults sink.new) }
     ensures clean { result ≢ WRITE_FAILED → K.faults sink.new ≡ K.faults sink.old }
     ensures others { (result ≡ DONE) ⊎ (result ≡ REFUSED) ⊎ (result ≡ WRITE_FAILED) ⊎ (result ≡ OUT_OF_MEMORY) ⊎ (result ≡ REJECTED) }
@@ -107,6 +109,9 @@ fn carry_out<R: Threads + Sync, S: Source, K: Sink, F: MeetFabric, G: Gate + Syn
         (K.held sink.old) (K.held sink.new) }
     ensures silent { (result ≡ READ_FAILED) ⊎ (result ≡ OUT_OF_MEMORY) → K.held sink.new ≡ K.held sink.old }
     ensures no_run { (result ≡ READ_FAILED) ⊎ (result ≡ OUT_OF_MEMORY) → journal.new.entries ≡ [] }
+    ensures untouched { result ≡ READ_FAILED → IsUntouched (effects_in F.Fabric fabric.new journal.new.entries) }
+    ensures not_begun { result ≡ OUT_OF_MEMORY → (ring : ℕ) → F.carried fabric.new ring ≡ F.carried fabric.old ring }
+    ensures reads { result ≡ READ_FAILED → reads_input command ≡ true }
     ensures read_cause { result ≡ READ_FAILED → FaultsIncreased (S.faults source.old) (S.faults source.new) }
     ensures write_cause { result ≡ WRITE_FAILED → FaultsIncreased (K.faults sink.old) (K.faults sink.new) }
     ensures read_clean { result ≢ READ_FAILED → S.faults source.new ≡ S.faults source.old }
@@ -163,10 +168,14 @@ fn answer<R: Threads + Sync, S: Source, K: Sink, F: MeetFabric, G: Gate + Sync>(
         (effects_in F.Fabric fabric.new journal.new.entries)) (K.held sink.old) (K.held sink.new) }
     ensures silent { (result ≡ READ_FAILED) ⊎ (result ≡ OUT_OF_MEMORY) → K.held sink.new ≡ K.held sink.old }
     ensures no_run { (result ≡ READ_FAILED) ⊎ (result ≡ OUT_OF_MEMORY) → journal.new.entries ≡ [] }
+    ensures untouched { result ≡ READ_FAILED → IsUntouched (effects_in F.Fabric fabric.new journal.new.entries) }
+    ensures not_begun { result ≡ OUT_OF_MEMORY → (ring : ℕ) → F.carried fabric.new ring ≡ F.carried fabric.old ring }
 
     // When each status comes.
     ensures words { command_in (map string_bytes words.now) ≡ None
         → (result ≡ USAGE) ⊎ (result ≡ WRITE_FAILED) ⊎ (result ≡ OUT_OF_MEMORY) }
+    ensures asked { result ≡ READ_FAILED → (command : AnyCommand)
+        × (command_in (map string_bytes words.now) ≡ Some command) × (reads_input command ≡ true) }
     ensures read_cause { result ≡ READ_FAILED → FaultsIncreased (S.faults source.old) (S.faults source.new) }
     ensures write_cause { result ≡ WRITE_FAILED → FaultsIncreased (K.faults sink.old) (K.faults sink.new) }
     ensures read_clean { result ≢ READ_FAILED → S.faults source.new ≡ S.faults source.old }
@@ -216,10 +225,14 @@ pub fn top<R: Threads + Sync, S: Source, K: Sink, F: MeetFabric, G: Gate + Sync>
         (effects_in F.Fabric fabric.new journal.new.entries)) (K.held sink.old) (K.held sink.new) }
     ensures silent { (result ≡ READ_FAILED) ⊎ (result ≡ OUT_OF_MEMORY) → K.held sink.new ≡ K.held sink.old }
     ensures no_run { (result ≡ READ_FAILED) ⊎ (result ≡ OUT_OF_MEMORY) → journal.new.entries ≡ [] }
+    ensures untouched { result ≡ READ_FAILED → IsUntouched (effects_in F.Fabric fabric.new journal.new.entries) }
+    ensures not_begun { result ≡ OUT_OF_MEMORY → (ring : ℕ) → F.carried fabric.new ring ≡ F.carried fabric.old ring }
 
     // When each status comes.
     ensures words { command_in (map string_bytes words.now) ≡ None
         → (result ≡ USAGE) ⊎ (result ≡ WRITE_FAILED) ⊎ (result ≡ OUT_OF_MEMORY) }
+    ensures asked { result ≡ READ_FAILED → (command : AnyCommand)
+        × (command_in (map string_bytes words.now) ≡ Some command) × (reads_input command ≡ true) }
     ensures read_cause { result ≡ READ_FAILED → FaultsIncreased (S.faults source.old) (S.faults source.new) }
     ensures write_cause { result ≡ WRITE_FAILED → FaultsIncreased (K.faults sink.old) (K.faults sink.new) }
     ensures read_clean { result ≢ READ_FAILED → S.faults source.new ≡ S.faults source.old }

@@ -1,6 +1,6 @@
 //! The command `gen`: a bundle that is generated runs on threads.
 
-ghost use Rattle.std.specs.Prelude.{◌≡◌, ◌≢◌, ◌⊎◌, []};
+ghost use Rattle.std.specs.Prelude.{◌≡◌, ◌≢◌, ◌⊎◌, ℕ, []};
 ghost use Rattle.sb_io.specs.Counts.{FaultsIncreased};
 ghost use Rattle.sb_top.specs.BundleRuns.{effects_in};
 ghost use Rattle.sb_top.specs.TopCall.{RanGenerated, Wrote, WrotePart};
@@ -37,6 +37,7 @@ pub fn generate<R: Threads + Sync, K: Sink, F: MeetFabric, G: Gate + Sync>(
         (K.held sink.old) (K.held sink.new) }
     ensures silent { result ≡ OUT_OF_MEMORY → K.held sink.new ≡ K.held sink.old }
     ensures no_run { result ≡ OUT_OF_MEMORY → journal.new.entries ≡ [] }
+    ensures not_begun { result ≡ OUT_OF_MEMORY → (ring : ℕ) → F.carried fabric.new ring ≡ F.carried fabric.old ring }
     ensures cause { result ≡ WRITE_FAILED → FaultsIncreased (K.faults sink.old) (K.faults sink.new) }
     ensures clean { result ≢ WRITE_FAILED → K.faults sink.new ≡ K.faults sink.old }
     ensures others { (result ≡ DONE) ⊎ (result ≡ WRITE_FAILED) ⊎ (result ≡ OUT_OF_MEMORY) }

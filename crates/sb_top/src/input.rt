@@ -1,6 +1,6 @@
 //! Reading the whole input.
 
-ghost use Rattle.std.specs.Prelude.{◌≡◌, ◌≤◌, ◌<◌, ◌^◌, ◌+◌, ◌⊎◌, true, IfOk, IsErrOf, IfSome, length, drop, option_map, vec_len};
+ghost use Rattle.std.specs.Prelude.{◌≡◌, ◌≤◌, ◌<◌, ◌^◌, ◌+◌, ◌⊎◌, true, IfOk, IsErrOf, IfSome, OnErr, length, drop, option_map, vec_len};
 ghost use Rattle.sb_io.specs.Counts.{FaultsIncreased};
 ghost use Rattle.sb_top.specs.Inputs.{HasRead, IsWholeInput, reads_input};
 ghost use Rattle.sb_top.specs.declared.input.ReadFault.TheVariants as faults;
@@ -71,7 +71,7 @@ pub fn read_for<S: Source>(
     ensures limit { IfOk result (λ v. vec_len v ≤ 2 ^ 26) }
     ensures read { IfOk result (λ v. HasRead command (S.left source.old) (S.left source.new) v.items) }
     ensures cause { IsErrOf result faults.Failed → FaultsIncreased (S.faults source.old) (S.faults source.new) }
-    ensures reads { IsErrOf result faults.TooLong → reads_input command ≡ true }
+    ensures reads { OnErr result (reads_input command ≡ true) }
     ensures long { IsErrOf result faults.TooLong → IfSome (S.left source.old) (λ left. 2 ^ 26 < length left) }
     ensures taken { IsErrOf result faults.TooLong → S.left source.new ≡ option_map (drop (2 ^ 26 + 1)) (S.left source.old) }
     ensures clean { (IsErrOf result faults.Failed) ⊎ (S.faults source.new ≡ S.faults source.old) }

@@ -86,6 +86,7 @@ fn deal_link<F: Fabric>(
     requires seats { dealt.old.seats.items ≡ map (request_joint (network_of bundle.now)) (range_with_len 0 link) }
     ensures made { IfOk result (λ _. F.made fabric.new ≡ first_plans (network_of bundle.now) (2 * link + 2)) }
     ensures unsettled { IfOk result (λ _. (ring : ℕ) → ring < 2 * link + 2 → F.settled fabric.new ring ≡ false) }
+    ensures carried { (ring : ℕ) → F.carried fabric.new ring ≡ F.carried fabric.old ring }
     ensures dealt { IfOk result (λ _. AreDealt F.Tx.TxEnd F.Rx.RxEnd (network_of bundle.now) (link + 1)
         (piles_of dealt.new.outs.items) (piles_of dealt.new.ins.items)) }
     ensures seats { IfOk result (λ _. dealt.new.seats.items ≡ map (request_joint (network_of bundle.now)) (range_with_len 0 (link + 1))) }
@@ -120,6 +121,7 @@ pub fn deal_links<F: Fabric>(
     requires made { F.made fabric.old ≡ [] }
     ensures made { IfOk result (λ _. F.made fabric.new ≡ first_plans (network_of bundle.now) (ring_count (network_of bundle.now))) }
     ensures unsettled { IfOk result (λ _. (ring : ℕ) → ring < ring_count (network_of bundle.now) → F.settled fabric.new ring ≡ false) }
+    ensures carried { (ring : ℕ) → F.carried fabric.new ring ≡ F.carried fabric.old ring }
     ensures dealt { IfOk result (λ dealt. AreDealt F.Tx.TxEnd F.Rx.RxEnd (network_of bundle.now) (length (network_of bundle.now).links)
         (piles_of dealt.outs.items) (piles_of dealt.ins.items)) }
     ensures seats { IfOk result (λ dealt. dealt.seats.items

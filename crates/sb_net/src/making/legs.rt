@@ -28,6 +28,7 @@ pub fn make_legs<F: Fabric>(
     requires unsettled { (ring : ℕ) → ring < 2 * link → F.settled fabric.old ring ≡ false }
     ensures made { IfOk result (λ legs. F.made fabric.new ≡ first_plans (network_of bundle.now) (2 * link + 2)) }
     ensures unsettled { IfOk result (λ legs. (ring : ℕ) → ring < 2 * link + 2 → F.settled fabric.new ring ≡ false) }
+    ensures carried { (ring : ℕ) → F.carried fabric.new ring ≡ F.carried fabric.old ring }
     ensures legs { IfOk result (λ legs. AreLegsOf F.Tx.TxEnd F.Rx.RxEnd (network_of bundle.now) link legs.0 legs.1) }
 {
     let down = paths.plan(bundle, 2 * u16::from(link));

@@ -28,7 +28,7 @@ returns-in-Err-TooLong-clause-part g c = λ five words asked.
       is = inr (inr (inr (inr (record {
         command = c.args.command;
         asked = asked;
-        reads = c.in-Err-TooLong.ensures.reads (rw c.in-Err-TooLong.field-0-is refl);
+        reads = c.in-Err-TooLong.ensures.reads;
         long = c.in-Err-TooLong.ensures.long (rw c.in-Err-TooLong.field-0-is refl);
         taken = c.in-Err-TooLong.ensures.taken (rw c.in-Err-TooLong.field-0-is refl);
         untouched = record { no_entry = c.requires.empty; no_ring = c.requires.unused };
