@@ -18,9 +18,22 @@ module _ {N : Type 0} (reaches : ℕ → N → N → Type 0) (rests : N → N �
   abbrev pub IsGroupRound : Group N → Group N → Type 0
   IsGroupRound before after = IsRound reaches rests turns number before.nodes.items after.nodes.items after.last.items after.moved
 
+  -- whatever round led to the earlier group, one with the same beginning led to the later one
+  abbrev pub GoesOn : Group N → Group N → Type 0
+  GoesOn before after = (start : Group N) → IsGroupRound start before → IsGroupRound start after
+
   -- a round was made with the nodes of each group
   abbrev pub EachGroupRound : List (Group N) → List (Group N) → Type 0
   EachGroupRound before after = (g : ℕ) (none : Group N) → g < length before → IsGroupRound (slice_index_or before g none) (slice_index_or after g none)
+
+  -- the same of each group
+  abbrev pub EachGoesOn : List (Group N) → List (Group N) → Type 0
+  EachGoesOn before after = (g : ℕ) (none : Group N) → g < length before → GoesOn (slice_index_or before g none) (slice_index_or after g none)
+
+  -- the group at a place is whole, and goes on with the round of the earlier one there
+  pub record GoesOnAt (whole : N → Type 0) (before : List (Group N)) (place : ℕ) (group : Group N) : Type 0 where
+    pub whole_nodes : IsWholeGroup whole group
+    pub goes_on : (none : Group N) → place < length before → GoesOn (slice_index_or before place none) group
 
 module _ {N : Type 0} (reaches : ℕ → N → N → Type 0) (turns : N → ℕ → Turn → N → Type 0) (number : ℕ) where
   -- a node of a group moved

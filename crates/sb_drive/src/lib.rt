@@ -1,9 +1,12 @@
 //! Turns and rounds: nodes that take turns one after another, and groups of nodes that do so side by side.
 #![tactic(auto)]
 
+mod alone;
 mod gate;
 mod group;
+mod group_visitor;
 mod node;
+mod pace;
 mod serial;
 mod side_by_side;
 mod sweep;
@@ -12,6 +15,7 @@ mod turn_place;
 pub use gate::{FreeGate, Gate};
 pub use group::Group;
 pub use node::Node;
+pub use pace::Pace;
 pub use serial::round_serial;
 pub use side_by_side::round;
 

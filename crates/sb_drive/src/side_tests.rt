@@ -3,7 +3,7 @@
 ghost use Rattle.std.specs.Prelude.{◌≡◌, All, vec_len};
 ghost use Rattle.sb_drive.specs.SideBySide.{IsWholeGroup};
 
-use crate::{FreeGate, Gate, Group, Node, round};
+use crate::{FreeGate, Gate, Group, Node, Pace, round};
 use sb_link::{Cause, Turn};
 use std::alloc::{AllocError, Global};
 use std::hint;
@@ -13,8 +13,16 @@ use std::thread::Threads;
 
 const IDLE: Turn = Turn::Idle(Cause::Later);
 
-// more sweeps than a test makes
-const ANY_SWEEPS: u32 = 1_000_000;
+// more passes than a test makes
+const ANY_PASSES: u32 = 1_000_000;
+
+// 16 passes alone, then any number of them, with one sweep a group in each
+const SWEEP_BY_SWEEP: Pace = Pace {
+    alone: 16,
+    passes: ANY_PASSES,
+    patience: 1_000,
+    sweeps: 1,
+};
 
 /// A node that moves in its first turns, and then answers the same for ever. It looks in each turn whether its group
 /// entered the gate just once in each round.
@@ -90,6 +98,15 @@ struct Counted<'a> {
     entered: &'a [AtomicU32],
 }
 
+impl<'a> Counted<'a> {
+    fn count(&self, group: u32) -> u32 {
+        match self.entered.get(group as usize) {
+            Some(entered) => entered.load(Ordering::SeqCst),
+            None => 0,
+        }
+    }
+}
+
 impl<'a> Gate for Counted<'a> {
     fn enter(&self, group: u32) {
         if let Some(entered) = self.entered.get(group as usize) {
@@ -98,54 +115,52 @@ impl<'a> Gate for Counted<'a> {
     }
 }
 
-/// One group leaves a round after so many sweeps, in each of which a node takes up to eight turns in a row.
+/// On one thread a round is over with the first pass in which nothing moves, or with its last one. After the first pass a
+/// group makes some sweeps in each, while it moves.
 #[test]
 fn sweeps_of_a_round(rt: HostRuntime) -> Result<(), Fail> {
-    for (moves, then, sweeps, patience, want, turns, answer) in [
-        // All are done in the first sweep, at once or in the third turn of one, or in the third sweep.
-        (0, Turn::Done, 10, 5, 1, 1, false),
-        (2, Turn::Done, 10, 5, 1, 3, true),
-        (20, Turn::Done, 10, 5, 3, 21, true),
-        // Five sweeps in a row move nothing, from the first one on or from the second.
-        (0, IDLE, 10, 5, 5, 5, false),
-        (2, IDLE, 10, 5, 6, 8, true),
-        (2, IDLE, 10, 1, 2, 4, true),
-        (1, IDLE, 1_000, 300, 301, 302, true),
-        // No more sweeps may be made.
-        (0, IDLE, 3, 5, 3, 3, false),
-        (100, Turn::Done, 10, 5, 10, 80, true),
-        (7, IDLE, 1, 1, 1, 8, true),
-        (8, IDLE, 1, 1, 1, 8, true),
-        // One sweep is made in any case.
-        (0, IDLE, 0, 5, 1, 1, false),
-        (0, IDLE, 10, 0, 1, 1, false),
+    for (moves, passes, sweeps, want, turns) in [
+        // Nothing moves in the first pass, or in the second.
+        (0, 10, 4, 1, 1),
+        (2, 10, 4, 2, 4),
+        // The mover has its moves behind it in the third sweep: that is the third pass, or the second one.
+        (20, 10, 1, 4, 22),
+        (20, 10, 4, 5, 23),
+        // No more passes may be made, nor sweeps in a pass.
+        (100, 3, 2, 5, 40),
+        (7, 1, 4, 1, 8),
+        (8, 1, 4, 1, 8),
+        // One pass is made in any case.
+        (0, 0, 4, 1, 1),
+        (8, 0, 4, 1, 8),
     ] {
-        let entered = [AtomicU32::new(0)];
-        let mut groups = [two_movers(rt.alloc(), &entered[0], moves, then)?];
-        let gate = Counted { entered: &entered };
-        let moved = round(&rt, &mut groups, sweeps, patience, 0, &gate);
-        assert_eq!(rt;
-            moved,
-            answer,
-            "{moves} moves, {sweeps} sweeps, patience {patience}"
-        );
-        for (node, want) in groups[0].nodes.iter().zip([want, turns]) {
+        for (workers, then) in [(1, Turn::Done), (1, IDLE), (2, IDLE)] {
+            let entered = [AtomicU32::new(0)];
+            let mut groups = [two_movers(rt.alloc(), &entered[0], moves, then)?];
+            let gate = Counted { entered: &entered };
+            let pace = Pace {
+                alone: 0,
+                passes,
+                patience: 1,
+                sweeps,
+            };
+            let moved = round(&rt, rt.alloc(), &mut groups, workers, pace, 0, &gate);
+            assert_eq!(rt; moved, moves > 0, "{moves} moves, {passes} passes");
+            for (node, want) in groups[0].nodes.iter().zip([want, turns]) {
+                assert_eq!(rt; node.turns, want, "{moves} moves, {passes} passes");
+                assert!(rt; node.entered_once);
+            }
             assert_eq!(rt;
-                node.turns,
-                want,
-                "{moves} moves, {sweeps} sweeps, patience {patience}"
+                groups[0].last.as_slice(),
+                [Turn::Done, if turns > moves { then } else { Turn::Moved }].as_slice()
             );
-            assert!(rt; node.entered_once);
         }
-        assert_eq!(rt;
-            groups[0].last.as_slice(),
-            [Turn::Done, if turns > moves { then } else { Turn::Moved }].as_slice()
-        );
     }
     Ok(())
 }
 
-/// Each group enters the gate with its place, once a round and before its first turn.
+/// Where a round ends on the calling thread alone, each group enters the gate with its place, once and before its first
+/// turn.
 #[test]
 fn entries(rt: HostRuntime) -> Result<(), Fail> {
     let entered = [AtomicU32::new(0), AtomicU32::new(0), AtomicU32::new(0)];
@@ -155,8 +170,16 @@ fn entries(rt: HostRuntime) -> Result<(), Fail> {
         two_movers(rt.alloc(), &entered[2], 3, Turn::Done)?,
     ];
     let gate = Counted { entered: &entered };
-    for (number, answer) in [(0, true), (1, true), (2, false)] {
-        let moved = round(&rt, &mut groups, 4, 2, number, &gate);
+    for (number, answer) in [(0, true), (1, false), (2, false)] {
+        let moved = round(
+            &rt,
+            rt.alloc(),
+            &mut groups,
+            4,
+            SWEEP_BY_SWEEP,
+            number,
+            &gate,
+        );
         assert_eq!(rt; moved, answer, "round {number}");
     }
     for count in &entered {
@@ -168,9 +191,30 @@ fn entries(rt: HostRuntime) -> Result<(), Fail> {
     Ok(())
 }
 
-/// Lets a group pass when it has seen another one at the gate, or has looked for it for long.
+/// Of a round that goes on after the passes on the calling thread alone each group enters the gate anew.
+#[test]
+fn entries_beside_others(rt: HostRuntime) -> Result<(), Fail> {
+    let entered = [AtomicU32::new(0), AtomicU32::new(0)];
+    let mut groups = [
+        two_movers(rt.alloc(), &entered[0], 1_000, IDLE)?,
+        two_movers(rt.alloc(), &entered[1], 1_000, Turn::Done)?,
+    ];
+    let gate = Counted { entered: &entered };
+    assert!(rt; round(&rt, rt.alloc(), &mut groups, 2, SWEEP_BY_SWEEP, 0, &gate));
+    for count in &entered {
+        assert!(rt; count.load(Ordering::SeqCst) > 1);
+    }
+    for group in &groups {
+        assert!(rt; group.nodes.iter().all(|node| node.turns > node.moves));
+    }
+    Ok(())
+}
+
+/// Lets a group pass that is on the calling thread alone. When it comes for the second time it waits until it has seen
+/// another one at the gate, or has looked for it for long.
 #[derive(Drop)]
 struct Rendezvous<'a> {
+    entered: Counted<'a>,
     first: &'a AtomicBool,
     second: &'a AtomicBool,
     seen: &'a AtomicU32,
@@ -178,6 +222,10 @@ struct Rendezvous<'a> {
 
 impl<'a> Gate for Rendezvous<'a> {
     fn enter(&self, group: u32) {
+        self.entered.enter(group);
+        if self.entered.count(group) != 2 {
+            return;
+        }
         let (own, other) = if group == 0 {
             (self.first, self.second)
         } else {
@@ -197,20 +245,29 @@ impl<'a> Gate for Rendezvous<'a> {
 /// Two groups stand in the gate at once, which only threads can do.
 #[test]
 fn two_at_once(rt: HostRuntime) -> Result<(), Fail> {
-    let unused = AtomicU32::new(0);
+    let entered = [AtomicU32::new(0), AtomicU32::new(0)];
     let mut groups = [
-        two_movers(rt.alloc(), &unused, 0, Turn::Done)?,
-        two_movers(rt.alloc(), &unused, 0, Turn::Done)?,
+        two_movers(rt.alloc(), &entered[0], 1_000, Turn::Done)?,
+        two_movers(rt.alloc(), &entered[1], 1_000, Turn::Done)?,
     ];
     let first = AtomicBool::new(false);
     let second = AtomicBool::new(false);
     let seen = AtomicU32::new(0);
     let gate = Rendezvous {
+        entered: Counted { entered: &entered },
         first: &first,
         second: &second,
         seen: &seen,
     };
-    round(&rt, &mut groups, 1, 1, 0, &gate);
+    round(
+        &rt,
+        rt.alloc(),
+        &mut groups,
+        2,
+        SWEEP_BY_SWEEP,
+        0,
+        &gate,
+    );
     assert_eq!(rt; seen.load(Ordering::SeqCst), 2);
     Ok(())
 }
@@ -278,16 +335,23 @@ fn passers<'a>(
 }
 
 /// Rounds until nobody moves, and how many they were.
-fn rounds_to_rest<R: Threads + Sync, N: Node + Send>(
+fn rounds_to_rest<R: Threads + Sync, N: Node + Send + Drop>(
     rt: &R,
+    alloc: Global,
     groups: &mut [Group<N>],
-    sweeps: u32,
+    passes: u32,
     patience: u32,
 ) -> u32
     requires { All (IsWholeGroup N.whole) groups.old }
 {
+    let pace = Pace {
+        alone: 1,
+        passes,
+        patience,
+        sweeps: 1,
+    };
     for number in 0..100_000 {
-        if !round(rt, groups, sweeps, patience, number, &FreeGate) {
+        if !round(rt, alloc, groups, 4, pace, number, &FreeGate) {
             return number + 1;
         }
     }
@@ -298,15 +362,15 @@ fn rounds_to_rest<R: Threads + Sync, N: Node + Send>(
 /// that has the token when the round begins.
 #[test]
 fn tokens(rt: HostRuntime) -> Result<(), Fail> {
-    for (count, each, goal, sweeps, patience, most_rounds) in [
-        // One group makes three passes in each sweep.
-        (1, 3, 30, ANY_SWEEPS, 1, 2),
+    for (count, each, goal, passes, patience, most_rounds) in [
+        // One group passes the token on three times in each sweep.
+        (1, 3, 30, ANY_PASSES, 1, 2),
         (1, 3, 30, 1, 1, 11),
         (1, 3, 30, 4, 1, 4),
         // Of several groups each may leave when it has just passed the token on.
-        (2, 1, 1_000, ANY_SWEEPS, 1_000, 1_001),
-        (4, 2, 1_000, ANY_SWEEPS, 1_000, 1_001),
-        (2, 3, 60, ANY_SWEEPS, 1, 61),
+        (2, 1, 1_000, ANY_PASSES, 1_000, 1_001),
+        (4, 2, 1_000, ANY_PASSES, 1_000, 1_001),
+        (2, 3, 60, ANY_PASSES, 1, 61),
         (4, 1, 40, 1, 1, 41),
     ] {
         let passed = AtomicU64::new(0);
@@ -314,7 +378,7 @@ fn tokens(rt: HostRuntime) -> Result<(), Fail> {
         for first in 0..count {
             groups.push(passers(rt.alloc(), &passed, first, count, each, goal)?)?;
         }
-        let rounds = rounds_to_rest(&rt, &mut groups, sweeps, patience);
+        let rounds = rounds_to_rest(&rt, rt.alloc(), &mut groups, passes, patience);
         assert!(rt;
             rounds <= most_rounds,
             "{count} groups of {each}: {rounds} rounds"
@@ -397,9 +461,9 @@ fn two_stages<'a>(
 /// Eight stages in four groups pass all items through.
 #[test]
 fn pipes(rt: HostRuntime) -> Result<(), Fail> {
-    for (goal, sweeps, patience) in [
-        (10_000, ANY_SWEEPS, 1_000),
-        (100, ANY_SWEEPS, 1),
+    for (goal, passes, patience) in [
+        (10_000, ANY_PASSES, 1_000),
+        (100, ANY_PASSES, 1),
         (100, 1, 1),
     ] {
         let mut counters = Vec::new(rt.alloc());
@@ -413,12 +477,12 @@ fn pipes(rt: HostRuntime) -> Result<(), Fail> {
             two_stages(rt.alloc(), &counters, 5)?,
             two_stages(rt.alloc(), &counters, 7)?,
         ];
-        rounds_to_rest(&rt, &mut groups, sweeps, patience);
+        rounds_to_rest(&rt, rt.alloc(), &mut groups, passes, patience);
         for count in &counters {
             assert_eq!(rt;
                 count.load(Ordering::SeqCst),
                 goal,
-                "{sweeps} sweeps, patience {patience}"
+                "{passes} passes, patience {patience}"
             );
         }
     }

@@ -1,16 +1,12 @@
 //! Sweeps: each node of a group takes some turns in a row, in order, and again.
 
-ghost use Rattle.std.specs.Prelude.{All};
+ghost use Rattle.std.specs.Prelude.{◌≡◌, ◌||◌, true, All};
 ghost use Rattle.sb_drive.specs.Rounds.{HasTurnedInARow, IsRound};
+ghost use Rattle.sb_drive.specs.SideBySide.{GoesOn, IsGroupRound};
 
 use crate::group::Group;
 use crate::node::Node;
 use sb_link::Turn;
-use std::thread;
-
-// after so many sweeps in a row that moved nothing a group yields the processor before each further one: another group
-// may need it
-const SWEEPS_BEFORE_YIELDS: u32 = 2;
 
 // so many turns a node takes in a row while it moves: most of a turn's cost is to look at each of its rings, and a node
 // that moved often finds the next item there
@@ -60,34 +56,50 @@ pub(crate) fn sweep<N: Node>(group: &mut Group<N>, number: u32) -> bool
     moved
 }
 
-/// Sweeps until all nodes answered Done in one sweep, or `patience` sweeps in a row moved nothing, or `sweeps` of them
-/// were made. One is made in any case.
-pub(crate) fn turn_group<N: Node>(group: &mut Group<N>, sweeps: u32, patience: u32, number: u32)
+/// The first sweep of a round over a group; says whether a node moved.
+pub(crate) fn begin<N: Node>(group: &mut Group<N>, number: u32) -> bool
     requires whole { All N.whole group.old.nodes.items }
     ensures whole { All N.whole group.new.nodes.items }
-    ensures round { IsRound N.reaches N.rests N.turns number group.old.nodes.items group.new.nodes.items
-        group.new.last.items group.new.moved }
+    ensures round { IsGroupRound N.reaches N.rests N.turns number group.old group.new }
+    ensures answer { result ≡ group.new.moved }
 {
-    let mut moved = sweep(group, number);
-    let mut idle = if moved { 0 } else { 1 };
-    for _ in 1..sweeps {
-        if idle >= patience || all_done(&group.last) {
-            break;
-        }
-        if idle > SWEEPS_BEFORE_YIELDS {
-            thread::yield_now();
-        }
-        if sweep(group, number) {
-            moved = true;
-            idle = 0;
-        } else {
-            idle += 1;
-        }
-    }
+    let moved = sweep(group, number);
     group.moved = moved;
+    moved
 }
 
-// whether each answer is Done
-fn all_done(answers: &[Turn]) -> bool {
+// one more sweep of a round over a group; says whether a node moved in it
+fn sweep_on<N: Node>(group: &mut Group<N>, number: u32) -> bool
+    requires whole { All N.whole group.old.nodes.items }
+    ensures whole { All N.whole group.new.nodes.items }
+    ensures round { GoesOn N.reaches N.rests N.turns number group.old group.new }
+    ensures moved { group.new.moved ≡ (group.old.moved || result) }
+{
+    let moved = group.moved;
+    let swept = sweep(group, number);
+    group.moved = moved | swept;
+    swept
+}
+
+/// Goes on with a round of a group: sweeps until one moves nothing, or so many were made. Says whether a node moved in
+/// them.
+pub(crate) fn go_on<N: Node>(group: &mut Group<N>, sweeps: u32, number: u32) -> bool
+    requires whole { All N.whole group.old.nodes.items }
+    ensures whole { All N.whole group.new.nodes.items }
+    ensures round { GoesOn N.reaches N.rests N.turns number group.old group.new }
+    ensures moved { result ≡ true → group.new.moved ≡ true }
+{
+    let mut moved = false;
+    for _ in 0..sweeps {
+        if !sweep_on(group, number) {
+            break;
+        }
+        moved = true;
+    }
+    moved
+}
+
+/// Whether each answer is Done.
+pub(crate) fn all_done(answers: &[Turn]) -> bool {
     answers.iter().all(|answer| matches!(answer, Turn::Done))
 }

@@ -15,4 +15,4 @@ pub mod standstill_laws;
 
 pub use net::{Net, build};
 pub use settling::SettledNet;
-pub use side_by_side::{Pace, USUAL_PACE};
+pub use side_by_side::USUAL_PACE;

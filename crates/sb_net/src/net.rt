@@ -18,8 +18,8 @@ use crate::groups::deal;
 use crate::making::{Parts, parts_of};
 use crate::running::run_serial;
 use crate::settling::{Apart, SettledNet, settle_nodes};
-use crate::side_by_side::{Pace, USUAL_PACE, run_side_by_side};
-use sb_drive::{Gate, Group};
+use crate::side_by_side::{USUAL_PACE, run_side_by_side};
+use sb_drive::{Gate, Group, Pace};
 use sb_flow::Bundle;
 use sb_link::{Fabric, MeetFabric};
 use sb_member::{Joint, Member};
@@ -69,8 +69,8 @@ fn zeros(alloc: Global, count: usize) -> Result<Vec<usize>, AllocError>
 }
 
 /// Makes all rings of a bundle by the plans of its ways, and its nodes at their ends. Nodes are numbered: hosts, then
-/// routers, then devices, each in the order of the bundle. They are dealt to as many groups as there are workers: node n
-/// is in group n mod workers. All memory that a run needs is taken here, but for its journal.
+/// routers, then devices, each in the order of the bundle. They are dealt to so many groups: node n is in
+/// group n mod groups. All memory that a run needs is taken here, but for its journal.
 ///
 /// # Errors
 ///
@@ -78,14 +78,14 @@ fn zeros(alloc: Global, count: usize) -> Result<Vec<usize>, AllocError>
 pub fn build<F: Fabric>(
     alloc: Global,
     bundle: &Bundle,
-    workers: u32,
+    groups: u32,
     fabric: &mut F,
 ) -> Result<Net<F>, AllocError>
-    requires workers { 0 < workers }
+    requires groups { 0 < groups }
     requires unused { F.made fabric.old ≡ [] }
     ensures built { IfOk result (λ net. IsNetOf (network_of bundle.now) net) }
     ensures dealt { IfOk result (λ net. IsDealt net.groups) }
-    ensures groups { IfOk result (λ net. length net.groups ≡ workers) }
+    ensures groups { IfOk result (λ net. length net.groups ≡ groups) }
     ensures made { IfOk result (λ net. F.made fabric.new ≡ first_plans (network_of bundle.now) (ring_count (network_of bundle.now))) }
     ensures unsettled { IfOk result (λ net. (ring : ℕ) → ring < ring_count (network_of bundle.now) → F.settled fabric.new ring ≡ false) }
     ensures carried { (ring : ℕ) → F.carried fabric.new ring ≡ F.carried fabric.old ring }
@@ -96,7 +96,7 @@ pub fn build<F: Fabric>(
     let Parts { nodes, joints } = parts_of(alloc, bundle, fabric)?;
     let collected = zeros(alloc, devices)?;
     let room = Apart::new(alloc, joints.len(), hosts, devices)?;
-    let groups = deal(alloc, nodes, workers as usize)?;
+    let groups = deal(alloc, nodes, groups as usize)?;
     Ok(Net {
         groups,
         joints,
@@ -110,7 +110,7 @@ impl<F: MeetFabric> Net<F> {
     /// Runs the network to its end on one thread, and fills the journal. In each round each node takes one turn, in the
     /// order that `order` and the round's number determine; then the ends of each ring meet, and what devices served goes
     /// behind the journal, in the order of devices. The end is the first round in which no node moved: then all is done.
-    /// The network was built with one worker, and hasn't run; the journal is empty, and has room for all words of the
+    /// The network was built with one group, and hasn't run; the journal is empty, and has room for all words of the
     /// scripts. Takes no memory.
     pub fn replay(&mut self, order: u32, journal: &mut Journal)
         requires one_group { length self.old.groups ≡ 1 }
@@ -129,15 +129,16 @@ impl<F: MeetFabric> Net<F> {
         );
     }
 
-    /// Runs the network to its end with its groups side by side, each on a thread of its own, and fills the journal; with
-    /// one group no thread is started. In each round each group goes through the gate and sweeps over its nodes, as
-    /// `sb_drive::round` says; then the ends of each ring meet, and what devices served goes behind the journal, in the
-    /// order of devices. The end is the first round in which no node moved: then all is done, however the threads went.
-    /// The network hasn't run; the journal is empty, and has room for all words of the scripts. Takes no memory but what
-    /// the threads take.
+    /// Runs the network to its end on so many threads at most, the calling one among them, and fills the journal. In each
+    /// round the groups turn, as `sb_drive::round` says; then the ends of each ring meet, and what devices served goes behind
+    /// the journal, in the order of devices. The end is the first round in which no node moved: then all is done, however the
+    /// threads went. The network hasn't run; the journal is empty, and has room for all words of the scripts. It needs no
+    /// memory: where there is none for threads, all goes on the calling one.
     pub fn run<R: Threads + Sync, G: Gate + Sync>(
         &mut self,
         rt: &R,
+        alloc: Global,
+        workers: u32,
         gate: &G,
         journal: &mut Journal,
     )
@@ -146,13 +147,15 @@ impl<F: MeetFabric> Net<F> {
         ensures groups { length self.new.groups ≡ length self.old.groups }
         ensures dealt { IsDealt self.new.groups }
     {
-        self.run_at(rt, USUAL_PACE, gate, journal);
+        self.run_at(rt, alloc, workers, USUAL_PACE, gate, journal);
     }
 
-    /// Runs it likewise, at another pace. Takes no memory but what the threads take.
+    /// Runs it likewise, at another pace.
     pub fn run_at<R: Threads + Sync, G: Gate + Sync>(
         &mut self,
         rt: &R,
+        alloc: Global,
+        workers: u32,
         pace: Pace,
         gate: &G,
         journal: &mut Journal,
@@ -164,10 +167,12 @@ impl<F: MeetFabric> Net<F> {
     {
         run_side_by_side(
             rt,
+            alloc,
             &mut self.groups,
             &self.joints,
             self.first_device,
             &mut self.collected,
+            workers,
             pace,
             gate,
             journal,

@@ -19,6 +19,7 @@ use std::thread::Threads;
 /// Runs a network to its end by a schedule, and fills the journal.
 fn run_net<R: Threads + Sync, F: MeetFabric, G: Gate + Sync>(
     rt: &R,
+    alloc: Global,
     net: &mut Net<F>,
     schedule: Schedule,
     gate: &G,
@@ -30,12 +31,12 @@ fn run_net<R: Threads + Sync, F: MeetFabric, G: Gate + Sync>(
 {
     match schedule {
         Schedule::InTurn { order } => net.replay(order, journal),
-        Schedule::SideBySide { .. } => net.run(rt, gate, journal),
+        Schedule::SideBySide { workers } => net.run(rt, alloc, workers, gate, journal),
     }
 }
 
-/// Runs a bundle to its end over rings of the fabric, by a schedule, and fills the journal. All memory is taken before
-/// the first round, but for what the threads take.
+/// Runs a bundle to its end over rings of the fabric, by a schedule, and fills the journal. All memory that it needs is
+/// taken before the first round; what it takes for threads then it can do without.
 ///
 /// # Errors
 ///
@@ -58,6 +59,6 @@ pub fn run_bundle<R: Threads + Sync, F: MeetFabric, G: Gate + Sync>(
 {
     let mut net = build(alloc, bundle, schedule.groups(), fabric)?;
     journal.reserve(bundle_words(bundle))?;
-    run_net(rt, &mut net, schedule, gate, journal);
+    run_net(rt, alloc, &mut net, schedule, gate, journal);
     Ok(net.settle(fabric))
 }
