@@ -45,6 +45,9 @@ returns-clause-unsettled g c =
     c.make.ensures.settled (rw (← number) c.in_ok-ask.ensures.unsettled) refl)
     c.make-2.ensures.settled (rw (← next) c.in_ok-tell.ensures.unsettled) (omega arith)
 
+pub returns-clause-carried : goal.returns-clause-carried
+returns-clause-carried g c = λ ring. c.make-2.ensures.carried ring ∙ c.make.ensures.carried ring
+
 pub returns-clause-legs : goal.returns-clause-legs
 returns-clause-legs g c =
     let network = network_of c.args.bundle.now in
