@@ -27,8 +27,8 @@ module _ {A : Type 0} (whole : A → Type 0) (leads : A → A → Type 0) where
         come = λ j d below. ⊎_elim
             (λ (b : j < k). subst (λ z. leads (get_or xs j d) z) (sym (get_or-set_other ys k j y d (λ e. omega arith))) (r.come j d b))
             (λ (from : k ≤ j). let e : k ≡ j = omega arith in
-                subst (λ i. leads (get_or xs i d) (get_or (set ys k y) i d)) e
-                (subst (λ z. leads (get_or xs k d) z) (new d) (subst (λ z. leads z y) (was d) l)))
+            subst (λ i. leads (get_or xs i d) (get_or (set ys k y) i d)) e
+            (subst (λ z. leads (get_or xs k d) z) (new d) (subst (λ z. leads z y) (was d) l)))
             (cases_lt j k);
         still = λ j d le. get_or-set_other ys k j y d (λ e. omega arith) ∙ r.still j d (omega arith);
       }

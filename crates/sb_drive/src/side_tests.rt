@@ -259,15 +259,7 @@ fn two_at_once(rt: HostRuntime) -> Result<(), Fail> {
         second: &second,
         seen: &seen,
     };
-    round(
-        &rt,
-        rt.alloc(),
-        &mut groups,
-        2,
-        SWEEP_BY_SWEEP,
-        0,
-        &gate,
-    );
+    round(&rt, rt.alloc(), &mut groups, 2, SWEEP_BY_SWEEP, 0, &gate);
     assert_eq!(rt; seen.load(Ordering::SeqCst), 2);
     Ok(())
 }

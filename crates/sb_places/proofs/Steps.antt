@@ -121,21 +121,21 @@ module _ {S V : Type 0} (keeps : V → ℕ → S → Type 0) (visitor : V) where
   try_allowed slots id me g lt idle empty some_part s k len at small = let n : ℕ = get_or s.words g 0 in
       let Goal : ℕ → Type 0 = λ m. (w : Hand V) × (a : Act S) × Valid s.homes me.1 a × IsPlaces keeps visitor (stepped s g m id me.1 w a) × IsTried keeps g me n (w, carried_after me.1 a) in
       exchanged n 0 1 Goal
-          (λ (e : n ≡ 0). let h = k.home g (omega arith) e in (
-            hand me.0.visitor me.0.parts true g,
-            takes g h.value,
-            h.stands,
-            taken s id g me.0 k at (omega arith) idle some_part,
-            record { taken = λ _. (h.value, (λ other told. subst (λ z. keeps z g h.value) (same_Some visitor other (sym (k.one_visitor id me.0 at some_part) ∙ told)) h.kept), refl); missed = λ ne. absurd (ne e) },
-          ))
-          (λ (ne : n ≢ 0). (
-            me.0,
-            keeps_all,
-            tt,
-            subst (λ vs. IsPlaces keeps visitor record { words = set s.words g n; homes = s.homes; views = vs }) (sym (set_again s.views id me.0 at))
-                (subst (λ ws. IsPlaces keeps visitor record { words = ws; homes = s.homes; views = s.views }) (sym (set-get_or s.words g 0)) k),
-            record { taken = λ e. absurd (ne e); missed = λ _. refl },
-          ))
+      (λ (e : n ≡ 0). let h = k.home g (omega arith) e in (
+        hand me.0.visitor me.0.parts true g,
+        takes g h.value,
+        h.stands,
+        taken s id g me.0 k at (omega arith) idle some_part,
+        record { taken = λ _. (h.value, (λ other told. subst (λ z. keeps z g h.value) (same_Some visitor other (sym (k.one_visitor id me.0 at some_part) ∙ told)) h.kept), refl); missed = λ ne. absurd (ne e) },
+      ))
+      (λ (ne : n ≢ 0). (
+        me.0,
+        keeps_all,
+        tt,
+        subst (λ vs. IsPlaces keeps visitor record { words = set s.words g n; homes = s.homes; views = vs }) (sym (set_again s.views id me.0 at))
+            (subst (λ ws. IsPlaces keeps visitor record { words = ws; homes = s.homes; views = s.views }) (sym (set-get_or s.words g 0)) k),
+        record { taken = λ e. absurd (ne e); missed = λ _. refl },
+      ))
 
   pub give_allowed : (slots id : ℕ) (me : Me S (Hand V)) (g : ℕ) (x : S) → g < slots → me.0.holds ≡ true → me.0.place ≡ g → me.1 ≡ (g, x) ∷ [] → keeps visitor g x
       → Allows (IsPlaces keeps visitor) slots id me g (λ _. 0) (λ _. IsGiven me)
@@ -168,7 +168,7 @@ module _ {S V : Type 0} (keeps : V → ℕ → S → Type 0) (visitor : V) where
       → (g : ℕ) → g < length s.homes → IsHome keeps visitor s.homes g
   all_home s id v k at idle all g lt = dite (ℕ_discrete (get_or s.words g 0) 0) (k.home g lt)
       (λ ne. let o = k.out g lt ne in let apart = other_seat s.views id g v at (λ e. absurd (true≢false (sym e ∙ idle))) o in
-          let h = two_parts s.views o.seat id o.view v apart o.sits at in let p = o.part in let t = k.parts in absurd (omega arith))
+      let h = two_parts s.views o.seat id o.view v apart o.sits at in let p = o.part in let t = k.parts in absurd (omega arith))
 
   -- a seat with parts to spare, which has no value, is cut in two
   pub splits : (id : ℕ) (v : Hand V) → v.holds ≡ false → 1 < v.parts → Splits (IsPlaces keeps visitor) id v (with_parts v (v.parts - 1)) (with_parts v 1)

@@ -30,7 +30,7 @@ module _ {S : Type 0} where
     taken = more;
     same = λ k d below. dite (ℕ_discrete k place)
         (λ (e : k ≡ place). let z : k - place ≡ 0 = omega arith in
-            get_or-append_right ys (x ∷ []) place k d t.taken (omega arith) ∙ (ap (λ j. get_or (x ∷ []) j d) z ∙ sym (read xs k x d (ap (λ j. get_elem? xs j) e ∙ at))))
+        get_or-append_right ys (x ∷ []) place k d t.taken (omega arith) ∙ (ap (λ j. get_or (x ∷ []) j d) z ∙ sym (read xs k x d (ap (λ j. get_elem? xs j) e ∙ at))))
         (λ (ne : k ≢ place). let l = t.taken in get_or_append_left ys (x ∷ []) d k (omega arith) ∙ t.same k d (omega arith));
     there = λ k from below. get_or-set_other fs place k false false (λ e. omega arith) ∙ t.there k (omega arith) below;
     gone = λ k below. dite (ℕ_discrete k place)
@@ -45,4 +45,3 @@ head_or d (p ∷ ps) = p.1
 -- two lists that begin with a pair each begin with one value
 pub first_is : {S : Type 0} {i j : ℕ} {x y : S} {xs ys : List (ℕ × S)} → (i, x) ∷ xs ≡ (j, y) ∷ ys → x ≡ y
 first_is {S} {i} {j} {x} {y} {xs} {ys} e = ap (λ l. head_or x l) e
-

@@ -65,10 +65,8 @@ pub fn visit_all<R: Threads + Sync, V: Visitor>(
     let Ok(back) = Vec::with_capacity(alloc, count) else {
         return values;
     };
-    let made: Result<
-        (PlaceTable<V::Value, V>, PlaceSeat<V::Value, V>),
-        Refused<V::Value, Global>,
-    > = Table::new(alloc, &words, values, visitor);
+    let made: Result<(PlaceTable<V::Value, V>, PlaceSeat<V::Value, V>), Refused<V::Value, Global>> =
+        Table::new(alloc, &words, values, visitor);
     match made {
         Ok((table, seat)) => {
             let over = AtomicBool::new(false);

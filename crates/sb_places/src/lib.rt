@@ -9,6 +9,8 @@ mod place;
 mod plays;
 mod rule;
 mod spread;
+#[cfg(test)]
+mod tests;
 mod visitor;
 mod work;
 

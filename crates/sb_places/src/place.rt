@@ -31,11 +31,7 @@ fn try_take<V: Visitor>(
 }
 
 // gives back what the seat has
-fn give<V: Visitor>(
-    places: &Places<V::Value, V>,
-    seat: &mut PlaceSeat<V::Value, V>,
-    place: usize,
-)
+fn give<V: Visitor>(places: &Places<V::Value, V>, seat: &mut PlaceSeat<V::Value, V>, place: usize)
     requires places { seat.old.table_id ≡ places.now.table_id }
     requires place { (place < places.now.table_id.words) × (places.now.table_id.slots ≡ places.now.table_id.words) }
     requires has { (seat.old.me.0.holds ≡ true) × (seat.old.me.0.place ≡ place)

@@ -112,40 +112,46 @@ fn joined_on_a_wide_link(rt: HostRuntime) -> Result<(), Fail> {
     Ok(())
 }
 
-// whether two groups stood at the gate at once, and two hosts pushed at once, in a run of the example that came to its
-// report; they look for each other so many times
-fn met<R: Threads + Sync>(
-    rt: &R,
-    alloc: Global,
-    line: &str,
-    tries: u32,
-) -> Result<(bool, bool), Fail> {
-    let gate = Rendezvous::new(tries);
-    let pushes = Pushes::met(tries);
-    let mut fabric = Watched {
-        inner: RingFabric::new(alloc),
-        watch: &pushes,
-    };
-    let (ended, sink) = written(rt, alloc, line, EXAMPLE, &mut fabric, &gate)?;
-    if !is_example(ended, 9, sink.as_slice()) {
-        return Err("the example's report")?;
-    }
-    Ok((gate.met(), pushes.have_met()))
-}
+// what is written of a generated network
+const GENERATED: &[u8] = b"gen 7\nhosts 4 transactions 8192\nwords 45584\nbytes 171413\ndone\n";
 
-/// Two groups stand at the gate at once, and two hosts of different groups push at once: only threads can do so.
+/// Two groups stand at the gate at once, in a run of a generated network on threads: only threads can do so.
 #[test]
 fn side_by_side(rt: HostRuntime) -> Result<(), Fail> {
-    let both = met(&rt, rt.alloc(), "run --workers 2", 100_000_000)?;
-    assert_eq!(rt; both, (true, true));
+    let gate = Rendezvous::new(100_000_000);
+    let mut source = ByteSource::new(rt.alloc(), b"", 1, &[])?;
+    let mut sink = ByteSink::new(rt.alloc(), 4096, 4096, &[])?;
+    let mut fabric = RingFabric::new(rt.alloc());
+    let (status, _) = call(
+        &rt,
+        rt.alloc(),
+        "gen 7",
+        &mut source,
+        &mut sink,
+        &mut fabric,
+        &gate,
+    )?;
+    assert_eq!(rt; status, 0);
+    assert_eq!(rt; sink.as_slice(), GENERATED);
+    assert!(rt; gate.met());
     Ok(())
 }
 
-/// On one thread neither comes about, however long one waits.
+/// On one thread that doesn't come about, however long one waits.
 #[test]
 fn one_by_one(rt: HostRuntime) -> Result<(), Fail> {
-    let both = met(&rt, rt.alloc(), "run --workers 1", 1_000)?;
-    assert_eq!(rt; both, (false, false));
+    let gate = Rendezvous::new(1_000);
+    let mut fabric = RingFabric::new(rt.alloc());
+    let (ended, sink) = written(
+        &rt,
+        rt.alloc(),
+        "run --workers 1",
+        EXAMPLE,
+        &mut fabric,
+        &gate,
+    )?;
+    assert!(rt; is_example(ended, 9, sink.as_slice()));
+    assert!(rt; !gate.met());
     Ok(())
 }
 
@@ -168,10 +174,7 @@ fn generated(rt: HostRuntime) -> Result<(), Fail> {
     assert_eq!(rt; status, 0);
     // each transaction is aimed at a device, and is one packet at least
     assert!(rt; packets >= 8_192);
-    assert_eq!(rt;
-        sink.as_slice(),
-        b"gen 7\nhosts 4 transactions 8192\nwords 45584\nbytes 171413\ndone\n".as_slice()
-    );
+    assert_eq!(rt; sink.as_slice(), GENERATED);
     Ok(())
 }
 

@@ -4,10 +4,10 @@ ghost use Rattle.std.specs.Prelude.{◌≡◌, ◌≤◌, ◌<◌, ◌+◌, [], 
 ghost use Rattle.sb_net.specs.Settled.{transactions_at};
 
 use crate::example::EXAMPLE;
-use sb_drive::FreeGate;
+use sb_drive::{FreeGate, Pace};
 use sb_flow::Bundle;
 use sb_link::{MeetFabric, SerialFabric};
-use sb_net::{Pace, SettledNet, USUAL_PACE, build};
+use sb_net::{SettledNet, USUAL_PACE, build};
 use sb_packet::{Code, Journal, TxnState};
 use sb_ring::RingFabric;
 use sb_topology::load;
@@ -178,38 +178,38 @@ fn own_rings_do_the_same(rt: HostRuntime) -> Result<(), Fail> {
     Ok(())
 }
 
-// a run of a bundle on so many threads, over own rings, at that pace: its journal, and what remains
+// a run of a bundle in 16 groups on so many threads, over own rings, at that pace: its journal, and what remains
 fn run_at<R: Threads + Sync>(
     rt: &R,
     alloc: Global,
     bundle: &Bundle,
     workers: u32,
     pace: Pace,
-) -> Result<(Journal, SettledNet), AllocError>
-    requires workers { 0 < workers }
-{
+) -> Result<(Journal, SettledNet), AllocError> {
     let mut fabric = RingFabric::new(alloc);
-    let mut net = build(alloc, bundle, workers, &mut fabric)?;
+    let mut net = build(alloc, bundle, 16, &mut fabric)?;
     let mut journal = Journal::new(alloc);
     journal.reserve(262_144)?;
-    net.run_at(rt, pace, &FreeGate, &mut journal);
+    net.run_at(rt, alloc, workers, pace, &FreeGate, &mut journal);
     let settled = net.settle(&mut fabric);
     Ok((journal, settled))
 }
 
-// the same at the usual pace
+// the same at the usual pace, but that threads take part after one pass
 fn run_on_threads<R: Threads + Sync>(
     rt: &R,
     alloc: Global,
     bundle: &Bundle,
     workers: u32,
-) -> Result<(Journal, SettledNet), AllocError>
-    requires workers { 0 < workers }
-{
-    run_at(rt, alloc, bundle, workers, USUAL_PACE)
+) -> Result<(Journal, SettledNet), AllocError> {
+    let at_once = Pace {
+        alone: 1,
+        ..USUAL_PACE
+    };
+    run_at(rt, alloc, bundle, workers, at_once)
 }
 
-/// The example's nine nodes on one thread, on two and on four, and on sixteen, of which seven have no node: however the
+/// The example's nine nodes, of whose sixteen groups seven have none, on one thread, two, four and sixteen: however the
 /// threads go, the answers and the memories are those of a run on one thread.
 #[test]
 fn example_runs_on_threads(rt: HostRuntime) -> Result<(), Fail> {
@@ -314,23 +314,31 @@ fn two_hosts_count(rt: HostRuntime) -> Result<(), Fail> {
     Ok(())
 }
 
-/// Nothing that is promised of a run hangs on how long its rounds are: the example ends the same where each round is one
-/// sweep, and where a group leaves at once when nothing moves.
+/// Nothing that is promised of a run hangs on how long its rounds are: the example ends the same at the usual pace, where
+/// each round is one pass, where a thread leaves at once when nothing moves, and where a group makes one sweep in a visit.
 #[test]
 fn every_pace_is_good(rt: HostRuntime) -> Result<(), Fail> {
     let Ok(bundle) = load(rt.alloc(), EXAMPLE.as_bytes()) else {
         return Err("the example is accepted")?;
     };
     let (_, serial) = run(rt.alloc(), &bundle, 0)?;
-    let one_sweep = Pace {
-        sweeps: 1,
+    let at_once = Pace {
+        alone: 1,
         ..USUAL_PACE
+    };
+    let one_pass = Pace {
+        passes: 1,
+        ..at_once
     };
     let impatient = Pace {
         patience: 1,
-        ..USUAL_PACE
+        ..at_once
     };
-    for pace in [one_sweep, impatient] {
+    let one_sweep = Pace {
+        sweeps: 1,
+        ..at_once
+    };
+    for pace in [USUAL_PACE, one_pass, impatient, one_sweep] {
         for workers in [1, 4] {
             let (journal, settled) = run_at(&rt, rt.alloc(), &bundle, workers, pace)?;
             assert_eq!(rt; journal.entries().len(), 9, "{workers} workers");

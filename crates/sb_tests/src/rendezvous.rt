@@ -4,13 +4,13 @@ ghost use Rattle.std.specs.Prelude.{◌<◌};
 
 use sb_drive::Gate;
 use std::hint;
-use std::sync::atomic::{AtomicBool, AtomicU32, Ordering};
+use std::sync::atomic::{AtomicU32, Ordering};
 
-/// Two places in a run. What comes first to each of them waits until it sees that something came to the other one, or
-/// has looked for it `tries` times.
+/// Two places in a run. What comes to one of them for the second time waits until it sees that something came to the other
+/// one for the second time too, or has looked for it `tries` times.
 #[derive(Drop)]
 pub struct Rendezvous {
-    here: [AtomicBool; 2],
+    came: [AtomicU32; 2],
     seen: AtomicU32,
     tries: u32,
 }
@@ -18,7 +18,7 @@ pub struct Rendezvous {
 impl Rendezvous {
     pub fn new(tries: u32) -> Rendezvous {
         Rendezvous {
-            here: [AtomicBool::new(false), AtomicBool::new(false)],
+            came: [AtomicU32::new(0), AtomicU32::new(0)],
             seen: AtomicU32::new(0),
             tries,
         }
@@ -28,11 +28,11 @@ impl Rendezvous {
     pub fn wait(&self, place: usize)
         requires place { place < 2 }
     {
-        if self.here[place].swap(true, Ordering::SeqCst) {
+        if self.came[place].fetch_add(1, Ordering::SeqCst) != 1 {
             return;
         }
         for _ in 0..self.tries {
-            if self.here[1 - place].load(Ordering::SeqCst) {
+            if self.came[1 - place].load(Ordering::SeqCst) > 1 {
                 self.seen.fetch_add(1, Ordering::SeqCst);
                 return;
             }
@@ -46,7 +46,8 @@ impl Rendezvous {
     }
 }
 
-/// The gate is the two places, for groups 0 and 1.
+/// The gate is the two places, for groups 0 and 1. In the first round they come there for the first time one after another,
+/// on the calling thread, and for the second time when threads take them.
 impl Gate for Rendezvous {
     fn enter(&self, group: u32) {
         match group {

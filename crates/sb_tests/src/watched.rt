@@ -1,31 +1,18 @@
 //! A fabric that passes every call on to another one, and tells of its pushes.
 
-use crate::rendezvous::Rendezvous;
 use sb_link::{Fabric, LinkPlan, MeetFabric, Pop, Push, RxEnd, TxEnd};
 use sb_packet::Item;
 use std::alloc::{AllocError, Global};
 use std::sync::atomic::{AtomicU32, Ordering};
 
-/// What is told of the pushes on the first four rings: how many packets were sent over each, and, where that is asked for,
-/// that the first pushes on rings 0 and 2 see each other.
+/// How many packets were sent over each of the first four rings.
 #[derive(Drop)]
 pub struct Pushes {
     counts: [AtomicU32; 4],
-    firsts: Option<Rendezvous>,
 }
 
 impl Pushes {
-    /// Counts packets alone.
     pub fn counted() -> Pushes {
-        Pushes::of(None)
-    }
-
-    /// Lets the first pushes on rings 0 and 2 look for each other so many times, too.
-    pub fn met(tries: u32) -> Pushes {
-        Pushes::of(Some(Rendezvous::new(tries)))
-    }
-
-    fn of(firsts: Option<Rendezvous>) -> Pushes {
         Pushes {
             counts: [
                 AtomicU32::new(0),
@@ -33,7 +20,6 @@ impl Pushes {
                 AtomicU32::new(0),
                 AtomicU32::new(0),
             ],
-            firsts,
         }
     }
 
@@ -45,26 +31,7 @@ impl Pushes {
         }
     }
 
-    /// Whether the first pushes on rings 0 and 2 saw each other.
-    pub fn have_met(&self) -> bool {
-        match &self.firsts {
-            Some(firsts) => firsts.met(),
-            None => false,
-        }
-    }
-
-    // an item is about to be pushed
-    fn before(&self, ring: u16) {
-        if let Some(firsts) = &self.firsts {
-            match ring {
-                0 => firsts.wait(0),
-                2 => firsts.wait(1),
-                _ => {}
-            }
-        }
-    }
-
-    // it was pushed, and the ring had room
+    // an item was pushed, and the ring had room
     fn sent(&self, ring: u16, item: &Item) {
         if let (Item::Packet(_), Some(count)) = (item, self.counts.get(usize::from(ring))) {
             count.fetch_add(1, Ordering::SeqCst);
@@ -96,7 +63,6 @@ impl<'a, T: TxEnd> TxEnd for WatchedTx<'a, T> {
 
     fn try_push(&mut self, item: &Item) -> Push {
         let ring = self.inner.plan().ring;
-        self.watch.before(ring);
         let answer = self.inner.try_push(item);
         if let Push::Done = answer {
             self.watch.sent(ring, item);

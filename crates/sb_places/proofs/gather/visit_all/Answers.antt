@@ -16,5 +16,5 @@ returns-in-Ok-made-clause-kept g c k d lt = let o = c.in-Ok-made.ensures.ok in l
     let parts : c.spread-seat.result.me.0.parts ≡ all_parts = i.same_parts ∙ ap (λ m. m.0.parts) o.4 in
     let key = c.in-Ok-made.table.shared.key in
     let there = closed_kept g.V.Visitor.keeps key (slots_items c.close_with.result.words) (values_of c.close_with.result) c.spread-seat.result.id c.spread-seat.result.me.0
-        c.close_with.ensures.values.2 i.idle parts k d (omega (arith, t.count, lt)) in
+    c.close_with.ensures.values.2 i.idle parts k d (omega (arith, t.count, lt)) in
     subst (λ z. g.V.Visitor.keeps z k (get_or c.take_all.result.items k d)) o.5 (subst (λ z. g.V.Visitor.keeps key k z) (sym (t.same k d lt)) there)
