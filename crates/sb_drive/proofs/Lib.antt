@@ -6,3 +6,4 @@ pub mod Swept
 pub mod Sweeps
 pub mod GroupsMoved
 pub mod Groupwise
+pub mod SomeTurns

@@ -2,9 +2,11 @@
 #![tactic(auto)]
 
 mod alone;
+mod draw;
 mod gate;
 mod group;
 mod group_visitor;
+mod in_order;
 mod node;
 mod pace;
 mod serial;
@@ -14,6 +16,7 @@ mod turn_place;
 
 pub use gate::{FreeGate, Gate};
 pub use group::Group;
+pub use in_order::round_in_order;
 pub use node::Node;
 pub use pace::Pace;
 pub use serial::round_serial;

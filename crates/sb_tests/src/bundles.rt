@@ -7,7 +7,7 @@ use crate::example::{EXAMPLE, EXAMPLE_REPORT, NARROW_EXAMPLE};
 use crate::rendezvous::Rendezvous;
 use crate::watched::{Pushes, Watched};
 use sb_drive::FreeGate;
-use sb_io::{ByteSink, ByteSource};
+use sb_io::{ByteSink, ByteSource, CleanSource};
 use sb_link::SerialFabric;
 use sb_ring::RingFabric;
 use std::alloc::{AllocError, Global};
@@ -62,6 +62,17 @@ const WIDENING: &str =
 const WIDENING_REPORT: &str =
     "sb 1\nhost cpu 2\nt 0 ok -\nt 1 ok 000102030405060708090a0b0c0d0e0f101112131415161718191a1b1c1d1e1f\ndevice ram 1\nm 00000 000102030405060708090a0b0c0d0e0f101112131415161718191a1b1c1d1e1f\nend\n";
 
+// two hosts that add to one counter, of which one then writes beside it
+const TWO_HOSTS: &str =
+    r#"{"version":1,"hosts":[{"name":"cpu","id":0,"script":["add 0x10000 2 01000000","add 0x10000 2 01000000"]},{"name":"dma","id":7,"qos":3,"prot":1,"script":["add 0x10000 2 01000000","","wp 0x10040 3 00112233445566778899aabbccddeeff"]}],"routers":[{"name":"hub","routes":{"ram":"down"}}],"devices":[{"name":"ram","base":"0x10000","pages":16}],"links":[{"name":"cpu","from":"cpu","to":"hub","width":32,"capacity":4},{"name":"dma","from":"dma","to":"hub","width":32,"capacity":16},{"name":"down","from":"hub","to":"ram","width":32,"capacity":4}]}"#;
+
+// its report where the first host adds twice before the second one adds, and where the second one adds first
+const FIRST_HOST_FIRST: &str =
+    "sb 1\nhost cpu 2\nt 0 ok 00000000\nt 1 ok 01000000\nhost dma 2\nt 0 ok 02000000\nt 1 posted -\ndevice ram 16\nm 00000 0300000000000000000000000000000000000000000000000000000000000000\nm 00040 00112233445566778899aabbccddeeff00000000000000000000000000000000\nend\n";
+
+const SECOND_HOST_FIRST: &str =
+    "sb 1\nhost cpu 2\nt 0 ok 01000000\nt 1 ok 02000000\nhost dma 2\nt 0 ok 00000000\nt 1 posted -\ndevice ram 16\nm 00000 0300000000000000000000000000000000000000000000000000000000000000\nm 00040 00112233445566778899aabbccddeeff00000000000000000000000000000000\nend\n";
+
 // whether a call came to the example's report, by at least nine packets and as many as it may have
 fn is_example(ended: (u8, usize), most: usize, text: &[u8]) -> bool {
     let (status, packets) = ended;
@@ -77,6 +88,71 @@ fn orders(rt: HostRuntime) -> Result<(), Fail> {
             let (ended, sink) = written(&rt, rt.alloc(), line, bundle, &mut fabric, &FreeGate)?;
             assert!(rt; is_example(ended, most, sink.as_slice()), "{line}");
         }
+    }
+    Ok(())
+}
+
+// what `check` says of a report of a bundle
+fn checked<R: Threads + Sync>(
+    rt: &R,
+    alloc: Global,
+    bundle: &str,
+    report: &[u8],
+) -> Result<((u8, usize), ByteSink), AllocError> {
+    let mut evidence = Vec::new(alloc);
+    evidence.extend_from_slice(bundle.as_bytes())?;
+    evidence.extend_from_slice(b"\n%report\n")?;
+    evidence.extend_from_slice(report)?;
+    let mut source = CleanSource::new(alloc, evidence.as_slice(), 4096)?;
+    let mut sink = ByteSink::new(alloc, 4096, 4096, &[])?;
+    let mut fabric = SerialFabric::new(alloc);
+    let ended = call(
+        rt,
+        alloc,
+        "check",
+        &mut source,
+        &mut sink,
+        &mut fabric,
+        &FreeGate,
+    )?;
+    Ok((ended, sink))
+}
+
+// a replay of two hosts over serial rings: how it ended, and what was written
+fn replay_two_hosts<R: Threads + Sync>(
+    rt: &R,
+    alloc: Global,
+    line: &str,
+) -> Result<((u8, usize), ByteSink), AllocError> {
+    let mut fabric = SerialFabric::new(alloc);
+    written(rt, alloc, line, TWO_HOSTS, &mut fabric, &FreeGate)
+}
+
+/// Which of two hosts comes first at a counter depends on the order. Either is lawful, and an order comes to the same
+/// report, with its history, each time.
+#[test]
+fn orders_of_two_hosts(rt: HostRuntime) -> Result<(), Fail> {
+    for (line, with_history, report) in [
+        (
+            "replay --order 1",
+            "replay --order 1 --history",
+            FIRST_HOST_FIRST,
+        ),
+        (
+            "replay --order 10",
+            "replay --order 10 --history",
+            SECOND_HOST_FIRST,
+        ),
+    ] {
+        let (ended, plain) = replay_two_hosts(&rt, rt.alloc(), line)?;
+        assert_eq!(rt; ended, (0, 4), "{line}");
+        assert_eq!(rt; plain.as_slice(), report.as_bytes(), "{line}");
+        let (_, first) = replay_two_hosts(&rt, rt.alloc(), with_history)?;
+        let (_, second) = replay_two_hosts(&rt, rt.alloc(), with_history)?;
+        assert_eq!(rt; first.as_slice(), second.as_slice(), "{line}");
+        let (ended, said) = checked(&rt, rt.alloc(), TWO_HOSTS, first.as_slice())?;
+        assert_eq!(rt; ended, (0, 0), "{line}");
+        assert_eq!(rt; said.as_slice(), b"yes\n".as_slice(), "{line}");
     }
     Ok(())
 }
