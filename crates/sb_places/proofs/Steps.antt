@@ -17,7 +17,7 @@ use Rattle.sb_places.specs.declared.hand.Hand.{Hand}
 use Rattle.std.specs.Prelude.{Some}
 use Rattle.std.proofs.lemmas.Option.{same_Some}
 use Rattle.sb_places.specs.Hands.{all_parts, total, hand, with_parts, first_hand, spent_hand}
-use Rattle.sb_places.specs.Rule.{AreKept, IsOut, IsHome, IsPlaces, IsTried, IsGiven}
+use Rattle.sb_places.specs.Rule.{AreKept, IsOut, IsHome, IsPlaces, IsTried, IsGivenBack}
 
 module _ {V : Type 0} where
   -- the parts after a change of one view
@@ -138,7 +138,7 @@ module _ {S V : Type 0} (keeps : V → ℕ → S → Type 0) (visitor : V) where
       ))
 
   pub give_allowed : (slots id : ℕ) (me : Me S (Hand V)) (g : ℕ) (x : S) → g < slots → me.0.holds ≡ true → me.0.place ≡ g → me.1 ≡ (g, x) ∷ [] → keeps visitor g x
-      → Allows (IsPlaces keeps visitor) slots id me g (λ _. 0) (λ _. IsGiven me)
+      → Allows (IsPlaces keeps visitor) slots id me g (λ _. 0) (λ _. IsGivenBack me)
   give_allowed slots id me g x lt has there mine kept s k len at small =
       let w : Hand V = with_parts me.0 me.0.parts in (
         w,

@@ -42,7 +42,7 @@ module _ {S V : Type 0} (keeps : V → ℕ → S → Type 0) where
 
 module _ {S V : Type 0} where
   -- what the seat had was given back
-  pub record IsGiven (before after : Me S (Hand V)) : Type 0 where
+  pub record IsGivenBack (before after : Me S (Hand V)) : Type 0 where
     pub given : after ≡ (with_parts before.0 before.0.parts, [])
 
   -- a seat that has no value, with so many parts

@@ -7,8 +7,8 @@ module _ {S A : Type 0} where
   abbrev pub values_of : Closed S A → List S
   values_of c = slots_items c.slots
 
-  abbrev pub count_of : Closed S A → ℕ
-  count_of c = slots_len c.slots
+  abbrev pub place_count : Closed S A → ℕ
+  place_count c = slots_len c.slots
 
   -- the values of all places from one on are there
   abbrev pub HasFrom : Closed S A → ℕ → Type 0

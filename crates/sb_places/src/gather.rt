@@ -2,7 +2,7 @@
 
 ghost use Rattle.std.specs.Prelude.{◌≡◌, ◌<◌, ◌≤◌, ℕ, [], length, replicate, slice_index_or, vec_capacity, vec_len, IfOk};
 ghost use Rattle.sb_places.specs.Rule.{AreKept};
-ghost use Rattle.sb_places.specs.Taken.{HasFrom, count_of, values_of};
+ghost use Rattle.sb_places.specs.Taken.{HasFrom, place_count, values_of};
 
 use crate::rule::{PlaceSeat, PlaceTable};
 use crate::spread::spread;
@@ -16,7 +16,7 @@ use std::thread::Threads;
 // takes all values out, in their order; there is room for them
 fn take_all<S>(closed: Closed<S, Global>, back: Vec<S>) -> Vec<S>
     requires full { HasFrom closed 0 }
-    requires room { (back.items ≡ []) × (count_of closed ≤ vec_capacity back) }
+    requires room { (back.items ≡ []) × (place_count closed ≤ vec_capacity back) }
     ensures count { length result.items ≡ length (values_of closed) }
     ensures same { (g : ℕ) (d : S) → g < length result.items → slice_index_or result.items g d ≡ slice_index_or (values_of closed) g d }
 {

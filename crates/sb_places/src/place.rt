@@ -1,7 +1,7 @@
 //! Places that are taken and given back.
 
 ghost use Rattle.std.specs.Prelude.{◌≡◌, ◌≢◌, ◌<◌, ◌∷◌, false, true, []};
-ghost use Rattle.sb_places.specs.Rule.{IsGiven, IsIdle, IsTried};
+ghost use Rattle.sb_places.specs.Rule.{IsGivenBack, IsIdle, IsTried};
 
 use crate::plays::{Given, Tried};
 use crate::rule::{PlaceSeat, Places};
@@ -37,7 +37,7 @@ fn give<V: Visitor>(places: &Places<V::Value, V>, seat: &mut PlaceSeat<V::Value,
     requires has { (seat.old.me.0.holds ≡ true) × (seat.old.me.0.place ≡ place)
         × ((x : V.Value) × (seat.old.me.1 ≡ (place, x) ∷ []) × V.keeps places.now.key place x) }
     ensures places { (seat.new.table_id ≡ seat.old.table_id) × (seat.new.id ≡ seat.old.id) }
-    ensures given { IsGiven seat.old.me seat.new.me }
+    ensures given { IsGivenBack seat.old.me seat.new.me }
 {
     places.store::<Given>(seat, place, FREE);
 }

@@ -17,9 +17,9 @@ impl<V: Visitor> Play<V::Value, Hand<V>> for Tried {
 pub(crate) struct Given;
 
 impl<V: Visitor> Play<V::Value, Hand<V>> for Given {
-    ghost use Rattle.sb_places.specs.Rule.{IsGiven};
+    ghost use Rattle.sb_places.specs.Rule.{IsGivenBack};
 
-    ghost then = { λ s before n after. IsGiven before after };
+    ghost then = { λ s before n after. IsGivenBack before after };
 }
 
 // a seat for one more thread
