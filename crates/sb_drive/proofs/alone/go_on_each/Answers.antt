@@ -1,5 +1,4 @@
 -- The next group comes on.
-use Rattle.std.proofs.Common.{arith}
 use Rattle.sb_drive.specs.SideBySide.{GoesOn, IsWholeGroup}
 use Rattle.sb_drive.proofs.Groupwise.{one_more}
 use Rattle.sb_drive.proofs.alone.go_on_each.Goals as goal

@@ -1,7 +1,7 @@
 -- What came back from the places goes on with what was put there.
 use Rattle.std.proofs.Common.{◌≡◌, ◌<◌, ◌∙◌, List, length, drop, get_or, sym, ap, subst, All, arith}
 use Rattle.std.proofs.lemmas.List.{take_at}
-use Rattle.sb_drive.specs.SideBySide.{GoesOn, IsGroupRound, IsWholeGroup}
+use Rattle.sb_drive.specs.SideBySide.{GoesOn, IsWholeGroup}
 use Rattle.sb_drive.specs.declared.group.Group.{Group}
 use Rattle.sb_drive.proofs.side_by_side.go_on_threads.Goals as goal
 

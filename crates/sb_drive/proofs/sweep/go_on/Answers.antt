@@ -1,5 +1,5 @@
 -- A group that moved has moved after another sweep.
-use Rattle.std.proofs.Common.{◌≡◌, ◌∙◌, ap}
+use Rattle.std.proofs.Common.{◌∙◌, ap}
 use Rattle.std.specs.Prelude.{◌||◌}
 use Rattle.sb_drive.proofs.sweep.go_on.Goals as goal
 

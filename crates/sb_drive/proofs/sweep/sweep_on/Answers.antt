@@ -1,7 +1,4 @@
 -- The sweep goes on with every round that led here.
-use Rattle.std.proofs.Common.{◌≡◌, sym, subst}
-use Rattle.std.specs.Prelude.{◌||◌}
-use Rattle.sb_drive.specs.Rounds.{IsRound}
 use Rattle.sb_drive.proofs.Sweeps.{sweep_more}
 use Rattle.sb_drive.proofs.sweep.sweep_on.Goals as goal
 
