@@ -5,3 +5,4 @@ pub mod OrderExamples
 pub mod Swept
 pub mod Sweeps
 pub mod GroupsMoved
+pub mod SomeTurns
