@@ -13,8 +13,10 @@ use Rattle.sb_member.specs.Joints.{HaveAllMet}
 use Rattle.sb_net.specs.Over.{IsOver}
 use Rattle.sb_net.specs.Recorded.{IsRecorded, device_entries, entry_counts, new_entries}
 use Rattle.sb_net.specs.RingEnds.{AreLinked, net_moment, net_round_end}
+use Rattle.sb_net.specs.Running.{AreNetTurns}
 use Rattle.sb_net.specs.Spent.{network_moves, spent}
 use Rattle.sb_net.specs.Standing.{StandsFor, device_number}
+use Rattle.sb_drive.proofs.SomeTurns.{of_round}
 use Rattle.sb_net.proofs.EndingNodes.{ended_is_over}
 use Rattle.sb_net.proofs.JournalRoom.{journal_within}
 use Rattle.sb_net.proofs.LaterNets.{linked, stands_all_met, stands_turned}
@@ -34,8 +36,11 @@ module _ (F T U : Type 0) (heap : Global) where
   late_stands : StandsFor small small_joints (late_nodes F T U heap)
   late_stands = small_stands F T U (late_state heap) (late_is_a_state heap)
 
+  moving_turns : AreNetTurns 4 (late_nodes F T U heap) (turned_nodes F T U heap) true
+  moving_turns = of_round _ _ _ 4 (late_nodes F T U heap) (turned_nodes F T U heap) host_moved true (moving_net_round F T U heap)
+
   pub networks_stand_on : StandsFor small small_joints (turned_nodes F T U heap)
-  networks_stand_on = stands_turned small small_joints 4 (late_nodes F T U heap) (turned_nodes F T U heap) host_moved true late_stands (moving_net_round F T U heap) (turned_are_whole F T U heap)
+  networks_stand_on = stands_turned small small_joints 4 (late_nodes F T U heap) (turned_nodes F T U heap) true late_stands moving_turns (turned_are_whole F T U heap)
 
   pub networks_stand_on_met : StandsFor small small_joints (end_nodes F T U heap)
   networks_stand_on_met = stands_all_met small small_joints (turned_nodes F T U heap) (end_nodes F T U heap) networks_stand_on (ends_meet F T U heap)
@@ -48,19 +53,19 @@ module _ (F T U : Type 0) (heap : Global) where
   added_entries = new_entries small (entry_counts small (late_nodes F T U heap)) (end_nodes F T U heap)
 
   pub rounds_are_recorded : IsRecorded small (steps ++ added_entries) (end_nodes F T U heap)
-  rounds_are_recorded = recorded_on small small_joints 4 (late_nodes F T U heap) (turned_nodes F T U heap) (end_nodes F T U heap) host_moved true late_stands (moving_net_round F T U heap) (ends_meet F T U heap) steps (late_is_recorded F T U heap)
+  rounds_are_recorded = recorded_on small small_joints 4 (late_nodes F T U heap) (turned_nodes F T U heap) (end_nodes F T U heap) true late_stands moving_turns (ends_meet F T U heap) steps (late_is_recorded F T U heap)
 
   pub rounds_are_recorded_rounds : All (λ e. e.round ≡ 4) added_entries
-  rounds_are_recorded_rounds = new_rounds small small_joints 4 (late_nodes F T U heap) (turned_nodes F T U heap) (end_nodes F T U heap) host_moved true late_stands (moving_net_round F T U heap) (ends_meet F T U heap)
+  rounds_are_recorded_rounds = new_rounds small small_joints 4 (late_nodes F T U heap) (turned_nodes F T U heap) (end_nodes F T U heap) true late_stands moving_turns (ends_meet F T U heap)
 
   earlier : All (λ e. e.round < 4) steps
   earlier = All-from_recursion (λ e. e.round < 4) steps (lit< tt, (lit< tt, (lit< tt, tt)))
 
   pub rounds_are_recorded_in_order : IsTrue (is_in_round_order (steps ++ added_entries))
-  rounds_are_recorded_in_order = ordered_on small small_joints 4 (late_nodes F T U heap) (turned_nodes F T U heap) (end_nodes F T U heap) host_moved true late_stands (moving_net_round F T U heap) (ends_meet F T U heap) steps refl earlier
+  rounds_are_recorded_in_order = ordered_on small small_joints 4 (late_nodes F T U heap) (turned_nodes F T U heap) (end_nodes F T U heap) true late_stands moving_turns (ends_meet F T U heap) steps refl earlier
 
   pub rounds_are_recorded_none : new_entries small (entry_counts small (end_nodes F T U heap)) (end_nodes F T U heap) ≡ []
-  rounds_are_recorded_none = nothing_new small small_joints 4 (end_nodes F T U heap) (end_nodes F T U heap) (end_nodes F T U heap) all_done false networks_stand_on_met (last_net_round F T U heap) (all_meet_again F T U heap) refl
+  rounds_are_recorded_none = nothing_new small small_joints 4 (end_nodes F T U heap) (end_nodes F T U heap) (end_nodes F T U heap) false networks_stand_on_met (of_round _ _ _ 4 (end_nodes F T U heap) (end_nodes F T U heap) all_done false (last_net_round F T U heap)) (all_meet_again F T U heap) refl
 
   pub rounds_are_recorded_kept : device_entries small (end_nodes F T U heap) 0 ≡ device_entries small (turned_nodes F T U heap) 0
   rounds_are_recorded_kept = entries_kept small_joints (turned_nodes F T U heap) (end_nodes F T U heap) (ends_meet F T U heap) (device_number small 0)
@@ -80,10 +85,10 @@ module _ (F T U : Type 0) (heap : Global) where
 
   -- The round in which the host moved did more at the rings, as the law says and as they count; the meeting did nothing.
   pub moving_nets_end_turned : spent small_joints (late_nodes F T U heap) ≤ spent small_joints (turned_nodes F T U heap)
-  moving_nets_end_turned = turned small small_joints (late_nodes F T U heap) (turned_nodes F T U heap) 4 host_moved late_stands true (moving_net_round F T U heap)
+  moving_nets_end_turned = turned small small_joints (late_nodes F T U heap) (turned_nodes F T U heap) 4 late_stands true moving_turns
 
   pub moving_nets_end_moved : spent small_joints (late_nodes F T U heap) < spent small_joints (turned_nodes F T U heap)
-  moving_nets_end_moved = round_adds small small_joints (late_nodes F T U heap) (turned_nodes F T U heap) 4 host_moved late_stands (moving_net_round F T U heap)
+  moving_nets_end_moved = round_adds small small_joints (late_nodes F T U heap) (turned_nodes F T U heap) 4 late_stands moving_turns
 
   host_counts : spent small_joints (turned_nodes F T U heap) ≡ suc (spent small_joints (late_nodes F T U heap))
   host_counts = refl

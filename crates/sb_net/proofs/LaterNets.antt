@@ -12,7 +12,7 @@ use Rattle.sb_member.specs.declared.joint.Joint.{Joint}
 use Rattle.sb_member.specs.declared.member.Member.{Member}
 use Rattle.sb_member.proofs.RingsJoined.{joined_on, same_or_not}
 use Rattle.sb_member.proofs.Turned.{EachKept, joined_then}
-use Rattle.sb_net.specs.Running.{IsNetRound}
+use Rattle.sb_net.specs.Running.{AreNetTurns}
 use Rattle.sb_net.specs.RingEnds.{AreLinked}
 use Rattle.sb_net.specs.Standing.{IsCovered, IsReceivedBy, IsSentBy, StandsFor, device_number, router_number}
 use Rattle.sb_net.proofs.LaterNodes.{IsLaterNode, device_node_stays, host_node_stays, node_met_port, node_met_ring, node_then, router_node_stays, same_node, turned_node}
@@ -80,9 +80,9 @@ module _ {F T U : Type 0} where
     each = λ k lt. turned_node round (node_at before k) (node_at after k) (All-get_or IsWholeMember before k no_node lt whole) (kept k lt);
   }
 
-  pub stands_turned : (network : Network) (joints : List Joint) (round : ℕ) (before after : List (Member F T U)) (last : List Turn) (moved : Bool) → StandsFor network joints before
-      → IsNetRound round before after last moved → All IsWholeMember after → StandsFor network joints after
-  stands_turned network joints round before after last moved s h whole =
+  pub stands_turned : (network : Network) (joints : List Joint) (round : ℕ) (before after : List (Member F T U)) (moved : Bool) → StandsFor network joints before
+      → AreNetTurns round before after moved → All IsWholeMember after → StandsFor network joints after
+  stands_turned network joints round before after moved s h whole =
       let kept : EachKept round before after = λ k lt. h.reached k no_node lt in
       stands_on network joints before after (later_by_turns round before after h.same kept s.joined.whole) (joined_then round joints before after h.same kept whole s.joined) s
 

@@ -14,6 +14,7 @@ pub mod Collected
 pub mod RoundsRecorded
 pub mod NumberedNodes
 pub mod RoundsDealt
+pub mod WholeRounds
 pub mod NodeKinds
 pub mod RingMoments
 pub mod RouterMoments

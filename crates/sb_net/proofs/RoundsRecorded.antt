@@ -18,7 +18,7 @@ use Rattle.sb_member.specs.Members.{IsKeptMember, IsRestedMember}
 use Rattle.sb_member.specs.declared.joint.Joint.{Joint}
 use Rattle.sb_member.specs.declared.member.Member.{Member}
 use Rattle.sb_member.specs.declared.member.Member.TheVariants.{Host, Router, Device}
-use Rattle.sb_net.specs.Running.{IsNetRound}
+use Rattle.sb_net.specs.Running.{AreNetTurns}
 use Rattle.sb_net.specs.Recorded.{IsRecorded, device_entries, member_entries, entry_counts, new_entries}
 use Rattle.sb_net.specs.Standing.{IsDeviceNode, StandsFor, device_number}
 use Rattle.sb_net.proofs.Collected.{all_collected, follows_later, is_of_device, none_collected, ordered-append, ordered_collected, own_collected}
@@ -87,8 +87,8 @@ module _ {F T U : Type 0} where
   rested_node (Device x) (Host y) r = absurd r
   rested_node (Device x) (Router y) r = absurd r
 
-  module _ (network : Network) (joints : List Joint) (round : ℕ) (before turned after : List (Member F T U)) (last : List Turn) (moved : Bool)
-      (s : StandsFor network joints before) (h : IsNetRound round before turned last moved) (met : MeetAlong joints turned after) where
+  module _ (network : Network) (joints : List Joint) (round : ℕ) (before turned after : List (Member F T U)) (moved : Bool)
+      (s : StandsFor network joints before) (h : AreNetTurns round before turned moved) (met : MeetAlong joints turned after) where
     abbrev n : ℕ
     n = length network.devices
 
@@ -153,9 +153,9 @@ module _ {F T U : Type 0} where
         omega (arith, size)
 
   -- where no node moved, a journal that has what was served has it still
-  pub recorded_still : (network : Network) (joints : List Joint) (round : ℕ) (before after : List (Member F T U)) (last : List Turn) (journal : List Entry)
-      → StandsFor network joints before → IsNetRound round before after last false → IsRecorded network journal before → IsRecorded network journal after
-  recorded_still network joints round before after last journal s h r = record {
+  pub recorded_still : (network : Network) (joints : List Joint) (round : ℕ) (before after : List (Member F T U)) (journal : List Entry)
+      → StandsFor network joints before → AreNetTurns round before after false → IsRecorded network journal before → IsRecorded network journal after
+  recorded_still network joints round before after journal s h r = record {
     entries = λ d lt. let all = s.nodes_count in let k = device_number network d in
         r.entries d lt ∙ sym (rested_node (node_at before k) (node_at after k) (h.rested refl k no_node (omega (arith, lt, all))));
     devices = r.devices;

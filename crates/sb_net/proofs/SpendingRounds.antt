@@ -18,7 +18,7 @@ use Rattle.sb_member.specs.declared.joint.Joint.{Joint}
 use Rattle.sb_member.specs.declared.member.Member.{Member}
 use Rattle.sb_member.specs.declared.member.Member.TheVariants.{Host, Router, Device}
 use Rattle.sb_member.proofs.Turned.{EachKept, each_kept}
-use Rattle.sb_net.specs.Running.{IsNetRound}
+use Rattle.sb_net.specs.Running.{AreNetTurns}
 use Rattle.sb_net.specs.Spent.{node_receipts, spent, spent_at}
 use Rattle.sb_net.specs.Standing.{StandsFor}
 use Rattle.sb_net.proofs.GrownSums.{GrewAt, NoLess, one_grew, range_grows, range_grows_more, total, total_grows}
@@ -115,11 +115,11 @@ module _ {F T U : Type 0} (network : Network) (joints : List Joint) (before afte
       y : Member F T U
       y = node_at after k
 
-module _ {F T U : Type 0} (network : Network) (joints : List Joint) (before after : List (Member F T U)) (round : ℕ) (last : List Turn) (stands : StandsFor network joints before) where
-  pub turned : (moved : Bool) → IsNetRound round before after last moved → spent joints before ≤ spent joints after
+module _ {F T U : Type 0} (network : Network) (joints : List Joint) (before after : List (Member F T U)) (round : ℕ) (stands : StandsFor network joints before) where
+  pub turned : (moved : Bool) → AreNetTurns round before after moved → spent joints before ≤ spent joints after
   turned moved went = round_grows network joints before after round stands (each_kept round before after went.reached)
 
-  pub round_adds : IsNetRound round before after last true → spent joints before < spent joints after
+  pub round_adds : AreNetTurns round before after true → spent joints before < spent joints after
   round_adds went = by_node network joints before after round stands (each_kept round before after went.reached) some.0 some.1
       (omega (arith, first, turn, rest))
     where

@@ -77,13 +77,13 @@ module _ {F T U : Type 0} (network : Network) (first start number : ℕ) (collec
   -- After a round in which no node moved the run is over.
   pub round_ends : (after : List (Member F T U)) → HasGone number before after false → All IsWholeMember after → HasRun network journal.entries joints after
   round_ends after gone whole =
-      let stands = stands_turned network joints number before after gone.last false u.stands gone.went whole in
-      let met = met_still joints before after gone.went.same (gone.went.rested refl) stands.joined u.met in
+      let stands = stands_turned network joints number before after false u.stands gone.turns whole in
+      let met = met_still joints before after gone.turns.same (gone.turns.rested refl) stands.joined u.met in
       let links : AreLinked joints after = linked joints after met in
-      let recorded = recorded_still network joints number before after gone.last journal.entries u.stands gone.went u.recorded in
+      let recorded = recorded_still network joints number before after journal.entries u.stands gone.turns u.recorded in
       let entries = has_entries network joints after journal.entries u.accepted stands links recorded u.in_order in
       let moment = at_moment network joints after journal.entries u.accepted stands links recorded in
-      let still = whole_standstill network joints before after number gone.last u.accepted stands u.met gone.went journal.entries moment in
+      let still = whole_standstill network joints before after number (gone.none_moved refl).0 u.accepted stands u.met (gone.none_moved refl).1 journal.entries moment in
       record {
         over = ended_is_over network joints journal.entries after u.accepted stands recorded entries still;
         stands = stands;
@@ -104,10 +104,10 @@ module _ {F T U : Type 0} (network : Network) (first start number : ℕ) (collec
     fresh = new_entries network (entry_counts network before) after
 
     stands_then : StandsFor network joints after
-    stands_then = stands_all_met network joints turned after (stands_turned network joints number before turned gone.last true u.stands gone.went whole) meets
+    stands_then = stands_all_met network joints turned after (stands_turned network joints number before turned true u.stands gone.turns whole) meets
 
     recorded_then : IsRecorded network (journal.entries ++ fresh) after
-    recorded_then = recorded_on network joints number before turned after gone.last true u.stands gone.went meets journal.entries u.recorded
+    recorded_then = recorded_on network joints number before turned after true u.stands gone.turns meets journal.entries u.recorded
 
     -- what is collected are the entries that are new
     pub collects : entries_from first collected after ≡ fresh
@@ -139,8 +139,8 @@ module _ {F T U : Type 0} (network : Network) (first start number : ℕ) (collec
         let same = ap (λ (list : List Entry). length list) collects in
         let room = u.room in
         let rounds = u.rounds in
-        let more = round_adds network joints before turned number gone.last u.stands gone.went in
-        let met_same = meetings_do_nothing joints turned after (stands_turned network joints number before turned gone.last true u.stands gone.went whole).joined meets in
+        let more = round_adds network joints before turned number u.stands gone.turns in
+        let met_same = meetings_do_nothing joints turned after (stands_turned network joints number before turned true u.stands gone.turns whole).joined meets in
         record {
           accepted = u.accepted;
           stands = stands_then;
@@ -148,11 +148,11 @@ module _ {F T U : Type 0} (network : Network) (first start number : ℕ) (collec
           first_device = u.first_device;
           collected_is = counts ∙ ap (λ n. counts_from n (length collected) after) u.first_device ∙ ap (λ n. counts_from (length network.hosts + length network.routers) n after) count;
           recorded = subst (λ list. IsRecorded network list after) (sym is) recorded_then;
-          in_order = subst (λ list. IsTrue (is_in_round_order list)) (sym is) (ordered_on network joints number before turned after gone.last true u.stands gone.went meets journal.entries u.in_order u.early);
+          in_order = subst (λ list. IsTrue (is_in_round_order list)) (sym is) (ordered_on network joints number before turned after true u.stands gone.turns meets journal.entries u.in_order u.early);
           early = subst (All (λ e. e.round < number + 1)) (sym is) (All-append (λ e. e.round < number + 1) journal.entries fresh
               (All-weaker (λ e. e.round < number) (λ e. e.round < number + 1) (λ e lt. omega (arith, lt)) journal.entries u.early)
               (All-weaker (λ e. e.round ≡ number) (λ e. e.round < number + 1) (λ e here. omega (arith, here)) fresh
-              (new_rounds network joints number before turned after gone.last true u.stands gone.went meets)));
+              (new_rounds network joints number before turned after true u.stands gone.turns meets)));
           rounds = omega (arith, rounds, more, met_same);
           room = omega (arith, size, same, spare, room);
           enough = u.enough;
@@ -169,7 +169,7 @@ module _ {F T U : Type 0} (network : Network) (first start number : ℕ) (collec
         let count : length collected ≡ length network.devices = ap (λ (list : List ℕ). length list) u.collected_is ∙ length-map-range_with_len (λ d. length (device_entries network before d)) 0 (length network.devices) in
         let inside : d < length network.devices = omega (arith, lt, count) in
         let had = ap (λ (list : List ℕ). slice_index_or list d 0) u.collected_is ∙ get_or-map-range_with_len (λ d. length (device_entries network before d)) 0 (length network.devices) d d 0 inside (omega arith) in
-        let more = served_more network joints number before turned after gone.last true u.stands gone.went meets d inside in
+        let more = served_more network joints number before turned after true u.stands gone.turns meets d inside in
         let same = ap (λ n. length (member_entries (node_at after (n + d)))) u.first_device in
         omega (arith, had, more, same)
 

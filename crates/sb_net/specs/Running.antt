@@ -1,6 +1,7 @@
 -- A run of a network's nodes, round by round, from its first round to its end.
-use Rattle.std.specs.Prelude.{ℕ, Bool, List, ◌≡◌, ◌≤◌, ◌<◌, ◌+◌, [], length, All}
+use Rattle.std.specs.Prelude.{ℕ, Bool, false, List, ◌≡◌, ◌≤◌, ◌<◌, ◌+◌, [], length, All}
 use Rattle.sb_drive.specs.Rounds.{IsRound}
+use Rattle.sb_drive.specs.SomeTurns.{HaveTakenTurns}
 use Rattle.sb_link.specs.declared.answers.Turn.{Turn}
 use Rattle.sb_member.specs.Members.{IsKeptMember, IsMemberTurn, IsRestedMember}
 use Rattle.sb_member.specs.declared.member.Member.{Member}
@@ -18,7 +19,12 @@ use Rattle.sb_net.specs.Standing.{StandsFor}
 -- A round of a network's nodes.
 
 module _ {F T U : Type 0} where
-  -- What a round of that number does to the nodes, with their last answers, and whether one of them moved.
+  -- What some turns of that number do to the nodes, any number of turns of each node or none, and whether one of them moved.
+  abbrev pub AreNetTurns : ℕ → List (Member F T U) → List (Member F T U) → Bool → Type 0
+  AreNetTurns number before after moved =
+      HaveTakenTurns (λ round x y. IsKeptMember round x y) (λ x y. IsRestedMember x y) (λ x round answer y. IsMemberTurn round x answer y) number before after moved
+
+  -- What a round of that number does to the nodes, in which each is turned, with their last answers, and whether one of them moved.
   abbrev pub IsNetRound : ℕ → List (Member F T U) → List (Member F T U) → List Turn → Bool → Type 0
   IsNetRound number before after last moved =
       IsRound (λ round x y. IsKeptMember round x y) (λ x y. IsRestedMember x y) (λ x round answer y. IsMemberTurn round x answer y) number before after last moved
@@ -46,7 +52,7 @@ module _ {F T U : Type 0} where
     pub stands : StandsFor network joints nodes
     pub few : All (λ e. e.round < network_moves network) journal
 
--- a round was made, with whatever last answers
+-- turns of a round were taken, and where none moved, each node was turned, with whatever last answers
 pub record HasGone {F T U : Type 0} (number : ℕ) (before after : List (Member F T U)) (moved : Bool) : Type 0 where
-  pub last : List Turn
-  pub went : IsNetRound number before after last moved
+  pub turns : AreNetTurns number before after moved
+  pub none_moved : moved ≡ false → (last : List Turn) × IsNetRound number before after last false

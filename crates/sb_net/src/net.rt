@@ -106,11 +106,11 @@ pub fn build<F: Fabric>(
 }
 
 impl<F: MeetFabric> Net<F> {
-    /// Runs the network to its end on one thread, and fills the journal. In each round each node takes one turn, in the
-    /// order that `order` and the round's number determine; then the ends of each ring meet, and what devices served goes
-    /// behind the journal, in the order of devices. The end is the first round in which no node moved: then all is done.
-    /// The network was built with one worker, and hasn't run; the journal is empty, and has room for all words of the
-    /// scripts. Takes no memory.
+    /// Runs the network to its end on one thread, and fills the journal. In each round nodes take turns, as
+    /// `sb_drive::round_in_order` says by `order` and the round's number: by 0 each takes one. Then the ends of each ring
+    /// meet, and what devices served goes behind the journal, in the order of devices. The end is the first round in which
+    /// no node moved: then all is done. The network was built with one worker, and hasn't run; the journal is empty, and
+    /// has room for all words of the scripts. Takes no memory.
     pub fn replay(&mut self, order: u32, journal: &mut Journal)
         requires one_group { length self.old.groups ≡ 1 }
         requires ready { (network : Network) × CanRun network self.old journal.old }

@@ -7,12 +7,12 @@ ghost use Rattle.sb_member.specs.Members.{IsWholeMember};
 ghost use Rattle.sb_net.specs.Running.{HasGone, HasRun, IsReady};
 
 use crate::collecting::collect;
-use sb_drive::{Group, round_serial};
+use sb_drive::{Group, round_in_order};
 use sb_link::MeetFabric;
 use sb_member::{Joint, Member, meet_rings};
 use sb_packet::Journal;
 
-// turns each node of the one group once, and says whether one moved
+// a round of the one group's nodes, and whether one moved
 fn turn_all<F: MeetFabric>(groups: &mut [Group<Member<F>>], order: u32, number: u32) -> bool
     requires one { length groups.old ≡ 1 }
     requires some { 0 < length (dealt_nodes (grouped_nodes groups.old)) }
@@ -23,11 +23,11 @@ fn turn_all<F: MeetFabric>(groups: &mut [Group<Member<F>>], order: u32, number: 
     ensures gone { HasGone number (dealt_nodes (grouped_nodes groups.old)) (dealt_nodes (grouped_nodes groups.new)) result }
 {
     let group = &mut groups[0];
-    round_serial(group, order, number)
+    round_in_order(group, order, number)
 }
 
-/// Rounds until no node moves. In each round every node takes a turn, by `round_serial`; then the ends of each ring
-/// meet, and what the devices served is put behind the journal. The devices have the numbers from `first` on. It takes
+/// Rounds until no node moves. In each round nodes take turns by `round_in_order`; then the ends of each ring meet, and
+/// what the devices served is put behind the journal. The devices have the numbers from `first` on. It takes
 /// no memory.
 pub(crate) fn run_serial<F: MeetFabric>(
     groups: &mut [Group<Member<F>>],

@@ -2,13 +2,12 @@
 
 ghost use Rattle.std.specs.Prelude.{◌≡◌, ◌≤◌, ◌<◌, ◌-◌, ◌^◌, ℕ, Bool, true, List, length};
 ghost use Rattle.sb_flow.specs.Accepted.{IsAccepted, word_count};
-ghost use Rattle.sb_link.specs.declared.answers.Turn.{Turn};
 ghost use Rattle.sb_packet.specs.Networks.{Network};
 ghost use Rattle.sb_packet.specs.declared.entry.Entry.{Entry};
 ghost use Rattle.sb_member.specs.Joints.{MeetAlong};
 ghost use Rattle.sb_member.specs.declared.joint.Joint.{Joint as AnyJoint};
 ghost use Rattle.sb_member.specs.declared.member.Member.{Member as AnyMember};
-ghost use Rattle.sb_net.specs.Running.{IsNetRound};
+ghost use Rattle.sb_net.specs.Running.{AreNetTurns};
 ghost use Rattle.sb_net.specs.Recorded.{IsRecorded};
 ghost use Rattle.sb_net.specs.RingEnds.{AreLinked};
 ghost use Rattle.sb_net.specs.Spent.{network_moves, spent};
@@ -16,16 +15,16 @@ ghost use Rattle.sb_net.specs.Standing.{StandsFor};
 
 use sb_link::Fabric;
 
-/// Rounds in which a node moves are few: a round takes nothing back of what was done at the rings of a network, a round in
-/// which a node moved adds to it, and meetings leave it as it is; it is bounded by the budgets of the rings, and that bound
+/// Rounds in which a node moves are few: turns take nothing back of what was done at the rings of a network, turns of which
+/// one moved add to it, and meetings leave it as it is; it is bounded by the budgets of the rings, and that bound
 /// is below the last number of a round of 32 bits.
 pub fn moving_nets_end<F: Fabric>()
     ensures turned { (network : Network) (joints : List AnyJoint) (before after : List (AnyMember F F.Tx F.Rx))
-        (round : ℕ) (last : List Turn) (moved : Bool)
-        → StandsFor network joints before → IsNetRound round before after last moved → spent joints before ≤ spent joints after }
+        (round : ℕ) (moved : Bool)
+        → StandsFor network joints before → AreNetTurns round before after moved → spent joints before ≤ spent joints after }
     ensures moved { (network : Network) (joints : List AnyJoint) (before after : List (AnyMember F F.Tx F.Rx))
-        (round : ℕ) (last : List Turn) (moved : Bool)
-        → StandsFor network joints before → IsNetRound round before after last moved
+        (round : ℕ) (moved : Bool)
+        → StandsFor network joints before → AreNetTurns round before after moved
         → moved ≡ true → spent joints before < spent joints after }
     ensures met { (network : Network) (joints : List AnyJoint) (before after : List (AnyMember F F.Tx F.Rx))
         → StandsFor network joints before → MeetAlong joints before after → spent joints after ≡ spent joints before }

@@ -17,7 +17,7 @@ pub meet_rings-requires-clause-joined : goal.meet_rings-requires-clause-joined
 meet_rings-requires-clause-joined g c κs within =
     let u = c.loop-number.invariant.1 c.requires.ready.0 c.requires.ready.1 in
     let gone = gone_by c.if-not-turn_all.false c.turn_all.ensures.gone in
-    (stands_turned _ _ _ _ _ gone.last true u.stands gone.went c.turn_all.ensures.whole).joined
+    (stands_turned _ _ _ _ _ true u.stands gone.turns c.turn_all.ensures.whole).joined
 
 pub collect-requires-clause-few : goal.collect-requires-clause-few
 collect-requires-clause-few g c κs within =

@@ -2,6 +2,7 @@
 use Rattle.sb_member.specs.Members.{IsWholeMember}
 use Rattle.sb_net.proofs.NumberedNodes.{whole_groups, whole_nodes}
 use Rattle.sb_net.proofs.RoundsDealt.{answers, dealt_then, round_of_all}
+use Rattle.sb_net.proofs.WholeRounds.{gone_all}
 use Rattle.sb_net.proofs.side_by_side.turn_groups.Goals as goal
 
 pub round-requires-clause-whole : goal.round-requires-clause-whole
@@ -16,7 +17,6 @@ returns-clause-whole g c =
     whole_nodes c.round.new.groups dealt IsWholeMember c.round.ensures.whole
 
 pub returns-clause-gone : goal.returns-clause-gone
-returns-clause-gone g c = record {
-  last = answers _ _ _ c.args.number c.args.groups.now c.round.new.groups c.round.auto.groups c.requires.dealt c.round.ensures.rounds;
-  went = round_of_all _ _ _ c.args.number c.args.groups.now c.round.new.groups c.round.auto.groups c.requires.dealt c.round.ensures.rounds c.round.result c.round.ensures.answer c.round.ensures.some_moved;
-}
+returns-clause-gone g c = gone_all _ _
+    (answers _ _ _ c.args.number c.args.groups.now c.round.new.groups c.round.auto.groups c.requires.dealt c.round.ensures.rounds)
+    (round_of_all _ _ _ c.args.number c.args.groups.now c.round.new.groups c.round.auto.groups c.requires.dealt c.round.ensures.rounds c.round.result c.round.ensures.answer c.round.ensures.some_moved)

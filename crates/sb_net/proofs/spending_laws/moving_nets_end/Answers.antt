@@ -1,17 +1,17 @@
 -- Rounds in which a node moves are few.
 use Rattle.std.proofs.Common.{subst}
-use Rattle.sb_net.specs.Running.{IsNetRound}
+use Rattle.sb_net.specs.Running.{AreNetTurns}
 use Rattle.sb_net.proofs.SpendingBounds.{moves_are_small, spent_within}
 use Rattle.sb_net.proofs.SpendingMeetings.{meetings_do_nothing}
 use Rattle.sb_net.proofs.SpendingRounds.{round_adds, turned}
 use Rattle.sb_net.proofs.spending_laws.moving_nets_end.Goals as goal
 
 pub returns-clause-turned : goal.returns-clause-turned
-returns-clause-turned g c = λ network joints before after round last moved stands went. turned network joints before after round last stands moved went
+returns-clause-turned g c = λ network joints before after round moved stands went. turned network joints before after round stands moved went
 
 pub returns-clause-moved : goal.returns-clause-moved
-returns-clause-moved g c = λ network joints before after round last moved stands went is.
-    round_adds network joints before after round last stands (subst (λ b. IsNetRound round before after last b) is went)
+returns-clause-moved g c = λ network joints before after round moved stands went is.
+    round_adds network joints before after round stands (subst (λ b. AreNetTurns round before after b) is went)
 
 pub returns-clause-met : goal.returns-clause-met
 returns-clause-met g c = λ network joints before after stands met. meetings_do_nothing joints before after stands.joined met

@@ -4,16 +4,16 @@ use Rattle.sb_net.proofs.RoundsRecorded.{counts_kept, entries_kept, new_rounds, 
 use Rattle.sb_net.proofs.standing_laws.rounds_are_recorded.Goals as goal
 
 pub returns-clause-recorded : goal.returns-clause-recorded
-returns-clause-recorded g c = λ network joints round before turned after last moved journal stands turns meets recorded. recorded_on network joints round before turned after last moved stands turns meets journal recorded
+returns-clause-recorded g c = λ network joints round before turned after moved journal stands turns meets recorded. recorded_on network joints round before turned after moved stands turns meets journal recorded
 
 pub returns-clause-rounds : goal.returns-clause-rounds
-returns-clause-rounds g c = λ network joints round before turned after last moved stands turns meets. new_rounds network joints round before turned after last moved stands turns meets
+returns-clause-rounds g c = λ network joints round before turned after moved stands turns meets. new_rounds network joints round before turned after moved stands turns meets
 
 pub returns-clause-in_order : goal.returns-clause-in_order
-returns-clause-in_order g c = λ network joints round before turned after last moved journal stands turns meets ordered early. ordered_on network joints round before turned after last moved stands turns meets journal ordered early
+returns-clause-in_order g c = λ network joints round before turned after moved journal stands turns meets ordered early. ordered_on network joints round before turned after moved stands turns meets journal ordered early
 
 pub returns-clause-none : goal.returns-clause-none
-returns-clause-none g c = λ network joints round before turned after last moved stands turns meets still. nothing_new network joints round before turned after last moved stands turns meets still
+returns-clause-none g c = λ network joints round before turned after moved stands turns meets still. nothing_new network joints round before turned after moved stands turns meets still
 
 pub returns-clause-kept : goal.returns-clause-kept
 returns-clause-kept g c = λ network joints turned after d meets. entries_kept joints turned after meets (device_number network d)
