@@ -28,9 +28,14 @@ def form_of(verb: str) -> str:
     return f"{verb} ADDR SIZE {'COUNT' if verb == 'rd' else 'BODY'}"
 
 
+def same_name(one: str, other: str) -> bool:
+    """Whether two names differ in case and `_` alone."""
+    return one.replace("_", "").lower() == other.replace("_", "").lower()
+
+
 def close_to(name: str, names: list[str]) -> str:
     """The one of the names that was most likely meant, or an empty text."""
-    same = [known for known in names if known.replace("_", "").lower() == name.replace("_", "").lower()]
+    same = [known for known in names if same_name(known, name)]
     return next(iter(same or difflib.get_close_matches(name, names, 1, 0.5)), "")
 
 

@@ -8,7 +8,7 @@ from typing import Any, NoReturn
 from .faults import BundleFault, Finding, Path, shown, spelt
 from .json_text import OddNumber, json_value
 from .limits import DIGITS
-from .line_hints import close_to
+from .line_hints import close_to, same_name
 from .nodes import Device, Host, Link, Router
 from .scripts import LineFault, number_of
 
@@ -77,8 +77,12 @@ class _Fields:
     def miss(self, name: str) -> NoReturn:
         """Raises BundleFault for a field that isn't there."""
         strange = [key for key in self.left if key not in self.known and close_to(key, list(self.known)) == name]
-        hints = [f"{spelt(self.path) if self.path else 'the bundle'} has a field {shown(key)}: did you mean `{name}`?" for key in strange]
+        hints = [f"{self.owner()} has a field {shown(key)}: did you mean `{name}`?" for key in strange]
         _refuse(self.place(name), f"{spelt(self.place(name))} is missing", tuple(hints), self.place(strange[0]) if strange else self.path, bool(strange))
+
+    def owner(self) -> str:
+        """The object, as it is called in a hint."""
+        return spelt(self.path) if self.path else "the bundle"
 
     def parts(self, name: str) -> Iterator[tuple[object, Path]]:
         """The items of a list, each with its path."""
@@ -88,9 +92,9 @@ class _Fields:
         """Raises BundleFault where a field was not taken."""
         for name in sorted(self.left, key=str.encode):
             meant = close_to(name, list(self.known))
-            known = ", ".join(self.known)
-            hint = f"the field is `{meant}`" if meant else f"the fields of {spelt(self.path[:1]) if self.path else 'a bundle'} are {known}"
-            _refuse(self.place(name), f"{spelt(self.place(name))} is no field of a bundle", (hint,), of_key=True)
+            hints = (f"the field is `{meant}`" if same_name(meant, name) else f"did you mean `{meant}`?",) if meant else ()
+            known = f"{self.owner()} can have {', '.join(self.known)}"
+            _refuse(self.place(name), f"{spelt(self.place(name))} is no field of a bundle", (*hints, known), of_key=True)
 
 
 def _text(value: object, path: Path) -> str:
