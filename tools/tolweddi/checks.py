@@ -122,9 +122,11 @@ def _names_of_routes(known: Known, at: int) -> Iterator[Finding]:
     for name, way in sorted(router.routes.items(), key=lambda route: route[0].encode("utf-8", "surrogatepass")):
         path: Path = ("routers", at, "routes", name)
         if name not in known.devices:
-            yield _unknown(path, f"router {router.name}", f"the route to {name} by {way}: no device is called {name}", name, list(known.devices), True)
+            what = f"the route to {name} by {way}: no device is called {name}"
+            yield _unknown(path, f"router {router.name}", what, name, list(known.devices), of_key=True)
         elif way not in known.links:
-            yield _unknown(path, f"router {router.name}", f"the route to {name} by {way}: no link is called {way}", way, list(known.links))
+            what = f"the route to {name} by {way}: no link is called {way}"
+            yield _unknown(path, f"router {router.name}", what, way, list(known.links))
 
 
 def _names_of_ends(known: Known, at: int) -> Iterator[Finding]:
@@ -167,7 +169,8 @@ def _overlaps(known: Known) -> Iterator[Finding]:
             if device.base < other.end and other.base < device.end:
                 has = (f"{one.name} has {one.base:#x} to {one.end - 1:#x}" for one in (device, other))
                 hint = f'{", ".join(has)}; from "{other.end:#x}" on it is behind {other.name}'
-                yield Finding(f"overlap {at} {number}", f"device {device.name}", f"it overlaps device {other.name}", (hint,), ("devices", at, "base"))
+                what = f"it overlaps device {other.name}"
+                yield Finding(f"overlap {at} {number}", f"device {device.name}", what, (hint,), ("devices", at, "base"))
 
 
 def _images(known: Known) -> Iterator[Finding]:
@@ -208,16 +211,19 @@ def _ends(known: Known) -> Iterator[Finding]:
 def _end(known: Known, link: Link, source: str, target: str) -> tuple[str, str] | None:
     """Why a link can't join these, and what would be right."""
     if source == "device" or target == "host" or source == "host" and target == "device":
-        what = f"it leads from {source} {link.source} to {target} {link.target}, and not from a host or router to a router or from a router to a device"
-        back = source == "device" or target == "host"
-        return what, "links lead in the direction of requests: answers come back over the same" if back else "a router stands between a host and a device"
+        what = f"it leads from {source} {link.source} to {target} {link.target}, and not from a host or router to a router or on to a device"
+        back = "links lead in the direction of requests: answers come back over the same"
+        return what, back if source == "device" or target == "host" else "a router stands between a host and a device"
+    is_wire = link.name == known.net.wire
     if source != "router" or target != "router":
-        return ("the wire joins two routers, and this one doesn't", "name a link between routers of both sides") if link.name == known.net.wire else None
-    sides = tuple(known.net.routers[known.ranks[name]].side for name in (link.source, link.target))
-    if link.name == known.net.wire and sides != (0, 1):
-        return f"the wire leads from a router of side 0 to one of side 1, and this one from side {sides[0]} to side {sides[1]}", "`side` of a router is 0 where it is left out"
-    if link.name != known.net.wire and sides[0] != sides[1]:
-        return "it joins routers of both sides, and isn't the wire", f'one link leads to the other side, and the bundle names it: "wire": "{link.name}"'
+        return ("the wire joins two routers, and this one doesn't", "name a link between routers of both sides") if is_wire else None
+    first, last = (known.net.routers[known.ranks[name]].side for name in (link.source, link.target))
+    if is_wire and (first, last) != (0, 1):
+        what = f"the wire leads from a router of side 0 to one of side 1, and this one from side {first} to side {last}"
+        return what, "`side` of a router is 0 where it is left out"
+    if not is_wire and first != last:
+        hint = f'one link leads to the other side, and the bundle names it: "wire": "{link.name}"'
+        return "it joins routers of both sides, and isn't the wire", hint
     return None
 
 
@@ -226,7 +232,8 @@ def _second(link: Link, source: str, target: str, left: dict[str, str], reached:
     if source == "host" and link.source in left:
         return f"an earlier link, {left[link.source]}, leaves host {link.source} too", "a host has just one link; a router can have several"
     if target == "device" and link.target in reached:
-        return f"an earlier link, {reached[link.target]}, leads to device {link.target} too", "just one link leads to a device; routers before it can have several"
+        what = f"an earlier link, {reached[link.target]}, leads to device {link.target} too"
+        return what, "just one link leads to a device; routers before it can have several"
     return None
 
 
@@ -269,7 +276,8 @@ def _lines(found: list[tuple[int, Access]], host_at: int, host: Host) -> Iterato
         try:
             access = access_of(line)
         except LineFault as fault:
-            yield line_finding(f"script {host_at} {at + 1} {fault}", f"host {host.name}, line {at + 1} of the script", line, str(fault), path=("hosts", host_at, "script", at))
+            subject, path = f"host {host.name}, line {at + 1} of the script", ("hosts", host_at, "script", at)
+            yield line_finding(f"script {host_at} {at + 1} {fault}", subject, line, str(fault), path)
         else:
             found += [(at, access)] if access else []
 
@@ -320,7 +328,8 @@ def _way_hints(known: Known, router: Router, device: Device) -> Iterator[str]:
             near.add(other.name)
     ways = [link for link in known.net.links if link.source == router.name and link.target in near]
     for way in ways[:3]:
-        yield f'"{device.name}": "{way.name}" leads to {way.target}' + ("" if way.target == device.name else f", from where {device.name} can be reached")
+        further = "" if way.target == device.name else f", from where {device.name} can be reached"
+        yield f'"{device.name}": "{way.name}" leads to {way.target}{further}'
     if not ways:
         yield f"no link of {router.name} leads there: add one"
 

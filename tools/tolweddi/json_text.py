@@ -140,7 +140,8 @@ def _hints_of_error(text: str, at: int, what: str) -> Iterator[str]:
     if what.startswith("Expecting ',' delimiter"):
         yield "a comma is missing before this place" if at < len(text) else "the text ends too early: a bracket isn't closed"
     elif what.startswith("Extra data"):
-        yield "a bundle is one object, and nothing stands behind it" if text.lstrip().startswith("{") else "a bundle is one JSON object, and begins with `{`"
+        is_object = text.lstrip().startswith("{")
+        yield "a bundle is one object, and nothing stands behind it" if is_object else "a bundle is one JSON object, and begins with `{`"
     elif over_blanks(text, at) >= len(text):
         yield "the text ends too early: something isn't closed"
     elif what.startswith("Expecting property name") and word:

@@ -25,4 +25,4 @@ READ, WRITE, POSTED, ATOMIC = 1, 3, 5, 9
 NAME = re.compile(r"[a-z][a-z0-9_]{0,15}")
 NAME_RULE = "a name has 1 to 16 of a to z, 0 to 9 and _, a letter first"
 NUMERAL = re.compile(r"[0-9]{1,20}|0x[0-9a-fA-F]{1,16}")
-DIGITS = re.compile(r"([0-9a-fA-F]{2})*")
+DIGITS = re.compile(r"[0-9a-fA-F]*")

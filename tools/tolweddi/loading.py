@@ -78,7 +78,8 @@ class _Fields:
         """Raises BundleFault for a field that isn't there."""
         strange = [key for key in self.left if key not in self.known and close_to(key, list(self.known)) == name]
         hints = [f"{self.owner()} has a field {shown(key)}: did you mean `{name}`?" for key in strange]
-        _refuse(self.place(name), f"{spelt(self.place(name))} is missing", tuple(hints), self.place(strange[0]) if strange else self.path, bool(strange))
+        place = self.place(strange[0]) if strange else self.path
+        _refuse(self.place(name), f"{spelt(self.place(name))} is missing", tuple(hints), place, bool(strange))
 
     def owner(self) -> str:
         """The object, as it is called in a hint."""
@@ -144,7 +145,7 @@ def _base(text: str, path: Path) -> int:
 
 def _image(text: str, path: Path) -> bytes:
     """The bytes that an image spells."""
-    if DIGITS.fullmatch(text):
+    if not len(text) % 2 and DIGITS.fullmatch(text):
         return bytes.fromhex(text)
     strange = re.search("[^0-9a-fA-F]", text)
     if re.match("0[xX]", text):

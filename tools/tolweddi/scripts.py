@@ -85,7 +85,7 @@ def is_transaction(line: str) -> bool:
 
 def _body_of(word: str) -> bytes:
     """The bytes of a BODY; raises LineFault."""
-    if not DIGITS.fullmatch(word):
+    if len(word) % 2 or not DIGITS.fullmatch(word):
         raise LineFault("data")
     return bytes.fromhex(word)
 
